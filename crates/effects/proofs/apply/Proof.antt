@@ -1,0 +1,138 @@
+-- `effects::apply` meets its contract. Assumes nothing.
+use Rattle.effects.proofs.Laws.{apply-cases, apply-fork}
+use borrow.Author.Needs.{needs}
+use Rattle.effects.proofs.apply.Statement.{statement}
+use Rattle.effects.proofs.apply.Tie as tie
+
+enum-told : tie.Need-enum-told
+enum-told c = search needs
+
+enum-known-e : tie.Need-enum-known-e
+enum-known-e c = search needs
+
+set-mark-requires : tie.Need-set-mark-requires
+set-mark-requires c κs = search needs
+
+enum-known-e-2 : tie.Need-enum-known-e-2
+enum-known-e-2 c = search needs
+
+set-stage-requires : tie.Need-set-stage-requires
+set-stage-requires c κs = search needs
+
+enum-known-e-3 : tie.Need-enum-known-e-3
+enum-known-e-3 c = search needs
+
+set-valid-requires : tie.Need-set-valid-requires
+set-valid-requires c κs = search needs
+
+enum-known-e-4 : tie.Need-enum-known-e-4
+enum-known-e-4 c = search needs
+
+hang-at-requires : tie.Need-hang-at-requires
+hang-at-requires c κs = search needs
+
+enum-known-e-5 : tie.Need-enum-known-e-5
+enum-known-e-5 c = search needs
+
+put-base-requires : tie.Need-put-base-requires
+put-base-requires c κs = search needs
+
+cast-used : tie.Need-cast-used
+cast-used c = search needs
+
+add-used : tie.Need-add-used
+add-used c = search needs
+
+hang-at-requires-2 : tie.Need-hang-at-requires-2
+hang-at-requires-2 c κs = search needs
+
+enum-known-e-6 : tie.Need-enum-known-e-6
+enum-known-e-6 c = search needs
+
+put-fork-requires : tie.Need-put-fork-requires
+put-fork-requires c κs = search needs
+
+cast-used-2 : tie.Need-cast-used-2
+cast-used-2 c = search needs
+
+add-used-2 : tie.Need-add-used-2
+add-used-2 c = search needs
+
+hang-at-requires-3 : tie.Need-hang-at-requires-3
+hang-at-requires-3 c κs = search needs
+
+enum-known-e-7 : tie.Need-enum-known-e-7
+enum-known-e-7 c = search needs
+
+put-base-requires-2 : tie.Need-put-base-requires-2
+put-base-requires-2 c κs = search needs
+
+commit-requires : tie.Need-commit-requires
+commit-requires c κs = search needs
+
+cast-t67 : tie.Need-cast-t67
+cast-t67 c = search needs
+
+add-t68 : tie.Need-add-t68
+add-t68 c = search needs
+
+returns : tie.Need-returns
+returns c = search apply-cases
+
+returns-2 : tie.Need-returns-2
+returns-2 c = search apply-cases
+
+returns-3 : tie.Need-returns-3
+returns-3 c = search apply-cases
+
+returns-4 : tie.Need-returns-4
+returns-4 c = search apply-cases
+
+returns-5 : tie.Need-returns-5
+returns-5 c = search apply-cases
+
+returns-6 : tie.Need-returns-6
+returns-6 c = search apply-cases
+
+returns-7 : tie.Need-returns-7
+returns-7 c = apply-fork _ _ _ _ _ _ _ _ _ _ (c .before .before .before .before .before .before .before .e6 .given .1) (c .before .before .before .put-fork .ensures) (c .hang-at3 .ensures)
+
+returns-8 : tie.Need-returns-8
+returns-8 c = search apply-cases
+
+pub apply-spec : {M : Type 1} → statement M
+apply-spec =
+    tie.close
+    (tie.spec
+    enum-told
+    enum-known-e
+    set-mark-requires
+    enum-known-e-2
+    set-stage-requires
+    enum-known-e-3
+    set-valid-requires
+    enum-known-e-4
+    hang-at-requires
+    enum-known-e-5
+    put-base-requires
+    cast-used
+    add-used
+    hang-at-requires-2
+    enum-known-e-6
+    put-fork-requires
+    cast-used-2
+    add-used-2
+    hang-at-requires-3
+    enum-known-e-7
+    put-base-requires-2
+    commit-requires
+    cast-t67
+    add-t68
+    returns
+    returns-2
+    returns-3
+    returns-4
+    returns-5
+    returns-6
+    returns-7
+    returns-8)

@@ -1,0 +1,249 @@
+-- The cases of places 20 to 38, each with the code's own facts as premises. Assumes nothing.
+use mathlib.Core.Path.{_≡_, refl, _∙_}
+use mathlib.Core.Bool.{Bool, true, false, not}
+use Prim.Native.Nat.{ℕ, _+_, _<_, _≤_}
+use native.Mathlib.Omega.{arith}
+use lib.Dec.{leb}
+use borrow.Author.Tests.{eq-eqb, ne-eqb, le-leb, lt-leb}
+use Rattle.container.specs.Choice.{ite}
+use Rattle.container.specs.Container.{union}
+use Rattle.definitions.specs.declared.Link.{Link}
+use Rattle.definitions.specs.declared.Link.the-variants.{Nil, To}
+use Rattle.definitions.specs.declared.Kind.the-variants.{Main}
+use Rattle.definitions.specs.declared.Stage.the-variants.{Aborted}
+use Rattle.definitions.specs.declared.Node.{Node}
+use Rattle.definitions.specs.declared.Spot.the-variants.{Under}
+use Rattle.definitions.specs.declared.Thread.{Thread}
+use Rattle.definitions.specs.declared.Effect.{Effect}
+use Rattle.definitions.specs.declared.Effect.the-variants.{Quiet, Mark, Settle, Base, Commit}
+use Rattle.definitions.specs.declared.Turn.{Turn}
+use Rattle.definitions.specs.declared.Turn.the-variants.{Moves, Finishes, Full}
+use Rattle.definitions.specs.Nodes.{Nodes, kidOf, childFor, isRoute, isPreparing, replaceable}
+use Rattle.definitions.specs.Bench.{store}
+use Rattle.definitions.specs.Places.{p36, p37, placeOf, to, toRoute, toSide, toFound, toMain, toGrandparent, toOther}
+use Rattle.definitions.specs.Steps.{beside, hooked, isNil, marking, topped, climbed, grandMarking, backOut, unionParent, closed, unmark, step}
+
+-- ---- room for one number more, or none
+enough : (used : ℕ) → used ≤ 255 → leb (used + 1) 256 ≡ true
+enough used h = le-leb (used + 1) 256 (omega arith)
+
+short : (used : ℕ) → 255 < used → leb (used + 1) 256 ≡ false
+short used h = lt-leb (used + 1) 256 (omega arith)
+
+-- ---- a place that is none of those before it
+pub past : {p : ℕ} (k : ℕ) → k ≤ p → (p ≡ k → ⊥) → k + 1 ≤ p
+past k l f = omega arith
+
+pub last : {p k : ℕ} → k ≤ p → p < k + 1 → p ≡ k
+last l m = omega arith
+
+-- ---- 22, 23: b is the node read, k whether it is a route
+module _ (n : Nodes) (th : Thread) (x : ℕ) {b : Node} {k : Bool} {next : Thread} where
+  pub beside-route : b ≡ n x → k ≡ isRoute (b .kind) → k ≡ true → next ≡ toRoute 23 x th → Moves next Quiet ≡ beside n th x
+  unfolding beside ite
+  beside-route e i t q = rw (q, ← e, ← i, t)
+
+  pub beside-base : b ≡ n x → k ≡ isRoute (b .kind) → k ≡ false → next ≡ toFound 24 x th → Moves next Quiet ≡ beside n th x
+  unfolding beside ite
+  beside-base e i t q = rw (q, ← e, ← i, t)
+
+pub ruleset beside-cases = (beside-route, beside-base)
+
+-- ---- 25: p is the parent, x its child on the base's side, b the base
+module _ (n : Nodes) (used : ℕ) (th : Thread) {p : Node} {x : ℕ} where
+  pub hook-full : p ≡ n (th .parent) → x ≡ kidOf (th .left) p → x ≡ th .base → 255 < used → Full ≡ hooked n used th
+  unfolding ite
+  hook-full e i h l = rw (← e, ← i, eq-eqb _ _ h, short used l)
+
+  pub hook-made : {b : Node} {next : Thread} → p ≡ n (th .parent) → x ≡ kidOf (th .left) p → x ≡ th .base → used ≤ 255 → b ≡ n (th .base) → next ≡ toMain 26 used true th → Moves next (Base (Under (th .parent) (th .left)) used Main (b .parent) (b .container) 0) ≡ hooked n used th
+  unfolding ite
+  hook-made e i h l f q = rw (q, f, ← e, ← i, eq-eqb _ _ h, enough used l)
+
+  pub hook-lost : p ≡ n (th .parent) → x ≡ kidOf (th .left) p → (x ≡ th .base → ⊥) → Finishes Quiet false ≡ hooked n used th
+  unfolding ite
+  hook-lost e i h = rw (← e, ← i, ne-eqb _ _ h)
+
+pub ruleset hook-cases = (hook-full, hook-made, hook-lost)
+
+-- ---- 30, 33: b is the route, k whether its mark is none
+module _ (n : Nodes) (r p q : ℕ) (th : Thread) {b : Node} {k : Bool} {next : Thread} where
+  pub mark-set : b ≡ n r → k ≡ isNil (b .mark) → k ≡ true → next ≡ to p th → Moves next (Mark r (To (th .main))) ≡ marking n r p q th
+  unfolding ite
+  mark-set e i t g = rw (g, ← e, ← i, t)
+
+  pub mark-held : b ≡ n r → k ≡ isNil (b .mark) → k ≡ false → next ≡ to q th → Moves next Quiet ≡ marking n r p q th
+  unfolding ite
+  mark-held e i t g = rw (g, ← e, ← i, t)
+
+pub ruleset mark-cases = (mark-set, mark-held)
+
+-- ---- 31: b is the root
+module _ (n : Nodes) (root : ℕ) (th : Thread) {next : Thread} where
+  pub top-parent : root ≡ th .parent → next ≡ toGrandparent 34 Nil th → Moves next Quiet ≡ topped n root th
+  unfolding ite
+  top-parent h q = rw (q, eq-eqb _ _ h)
+
+  pub top-route : {b : Node} {k : Bool} → (root ≡ th .parent → ⊥) → b ≡ n root → k ≡ isRoute (b .kind) → k ≡ true → next ≡ toRoute 32 root th → Moves next Quiet ≡ topped n root th
+  unfolding ite
+  top-route h e i t q = rw (q, ne-eqb _ _ h, ← e, ← i, t)
+
+  pub top-base : {b : Node} {k : Bool} → (root ≡ th .parent → ⊥) → b ≡ n root → k ≡ isRoute (b .kind) → k ≡ false → next ≡ to 37 th → Moves next Quiet ≡ topped n root th
+  unfolding ite
+  top-base h e i t q = rw (q, ne-eqb _ _ h, ← e, ← i, t)
+
+pub ruleset top-cases = (top-parent, top-route, top-base)
+
+-- ---- 32: b is the child x
+module _ (n : Nodes) (x : ℕ) (th : Thread) {next : Thread} where
+  pub climb-parent : x ≡ th .parent → next ≡ toGrandparent 33 (To (th .route)) th → Moves next Quiet ≡ climbed n x th
+  unfolding ite
+  climb-parent h q = rw (q, eq-eqb _ _ h)
+
+  pub climb-route : {b : Node} {k : Bool} → (x ≡ th .parent → ⊥) → b ≡ n x → k ≡ isRoute (b .kind) → k ≡ true → next ≡ toRoute 32 x th → Moves next Quiet ≡ climbed n x th
+  unfolding ite
+  climb-route h e i t q = rw (q, ne-eqb _ _ h, ← e, ← i, t)
+
+  pub climb-base : {b : Node} {k : Bool} → (x ≡ th .parent → ⊥) → b ≡ n x → k ≡ isRoute (b .kind) → k ≡ false → next ≡ to 37 th → Moves next Quiet ≡ climbed n x th
+  unfolding ite
+  climb-base h e i t q = rw (q, ne-eqb _ _ h, ← e, ← i, t)
+
+pub ruleset climb-cases = (climb-parent, climb-route, climb-base)
+
+-- ---- 33
+module _ (n : Nodes) (th : Thread) where
+  pub grand-none : {next : Thread} → th .grandparent ≡ Nil → next ≡ to 37 th → Moves next Quiet ≡ grandMarking (th .grandparent) n th
+  grand-none h q = rw (q, h)
+
+  pub grand-mark : (g : ℕ) {r : Turn} → th .grandparent ≡ To g → r ≡ marking n g 34 37 th → r ≡ grandMarking (th .grandparent) n th
+  grand-mark g h q = q ∙ rw h
+
+pub ruleset grand-cases = (grand-none, grand-mark)
+
+-- ---- 35: x is the neighbour
+module _ (n : Nodes) (th : Thread) where
+  pub union-grand : th .other ≡ th .neighbour → th .grandparent ≡ unionParent n th
+  unfolding ite
+  union-grand h = rw (eq-eqb _ _ h)
+
+  pub union-kept : {x : Node} → (th .other ≡ th .neighbour → ⊥) → x ≡ n (th .neighbour) → x .parent ≡ unionParent n th
+  unfolding ite
+  union-kept h e = rw (e, ne-eqb _ _ h)
+
+pub ruleset union-cases = (union-grand, union-kept)
+
+back-alone : (l : Link) → isNil l ≡ true → backOut l ≡ p37
+back-alone Nil h = refl
+back-alone (To g) h = cc
+
+back-under : (l : Link) → isNil l ≡ false → backOut l ≡ p36
+back-under Nil h = cc
+back-under (To g) h = refl
+
+-- m is the main, p the union node's parent and c its container
+module _ (n : Nodes) (used : ℕ) (th : Thread) {m : Node} {k : Bool} where
+  pub close-full : m ≡ n (th .main) → k ≡ isPreparing (m .stage) → k ≡ true → 255 < used → Full ≡ closed n used th
+  unfolding ite
+  close-full e i t l = rw (← e, ← i, t, short used l)
+
+  pub close-made : {x : Node} {p : Link} {c : ℕ} {next : Thread} → m ≡ n (th .main) → k ≡ isPreparing (m .stage) → k ≡ true → used ≤ 255 → x ≡ n (th .neighbour) → p ≡ unionParent n th → c ≡ union (m .container) (x .container) → next ≡ to 40 th → Moves next (Commit (th .main) used p c (th .neighbour) (th .grandparent) (th .other)) ≡ closed n used th
+  unfolding ite
+  close-made e i t l f g u q = rw (q, g, u, f, ← e, ← i, t, enough used l)
+
+  pub close-alone : {o : Bool} {next : Thread} → m ≡ n (th .main) → k ≡ isPreparing (m .stage) → k ≡ false → o ≡ isNil (th .grandparent) → o ≡ true → next ≡ to 37 th → Moves next Quiet ≡ closed n used th
+  unfolding ite
+  close-alone e i t j s q = let a : isNil (th .grandparent) ≡ true = cc in rw (q, ← e, ← i, t, back-alone _ a)
+
+  pub close-under : {o : Bool} {next : Thread} → m ≡ n (th .main) → k ≡ isPreparing (m .stage) → k ≡ false → o ≡ isNil (th .grandparent) → o ≡ false → next ≡ to 36 th → Moves next Quiet ≡ closed n used th
+  unfolding ite
+  close-under e i t j s q = let a : isNil (th .grandparent) ≡ false = cc in rw (q, ← e, ← i, t, back-under _ a)
+
+pub ruleset close-cases = (close-full, close-made, close-alone, close-under)
+
+-- ---- 36
+pub unmark-one : (l : Link) (r : ℕ) → l ≡ To r → Mark r Nil ≡ unmark l
+unmark-one l r h = rw h
+
+pub ruleset unmark-cases = (unmark-one)
+
+-- ---- the places 20 to 25: p is the parent, x the child read
+module _ (n : Nodes) (root used : ℕ) (th : Thread) where
+  pub at-20-left : {p : Node} {next : Thread} → th .place ≡ 20 → p ≡ n (th .parent) → p .left ≡ th .base → next ≡ toSide 22 true th → Moves next Quiet ≡ step (placeOf (th .place)) (store n root used) th
+  unfolding step ite
+  at-20-left h e k q = rw (q, h, ← e, eq-eqb _ _ k)
+
+  pub at-20-other : {p : Node} {next : Thread} → th .place ≡ 20 → p ≡ n (th .parent) → (p .left ≡ th .base → ⊥) → next ≡ to 21 th → Moves next Quiet ≡ step (placeOf (th .place)) (store n root used) th
+  unfolding step ite
+  at-20-other h e k q = rw (q, h, ← e, ne-eqb _ _ k)
+
+  pub at-21-right : {p : Node} {next : Thread} → th .place ≡ 21 → p ≡ n (th .parent) → p .right ≡ th .base → next ≡ toSide 22 false th → Moves next Quiet ≡ step (placeOf (th .place)) (store n root used) th
+  unfolding step ite
+  at-21-right h e k q = rw (q, h, ← e, eq-eqb _ _ k)
+
+  pub at-21-gone : {p : Node} → th .place ≡ 21 → p ≡ n (th .parent) → (p .right ≡ th .base → ⊥) → Finishes Quiet false ≡ step (placeOf (th .place)) (store n root used) th
+  unfolding step ite
+  at-21-gone h e k = rw (h, ← e, ne-eqb _ _ k)
+
+  pub at-22 : {p : Node} {x : ℕ} {r : Turn} → th .place ≡ 22 → p ≡ n (th .parent) → x ≡ kidOf (not (th .left)) p → r ≡ beside n th x → r ≡ step (placeOf (th .place)) (store n root used) th
+  unfolding step
+  at-22 h e i q = q ∙ rw (h, ← e, i)
+
+  pub at-23 : {p : Node} {x : ℕ} {r : Turn} → th .place ≡ 23 → p ≡ n (th .route) → x ≡ kidOf (th .left) p → r ≡ beside n th x → r ≡ step (placeOf (th .place)) (store n root used) th
+  unfolding step
+  at-23 h e i q = q ∙ rw (h, ← e, i)
+
+  pub at-24-free : {k : Bool} {next : Thread} → th .place ≡ 24 → k ≡ replaceable n (th .found) → k ≡ true → next ≡ to 25 th → Moves next Quiet ≡ step (placeOf (th .place)) (store n root used) th
+  unfolding step ite
+  at-24-free h i t q = rw (q, h, ← i, t)
+
+  pub at-24-busy : {k : Bool} → th .place ≡ 24 → k ≡ replaceable n (th .found) → k ≡ false → Finishes Quiet false ≡ step (placeOf (th .place)) (store n root used) th
+  unfolding step ite
+  at-24-busy h i t = rw (h, ← i, t)
+
+  pub at-25 : {r : Turn} → 20 ≤ th .place → th .place < 26 → (th .place ≡ 20 → ⊥) → (th .place ≡ 21 → ⊥) → (th .place ≡ 22 → ⊥) → (th .place ≡ 23 → ⊥) → (th .place ≡ 24 → ⊥) → r ≡ hooked n used th → r ≡ step (placeOf (th .place)) (store n root used) th
+  unfolding step
+  at-25 l m f g h i j q = q ∙ rw (last (past 24 (past 23 (past 22 (past 21 (past 20 l f) g) h) i) j) m)
+
+  -- ---- 30 to 38
+  pub at-30 : {r : Turn} → th .place ≡ 30 → r ≡ marking n (th .parent) 31 38 th → r ≡ step (placeOf (th .place)) (store n root used) th
+  unfolding step
+  at-30 h q = q ∙ rw h
+
+  pub at-31 : {r : Turn} → th .place ≡ 31 → r ≡ topped n root th → r ≡ step (placeOf (th .place)) (store n root used) th
+  unfolding step
+  at-31 h q = q ∙ rw h
+
+  pub at-32 : {p b : Node} {x : ℕ} {r : Turn} → th .place ≡ 32 → p ≡ n (th .parent) → b ≡ n (th .route) → x ≡ childFor (p .key) b → r ≡ climbed n x th → r ≡ step (placeOf (th .place)) (store n root used) th
+  unfolding step
+  at-32 h e f i q = q ∙ rw (h, ← e, ← f, i)
+
+  pub at-33 : {r : Turn} → th .place ≡ 33 → r ≡ grandMarking (th .grandparent) n th → r ≡ step (placeOf (th .place)) (store n root used) th
+  unfolding step
+  at-33 h q = q ∙ rw h
+
+  pub at-34 : {p : Node} {x : ℕ} {next : Thread} → th .place ≡ 34 → p ≡ n (th .parent) → x ≡ kidOf (not (th .left)) p → next ≡ toOther 35 x th → Moves next Quiet ≡ step (placeOf (th .place)) (store n root used) th
+  unfolding step
+  at-34 h e i q = rw (q, h, ← e, i)
+
+  pub at-35 : {r : Turn} → th .place ≡ 35 → r ≡ closed n used th → r ≡ step (placeOf (th .place)) (store n root used) th
+  unfolding step
+  at-35 h q = q ∙ rw h
+
+  pub at-36 : {o : Effect} {next : Thread} → th .place ≡ 36 → o ≡ unmark (th .grandparent) → next ≡ to 37 th → Moves next o ≡ step (placeOf (th .place)) (store n root used) th
+  unfolding step
+  at-36 h i q = rw (q, i, h)
+
+  pub at-37 : {next : Thread} → th .place ≡ 37 → next ≡ to 38 th → Moves next (Mark (th .parent) Nil) ≡ step (placeOf (th .place)) (store n root used) th
+  unfolding step
+  at-37 h q = rw (q, h)
+
+  pub at-38 : th .place ≡ 38 → Finishes (Settle (th .main) Aborted) false ≡ step (placeOf (th .place)) (store n root used) th
+  unfolding step
+  at-38 h = rw h
+
+  pub at-39 : 30 ≤ th .place → th .place < 40 → (th .place ≡ 30 → ⊥) → (th .place ≡ 31 → ⊥) → (th .place ≡ 32 → ⊥) → (th .place ≡ 33 → ⊥) → (th .place ≡ 34 → ⊥) → (th .place ≡ 35 → ⊥) → (th .place ≡ 36 → ⊥) → (th .place ≡ 37 → ⊥) → (th .place ≡ 38 → ⊥) → Moves th Quiet ≡ step (placeOf (th .place)) (store n root used) th
+  unfolding step
+  at-39 l m f₀ f₁ f₂ f₃ f₄ f₅ f₆ f₇ f₈ = rw (last (past 38 (past 37 (past 36 (past 35 (past 34 (past 33 (past 32 (past 31 (past 30 l f₀) f₁) f₂) f₃) f₄) f₅) f₆) f₇) f₈) m)
+
+pub ruleset approach-cases = (at-20-left, at-20-other, at-21-right, at-21-gone, at-22, at-23, at-24-free, at-24-busy, at-25)
+
+pub ruleset prepare-cases = (at-30, at-31, at-32, at-33, at-34, at-35, at-36, at-37, at-38, at-39)

@@ -1,0 +1,141 @@
+-- The cases of places 1 to 3, 15 and 16, each with the code's own facts as premises. Assumes nothing.
+use mathlib.Core.Path.{_≡_, refl, sym, ap, _∙_}
+use mathlib.Core.Bool.{Bool, true, false, _||_}
+use Prim.Native.Nat.{ℕ, _<_, _≤_}
+use lib.Dec.{eqb, ltb, leb}
+use borrow.Author.Tests.{ne-eqb, lt-ltb, le-ltb, lt-leb}
+use Rattle.container.specs.Choice.{ite}
+use Rattle.container.specs.Container.{has, size}
+use Rattle.definitions.specs.declared.Link.{Link}
+use Rattle.definitions.specs.declared.Link.the-variants.{Nil, To}
+use Rattle.definitions.specs.declared.Kind.{Kind}
+use Rattle.definitions.specs.declared.Kind.the-variants.{Main, Neighbour}
+use Rattle.definitions.specs.declared.Stage.{Stage}
+use Rattle.definitions.specs.declared.Stage.the-variants.{Aborted}
+use Rattle.definitions.specs.declared.Node.{Node}
+use Rattle.definitions.specs.declared.Action.{Action}
+use Rattle.definitions.specs.declared.Action.the-variants.{Lookup, Split, Join}
+use Rattle.definitions.specs.declared.Thread.{Thread}
+use Rattle.definitions.specs.declared.Effect.the-variants.{Quiet, Settle}
+use Rattle.definitions.specs.declared.Turn.{Turn}
+use Rattle.definitions.specs.declared.Turn.the-variants.{Moves, Finishes}
+use Rattle.definitions.specs.Nodes.{Nodes, childFor, isRoute, isPreparing, replaceable}
+use Rattle.definitions.specs.Bench.{store}
+use Rattle.definitions.specs.Places.{placeOf, to, toRoute, toBase, toParent}
+use Rattle.definitions.specs.Steps.{goes, says, reached, lost, lostAs, cleared, clearedAs, joinUnder, atLeaf, helpAs, blockedBy, step}
+use Rattle.steps.proofs.DecideLaws.{placed, unlisted}
+
+-- ---- a node is read: n is that node, b whether it is a route, t the thread's next notes
+module _ (ns : Nodes) (th : Thread) (x : ℕ) {n : Node} {b : Bool} where
+  pub reach-route : {t : Thread} → n ≡ ns x → b ≡ isRoute (n .kind) → b ≡ true → t ≡ toRoute 2 x th → Moves t Quiet ≡ reached ns th x
+  unfolding reached ite
+  reach-route e k h q = rw (← e, ← k, h, q)
+
+  reach-leaf : {a : Action} → n ≡ ns x → b ≡ isRoute (n .kind) → b ≡ false → th .action ≡ a → atLeaf a ns th x ≡ reached ns th x
+  unfolding reached ite
+  reach-leaf e k h a = rw (← e, ← k, h) (ap (λ (y : Action). atLeaf y ns th x) (sym a))
+
+  pub reach-lookup : {m : Bool} → n ≡ ns x → b ≡ isRoute (n .kind) → b ≡ false → th .action ≡ Lookup → m ≡ has (n .container) (th .station) → Finishes Quiet m ≡ reached ns th x
+  reach-lookup e k h a q = rw (q, e) (reach-leaf e k h a)
+
+  -- the other actions go to 3
+  pub reach-base : {t : Thread} {a : Action} → n ≡ ns x → b ≡ isRoute (n .kind) → b ≡ false → th .action ≡ a → goes (toBase 3 x th) ≡ atLeaf a ns th x → t ≡ toBase 3 x th → Moves t Quiet ≡ reached ns th x
+  reach-base e k h a l q = rw q (l ∙ reach-leaf e k h a)
+
+-- ---- a base that is not replaceable, or a swap that failed
+module _ (th : Thread) {a : Action} (e : th .action ≡ a) where
+  pub lost-again : {t : Thread} → goes (to 15 th) ≡ lostAs a th → t ≡ to 15 th → Moves t Quiet ≡ lost th
+  unfolding lost
+  lost-again l q = rw q (l ∙ ap (λ (y : Action). lostAs y th) (sym e))
+
+  pub lost-over : says false ≡ lostAs a th → says false ≡ lost th
+  unfolding lost
+  lost-over l = l ∙ ap (λ (y : Action). lostAs y th) (sym e)
+
+-- ---- 3: the base b is replaceable; z is its size, l its parent
+module _ (b : Node) (th : Thread) where
+  as-cleared : {a : Action} → th .action ≡ a → clearedAs a b th ≡ cleared b th
+  unfolding cleared
+  as-cleared e = ap (λ (y : Action). clearedAs y b th) (sym e)
+
+  pub clear-swap : {t : Thread} {a : Action} → th .action ≡ a → goes (to 10 th) ≡ clearedAs a b th → t ≡ to 10 th → Moves t Quiet ≡ cleared b th
+  clear-swap e l q = rw q (l ∙ as-cleared e)
+
+  pub clear-lookup : th .action ≡ Lookup → says false ≡ cleared b th
+  clear-lookup e = as-cleared e
+
+  module _ {z : ℕ} (e : th .action ≡ Split) (s : z ≡ size (b .container)) where
+    pub clear-few : z < 2 → says false ≡ cleared b th
+    unfolding ite
+    clear-few h = rw (← s, lt-ltb _ _ h) at (as-cleared e)
+
+    pub clear-split : {t : Thread} → 2 ≤ z → t ≡ to 10 th → Moves t Quiet ≡ cleared b th
+    unfolding ite
+    clear-split h q = rw q (rw (← s, le-ltb _ _ h) at (as-cleared e))
+
+  pub clear-top : th .action ≡ Join → b .parent ≡ Nil → says false ≡ cleared b th
+  clear-top e l = ap (λ (y : Link). joinUnder y th) (sym l) ∙ as-cleared e
+
+  pub clear-join : {t : Thread} {p : ℕ} → th .action ≡ Join → b .parent ≡ To p → t ≡ toParent 20 p th → Moves t Quiet ≡ cleared b th
+  clear-join e l q = rw q (ap (λ (y : Link). joinUnder y th) (sym l) ∙ as-cleared e)
+
+-- ---- 1 to 3: u is the numbers used
+module _ (ns : Nodes) (root u : ℕ) (th : Thread) where
+  pub at-1 : {r : Turn} → th .place ≡ 1 → r ≡ reached ns th root → r ≡ step (placeOf (th .place)) (store ns root u) th
+  unfolding step
+  at-1 h q = q ∙ placed (store ns root u) th h
+
+  pub at-2 : {r : Turn} {n : Node} {x : ℕ} → th .place ≡ 2 → n ≡ ns (th .route) → x ≡ childFor (th .station) n → r ≡ reached ns th x → r ≡ step (placeOf (th .place)) (store ns root u) th
+  unfolding step
+  at-2 h e k q = q ∙ (rw (k, e) (placed (store ns root u) th h))
+
+  pub at-3 : {r : Turn} {b : Node} {d : Bool} → th .place ≡ 3 → d ≡ replaceable ns (th .base) → d ≡ true → b ≡ ns (th .base) → r ≡ cleared b th → r ≡ step (placeOf (th .place)) (store ns root u) th
+  unfolding step ite
+  at-3 h e k i q = q ∙ (rw i (rw (← e, k) at (placed (store ns root u) th h)))
+
+  pub at-3-lost : {r : Turn} {d : Bool} → th .place ≡ 3 → d ≡ replaceable ns (th .base) → d ≡ false → r ≡ lost th → r ≡ step (placeOf (th .place)) (store ns root u) th
+  unfolding step ite
+  at-3-lost h e k q = q ∙ (rw (← e, k) at (placed (store ns root u) th h))
+
+  pub before-10 : th .place < 10 → (th .place ≡ 1 → ⊥) → (th .place ≡ 2 → ⊥) → (th .place ≡ 3 → ⊥) → goes th ≡ step (placeOf (th .place)) (store ns root u) th
+  before-10 h f g k = unlisted (λ p. leb 10 p || (eqb p 1 || (eqb p 2 || eqb p 3))) refl (store ns root u) th (rw (lt-leb _ _ h, ne-eqb _ _ f, ne-eqb _ _ g, ne-eqb _ _ k))
+
+-- ---- 15: what the stage s of the main m leads to
+pub help-as : (s : Stage) (m : ℕ) (th : Thread) {a : Stage} {t v : Thread} → s ≡ a → t ≡ v → goes v ≡ helpAs a m th → Moves t Quiet ≡ helpAs s m th
+help-as s m th e q l = rw (e, q) l
+
+-- 15: n is the base, m its main
+module _ (ns : Nodes) (root u : ℕ) (th : Thread) {n : Node} (h : th .place ≡ 15) (e : n ≡ ns (th .base)) where
+  as-blocked : {k : Kind} → n .kind ≡ k → blockedBy k ns th ≡ step (placeOf (th .place)) (store ns root u) th
+  unfolding step
+  as-blocked k = ap (λ (y : Kind). blockedBy y ns th) (sym k ∙ ap (λ (y : Node). y .kind) e) ∙ placed (store ns root u) th h
+
+  pub blocked-again : {k : Kind} {t : Thread} → n .kind ≡ k → goes (to 1 th) ≡ blockedBy k ns th → t ≡ to 1 th → Moves t Quiet ≡ step (placeOf (th .place)) (store ns root u) th
+  blocked-again k l q = rw q (l ∙ as-blocked k)
+
+  pub blocked-main : {r : Turn} → n .kind ≡ Main → r ≡ helpAs (n .stage) (th .base) th → r ≡ step (placeOf (th .place)) (store ns root u) th
+  blocked-main k q = q ∙ (rw e (as-blocked k))
+
+  pub blocked-neighbour : {r : Turn} {m : Node} → n .kind ≡ Neighbour → m ≡ ns (n .main) → r ≡ helpAs (m .stage) (n .main) th → r ≡ step (placeOf (th .place)) (store ns root u) th
+  blocked-neighbour k i q = q ∙ (rw (i, e) (as-blocked k))
+
+-- 16: m is the main, b whether it is preparing
+module _ (ns : Nodes) (root u : ℕ) (th : Thread) where
+  module _ {m : Node} {b : Bool} {t : Thread} (h : th .place ≡ 16) (e : m ≡ ns (th .main)) (k : b ≡ isPreparing (m .stage)) (q : t ≡ to 1 th) where
+    pub at-16-kill : b ≡ true → Moves t (Settle (th .main) Aborted) ≡ step (placeOf (th .place)) (store ns root u) th
+    unfolding step ite
+    at-16-kill i = rw q (rw (← e, ← k, i) at (placed (store ns root u) th h))
+
+    pub at-16-late : b ≡ false → Moves t Quiet ≡ step (placeOf (th .place)) (store ns root u) th
+    unfolding step ite
+    at-16-late i = rw q (rw (← e, ← k, i) at (placed (store ns root u) th h))
+
+  pub before-20 : 14 ≤ th .place → th .place < 20 → (th .place ≡ 15 → ⊥) → (th .place ≡ 16 → ⊥) → goes th ≡ step (placeOf (th .place)) (store ns root u) th
+  before-20 a h f g = unlisted (λ p. ltb p 14 || (leb 20 p || (eqb p 15 || eqb p 16))) refl (store ns root u) th (rw (le-ltb _ _ a, lt-leb _ _ h, ne-eqb _ _ f, ne-eqb _ _ g))
+
+pub ruleset reach-cases = (reach-route, reach-lookup, reach-base)
+pub ruleset lost-cases = (lost-again, lost-over)
+pub ruleset clear-cases = (clear-swap, clear-lookup, clear-few, clear-split, clear-top, clear-join)
+pub ruleset find-cases = (at-1, at-2, at-3, at-3-lost, before-10)
+pub ruleset inspect-cases = (blocked-again, blocked-main, blocked-neighbour)
+pub ruleset blocked-cases = (at-16-kill, at-16-late, before-20)

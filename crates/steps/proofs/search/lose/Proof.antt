@@ -1,0 +1,54 @@
+-- `steps::search::lose` meets its contract. Assumes nothing.
+use Rattle.steps.proofs.SearchLaws.{lost-cases}
+use borrow.Author.Needs.{needs}
+use Rattle.steps.proofs.search.lose.Statement.{statement}
+use Rattle.steps.proofs.search.lose.Tie as tie
+
+go-requires : tie.Need-go-requires
+go-requires c κs = search needs
+
+enum-told : tie.Need-enum-told
+enum-told c = search needs
+
+enum-told-2 : tie.Need-enum-told-2
+enum-told-2 c = search needs
+
+enum-told-3 : tie.Need-enum-told-3
+enum-told-3 c = search needs
+
+enum-told-4 : tie.Need-enum-told-4
+enum-told-4 c = search needs
+
+enum-told-5 : tie.Need-enum-told-5
+enum-told-5 c = search needs
+
+returns : tie.Need-returns
+returns c = search lost-cases
+
+returns-2 : tie.Need-returns-2
+returns-2 c = search lost-cases
+
+returns-3 : tie.Need-returns-3
+returns-3 c = search lost-cases
+
+returns-4 : tie.Need-returns-4
+returns-4 c = search lost-cases
+
+returns-5 : tie.Need-returns-5
+returns-5 c = search lost-cases
+
+pub lose-spec : {M : Type 1} → statement M
+lose-spec =
+    tie.close
+    (tie.spec
+    go-requires
+    enum-told
+    enum-told-2
+    enum-told-3
+    enum-told-4
+    enum-told-5
+    returns
+    returns-2
+    returns-3
+    returns-4
+    returns-5)

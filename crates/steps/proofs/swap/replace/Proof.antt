@@ -1,0 +1,110 @@
+-- `steps::swap::replace` meets its contract. Assumes nothing.
+use Rattle.steps.proofs.SwapLaws.{replace-cases}
+use borrow.Author.Needs.{needs}
+use Rattle.steps.proofs.swap.replace.Statement.{statement}
+use Rattle.steps.proofs.swap.replace.Tie as tie
+
+enum-told : tie.Need-enum-told
+enum-told c = search needs
+
+enum-told-2 : tie.Need-enum-told-2
+enum-told-2 c = search needs
+
+returns : tie.Need-returns
+returns c = search replace-cases
+
+contains-requires : tie.Need-contains-requires
+contains-requires c κs = search needs
+
+with-requires : tie.Need-with-requires
+with-requires c κs = search needs
+
+cast-t17 : tie.Need-cast-t17
+cast-t17 c = search needs
+
+enum-told-3 : tie.Need-enum-told-3
+enum-told-3 c = search needs
+
+returns-2 : tie.Need-returns-2
+returns-2 c = search replace-cases
+
+contains-requires-2 : tie.Need-contains-requires-2
+contains-requires-2 c κs = search needs
+
+without-requires : tie.Need-without-requires
+without-requires c κs = search needs
+
+cast-t21 : tie.Need-cast-t21
+cast-t21 c = search needs
+
+enum-told-4 : tie.Need-enum-told-4
+enum-told-4 c = search needs
+
+returns-3 : tie.Need-returns-3
+returns-3 c = search replace-cases
+
+cast-at : tie.Need-cast-at
+cast-at c = search needs
+
+upper-half-requires : tie.Need-upper-half-requires
+upper-half-requires c κs = search needs
+
+lower-half-requires : tie.Need-lower-half-requires
+lower-half-requires c κs = search needs
+
+lowest-requires : tie.Need-lowest-requires
+lowest-requires c κs = search needs
+
+add-t25 : tie.Need-add-t25
+add-t25 c = search needs
+
+add-t26 : tie.Need-add-t26
+add-t26 c = search needs
+
+enum-told-5 : tie.Need-enum-told-5
+enum-told-5 c = search needs
+
+returns-4 : tie.Need-returns-4
+returns-4 c = search replace-cases
+
+returns-5 : tie.Need-returns-5
+returns-5 c = search replace-cases
+
+returns-6 : tie.Need-returns-6
+returns-6 c = search replace-cases
+
+returns-7 : tie.Need-returns-7
+returns-7 c = search replace-cases
+
+returns-8 : tie.Need-returns-8
+returns-8 c = search replace-cases
+
+pub replace-spec : {M : Type 1} → statement M
+replace-spec =
+    tie.close
+    (tie.spec
+    enum-told
+    enum-told-2
+    returns
+    contains-requires
+    with-requires
+    cast-t17
+    enum-told-3
+    returns-2
+    contains-requires-2
+    without-requires
+    cast-t21
+    enum-told-4
+    returns-3
+    cast-at
+    upper-half-requires
+    lower-half-requires
+    lowest-requires
+    add-t25
+    add-t26
+    enum-told-5
+    returns-4
+    returns-5
+    returns-6
+    returns-7
+    returns-8)

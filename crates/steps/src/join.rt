@@ -1,0 +1,311 @@
+// 20 to 38: a join, until its stage is a node number or it stands down.
+ghost use mathlib.Core.Path.{_≡_};
+ghost use Prim.Native.Nat.{ℕ, _+_, _<_, _≤_};
+ghost use Rattle.nodes.specs.Cells.{table};
+ghost use Rattle.definitions.specs.Bench.{store};
+ghost use Rattle.definitions.specs.Places.{placeOf};
+ghost use Rattle.definitions.specs.Steps.{beside, hooked, isNil, marking, topped, climbed, backOut, unionParent, closed, unmark, grandMarking, step};
+use super::notes;
+use definitions::Effect;
+use definitions::Kind;
+use definitions::Link;
+use definitions::Node;
+use definitions::Spot;
+use definitions::Stage;
+use definitions::Thread;
+use definitions::Turn;
+
+// 22, 23: node x is read on the way to the base beside.
+pub fn step_beside(cells: &[u8; 4096], sets: &[u64; 256], th: Thread, x: u8) -> Turn
+    ensures { λ r. ⌜ r ≡ beside (table (now (cells .entry)) (now (sets .entry))) th x ⌝ }
+{
+    let n = nodes::node_at(cells, sets, x);
+    let kind = n.kind;
+    if nodes::is_route(kind) {
+        let next = notes::go_route(th, 23, x);
+        Turn::Moves(next, Effect::Quiet)
+    } else {
+        let next = notes::go_found(th, 24, x);
+        Turn::Moves(next, Effect::Quiet)
+    }
+}
+
+// 25: the base under the parent becomes a main.
+pub fn hook(cells: &[u8; 4096], sets: &[u64; 256], used: usize, th: Thread) -> Turn
+    ensures { λ r. ⌜ r ≡ hooked (table (now (cells .entry)) (now (sets .entry))) used th ⌝ }
+{
+    let p = nodes::node_at(cells, sets, th.parent);
+    let x = nodes::kid_of(th.left, p);
+    if x == th.base {
+        if 255 < used {
+            return Turn::Full;
+        }
+        let at = used as u8;
+        let b = nodes::node_at(cells, sets, th.base);
+        let parent = b.parent;
+        let next = notes::go_main(th, 26, at, true);
+        let spot = Spot::Under(th.parent, th.left);
+        return Turn::Moves(
+            next,
+            Effect::Base {
+                spot: spot,
+                at: at,
+                kind: Kind::Main,
+                parent: parent,
+                container: b.container,
+                main: 0,
+            },
+        );
+    }
+    Turn::Finishes(Effect::Quiet, false)
+}
+
+// 20 to 25.
+pub fn approach(cells: &[u8; 4096], sets: &[u64; 256], root: u8, used: usize, th: Thread) -> Turn
+    requires { ⌜ (20 ≤ th .place) × (th .place < 26) ⌝ }
+    ensures { λ r. ⌜ r ≡ step (placeOf (th .place)) (store (table (now (cells .entry)) (now (sets .entry))) root used) th ⌝ }
+{
+    let place = th.place;
+    match place {
+        20 => {
+            let p = nodes::node_at(cells, sets, th.parent);
+            if p.left == th.base {
+                let next = notes::go_side(th, 22, true);
+                Turn::Moves(next, Effect::Quiet)
+            } else {
+                let next = notes::go(th, 21);
+                Turn::Moves(next, Effect::Quiet)
+            }
+        }
+        21 => {
+            let p = nodes::node_at(cells, sets, th.parent);
+            if p.right == th.base {
+                let next = notes::go_side(th, 22, false);
+                Turn::Moves(next, Effect::Quiet)
+            } else {
+                Turn::Finishes(Effect::Quiet, false)
+            }
+        }
+        22 => {
+            let p = nodes::node_at(cells, sets, th.parent);
+            let x = nodes::kid_of(!th.left, p);
+            step_beside(cells, sets, th, x)
+        }
+        23 => {
+            let n = nodes::node_at(cells, sets, th.route);
+            let x = nodes::kid_of(th.left, n);
+            step_beside(cells, sets, th, x)
+        }
+        24 => {
+            if nodes::is_replaceable(cells, sets, th.found) {
+                let next = notes::go(th, 25);
+                Turn::Moves(next, Effect::Quiet)
+            } else {
+                Turn::Finishes(Effect::Quiet, false)
+            }
+        }
+        _ => hook(cells, sets, used, th),
+    }
+}
+
+// A link is none.
+pub fn is_nil(l: Link) -> bool
+    ensures { λ r. ⌜ r ≡ isNil l ⌝ }
+{
+    match l {
+        Link::Nil => true,
+        Link::To(_) => false,
+    }
+}
+
+// 30, 33: the join mark of route g goes from none to the thread's main, then to place `succeeded`; failure leads to place `failed`.
+pub fn mark(
+    cells: &[u8; 4096],
+    sets: &[u64; 256],
+    g: u8,
+    succeeded: u8,
+    failed: u8,
+    th: Thread,
+) -> Turn
+    ensures { λ r. ⌜ r ≡ marking (table (now (cells .entry)) (now (sets .entry))) g succeeded failed th ⌝ }
+{
+    let n = nodes::node_at(cells, sets, g);
+    let held = n.mark;
+    if is_nil(held) {
+        let next = notes::go(th, succeeded);
+        Turn::Moves(
+            next,
+            Effect::Mark {
+                route: g,
+                mark: Link::To(th.main),
+            },
+        )
+    } else {
+        let next = notes::go(th, failed);
+        Turn::Moves(next, Effect::Quiet)
+    }
+}
+
+// 31: the root is read.
+pub fn from_top(cells: &[u8; 4096], sets: &[u64; 256], root: u8, th: Thread) -> Turn
+    ensures { λ r. ⌜ r ≡ topped (table (now (cells .entry)) (now (sets .entry))) root th ⌝ }
+{
+    if root == th.parent {
+        let next = notes::go_grandparent(th, 34, Link::Nil);
+        return Turn::Moves(next, Effect::Quiet);
+    }
+    let n = nodes::node_at(cells, sets, root);
+    let kind = n.kind;
+    if nodes::is_route(kind) {
+        let next = notes::go_route(th, 32, root);
+        Turn::Moves(next, Effect::Quiet)
+    } else {
+        let next = notes::go(th, 37);
+        Turn::Moves(next, Effect::Quiet)
+    }
+}
+
+// 32: node x is read on the way to the parent.
+pub fn climb(cells: &[u8; 4096], sets: &[u64; 256], x: u8, th: Thread) -> Turn
+    ensures { λ r. ⌜ r ≡ climbed (table (now (cells .entry)) (now (sets .entry))) x th ⌝ }
+{
+    if x == th.parent {
+        let next = notes::go_grandparent(th, 33, Link::To(th.route));
+        return Turn::Moves(next, Effect::Quiet);
+    }
+    let n = nodes::node_at(cells, sets, x);
+    let kind = n.kind;
+    if nodes::is_route(kind) {
+        let next = notes::go_route(th, 32, x);
+        Turn::Moves(next, Effect::Quiet)
+    } else {
+        let next = notes::go(th, 37);
+        Turn::Moves(next, Effect::Quiet)
+    }
+}
+
+// 33: the grandparent's mark.
+pub fn mark_grandparent(cells: &[u8; 4096], sets: &[u64; 256], th: Thread) -> Turn
+    ensures { λ r. ⌜ r ≡ grandMarking (th .grandparent) (table (now (cells .entry)) (now (sets .entry))) th ⌝ }
+{
+    let link = th.grandparent;
+    match link {
+        Link::Nil => {
+            let next = notes::go(th, 37);
+            Turn::Moves(next, Effect::Quiet)
+        }
+        Link::To(g) => mark(cells, sets, g, 34, 37, th),
+    }
+}
+
+// The parent of the union node.
+pub fn union_parent(cells: &[u8; 4096], sets: &[u64; 256], th: Thread) -> Link
+    ensures { λ r. ⌜ r ≡ unionParent (table (now (cells .entry)) (now (sets .entry))) th ⌝ }
+{
+    let n = nodes::node_at(cells, sets, th.neighbour);
+    if th.other == th.neighbour {
+        th.grandparent
+    } else {
+        n.parent
+    }
+}
+
+// 35: the stage goes from preparing to a new neighbour.
+pub fn close(cells: &[u8; 4096], sets: &[u64; 256], used: usize, th: Thread) -> Turn
+    ensures { λ r. ⌜ r ≡ closed (table (now (cells .entry)) (now (sets .entry))) used th ⌝ }
+{
+    let m = nodes::node_at(cells, sets, th.main);
+    let stage = m.stage;
+    let grandparent = th.grandparent;
+    if nodes::is_preparing(stage) {
+        if 255 < used {
+            return Turn::Full;
+        }
+        let n = nodes::node_at(cells, sets, th.neighbour);
+        let parent = union_parent(cells, sets, th);
+        let c = container::united(m.container, n.container);
+        let next = notes::go(th, 40);
+        return Turn::Moves(
+            next,
+            Effect::Commit {
+                main: th.main,
+                at: used as u8,
+                parent: parent,
+                container: c,
+                neighbour: th.neighbour,
+                grandparent: grandparent,
+                other: th.other,
+            },
+        );
+    }
+    if is_nil(grandparent) {
+        let next = notes::go(th, 37);
+        Turn::Moves(next, Effect::Quiet)
+    } else {
+        let next = notes::go(th, 36);
+        Turn::Moves(next, Effect::Quiet)
+    }
+}
+
+// 36: the grandparent's mark is cleared.
+pub fn unmarked(l: Link) -> Effect
+    ensures { λ r. ⌜ r ≡ unmark l ⌝ }
+{
+    match l {
+        Link::Nil => Effect::Quiet,
+        Link::To(r) => Effect::Mark {
+            route: r,
+            mark: Link::Nil,
+        },
+    }
+}
+
+// 30 to 38.
+pub fn prepare(cells: &[u8; 4096], sets: &[u64; 256], root: u8, used: usize, th: Thread) -> Turn
+    requires { ⌜ (30 ≤ th .place) × (th .place < 40) ⌝ }
+    ensures { λ r. ⌜ r ≡ step (placeOf (th .place)) (store (table (now (cells .entry)) (now (sets .entry))) root used) th ⌝ }
+{
+    let place = th.place;
+    match place {
+        30 => mark(cells, sets, th.parent, 31, 38, th),
+        31 => from_top(cells, sets, root, th),
+        32 => {
+            let p = nodes::node_at(cells, sets, th.parent);
+            let n = nodes::node_at(cells, sets, th.route);
+            let x = nodes::child_for(p.key, n);
+            climb(cells, sets, x, th)
+        }
+        33 => mark_grandparent(cells, sets, th),
+        34 => {
+            let p = nodes::node_at(cells, sets, th.parent);
+            let x = nodes::kid_of(!th.left, p);
+            let next = notes::go_other(th, 35, x);
+            Turn::Moves(next, Effect::Quiet)
+        }
+        35 => close(cells, sets, used, th),
+        36 => {
+            let link = th.grandparent;
+            let effect = unmarked(link);
+            let next = notes::go(th, 37);
+            Turn::Moves(next, effect)
+        }
+        37 => {
+            let next = notes::go(th, 38);
+            Turn::Moves(
+                next,
+                Effect::Mark {
+                    route: th.parent,
+                    mark: Link::Nil,
+                },
+            )
+        }
+        38 => Turn::Finishes(
+            Effect::Settle {
+                main: th.main,
+                stage: Stage::Aborted,
+            },
+            false,
+        ),
+        _ => Turn::Moves(th, Effect::Quiet),
+    }
+}

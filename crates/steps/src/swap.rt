@@ -1,0 +1,206 @@
+// The four-step swap and its three kinds: 10 to 13, 26 to 29, 41 to 44.
+ghost use mathlib.Core.Path.{_≡_};
+ghost use Prim.Native.Nat.{ℕ, _+_, _<_, _≤_};
+ghost use Rattle.nodes.specs.Cells.{table};
+ghost use Rattle.definitions.specs.Bench.{store};
+ghost use Rattle.definitions.specs.Places.{quarterOf, quarterNumber, swap, own, found, united};
+ghost use Rattle.definitions.specs.Steps.{probe, replaced, step};
+use super::notes;
+use super::search;
+use definitions::Action;
+use definitions::Effect;
+use definitions::Kind;
+use definitions::Link;
+use definitions::Node;
+use definitions::Probe;
+use definitions::Quarter;
+use definitions::Spot;
+use definitions::Thread;
+use definitions::Turn;
+
+// The step by its number from 0.
+pub fn quarter(k: u8) -> Quarter
+    ensures { λ r. ⌜ r ≡ quarterOf k ⌝ }
+{
+    match k {
+        0 => Quarter::ReadLeft,
+        1 => Quarter::SwapLeft,
+        2 => Quarter::ReadRight,
+        _ => Quarter::SwapRight,
+    }
+}
+
+// The place of a step, counted from the first.
+pub fn place_of(first: u8, q: Quarter) -> u8
+    requires { ⌜ first < 64 ⌝ }
+    ensures { λ r. ⌜ r ≡ first + quarterNumber q ⌝ }
+{
+    match q {
+        Quarter::ReadLeft => first + 0,
+        Quarter::SwapLeft => first + 1,
+        Quarter::ReadRight => first + 2,
+        Quarter::SwapRight => first + 3,
+    }
+}
+
+// One of the four steps for the base x: where it hangs, the next step, or failure.
+pub fn look(cells: &[u8; 4096], sets: &[u64; 256], root: u8, parent: Link, x: u8, q: Quarter) -> Probe
+    ensures { λ r. ⌜ r ≡ probe q parent (table (now (cells .entry)) (now (sets .entry))) root x ⌝ }
+{
+    match parent {
+        Link::Nil => match q {
+            Quarter::ReadLeft => {
+                if root == x {
+                    Probe::Hit(Spot::Root)
+                } else {
+                    Probe::Miss
+                }
+            }
+            Quarter::SwapLeft => Probe::Miss,
+            Quarter::ReadRight => Probe::Miss,
+            Quarter::SwapRight => Probe::Miss,
+        },
+        Link::To(p) => {
+            let n = nodes::node_at(cells, sets, p);
+            match q {
+                Quarter::ReadLeft => {
+                    if n.left == x {
+                        Probe::Next(Quarter::SwapLeft)
+                    } else {
+                        Probe::Next(Quarter::ReadRight)
+                    }
+                }
+                Quarter::SwapLeft => {
+                    if n.left == x {
+                        Probe::Hit(Spot::Under(p, true))
+                    } else {
+                        Probe::Miss
+                    }
+                }
+                Quarter::ReadRight => {
+                    if n.right == x {
+                        Probe::Next(Quarter::SwapRight)
+                    } else {
+                        Probe::Miss
+                    }
+                }
+                Quarter::SwapRight => {
+                    if n.right == x {
+                        Probe::Hit(Spot::Under(p, false))
+                    } else {
+                        Probe::Miss
+                    }
+                }
+            }
+        }
+    }
+}
+
+// The comparison of an update's or a split's swap succeeded.
+pub fn replace(spot: Spot, b: Node, used: usize, th: Thread) -> Turn
+    ensures { λ r. ⌜ r ≡ replaced spot b used th ⌝ }
+{
+    let action = th.action;
+    let parent = b.parent;
+    match action {
+        Action::Lookup => Turn::Full,
+        Action::Insert => {
+            if 255 < used {
+                return Turn::Full;
+            }
+            let held = container::contains(b.container, th.station);
+            let c = container::with(b.container, th.station);
+            Turn::Finishes(Effect::Base { spot: spot, at: used as u8, kind: Kind::Normal, parent: parent, container: c, main: 0 }, !held)
+        }
+        Action::Remove => {
+            if 255 < used {
+                return Turn::Full;
+            }
+            let held = container::contains(b.container, th.station);
+            let c = container::without(b.container, th.station);
+            Turn::Finishes(Effect::Base { spot: spot, at: used as u8, kind: Kind::Normal, parent: parent, container: c, main: 0 }, held)
+        }
+        Action::Split => {
+            if 253 < used {
+                return Turn::Full;
+            }
+            let at = used as u8;
+            let high = container::upper_half(b.container);
+            let low = container::lower_half(b.container);
+            let key = container::lowest(high);
+            Turn::Finishes(Effect::Fork { spot: spot, at: at, left: at + 1, right: at + 2, key: key, low: low, high: high }, true)
+        }
+        Action::Join => Turn::Full,
+    }
+}
+
+// 10 to 13: the thread's own base.
+pub fn own(cells: &[u8; 4096], sets: &[u64; 256], root: u8, used: usize, th: Thread, q: Quarter) -> Turn
+    ensures { λ r. ⌜ r ≡ step (swap own q) (store (table (now (cells .entry)) (now (sets .entry))) root used) th ⌝ }
+{
+    let b = nodes::node_at(cells, sets, th.base);
+    let parent = b.parent;
+    let seen = look(cells, sets, root, parent, th.base, q);
+    match seen {
+        Probe::Hit(spot) => replace(spot, b, used, th),
+        Probe::Next(r) => {
+            let place = place_of(10, r);
+            let next = notes::go(th, place);
+            Turn::Moves(next, Effect::Quiet)
+        }
+        Probe::Miss => search::lose(th),
+    }
+}
+
+// 26 to 29: the base found, for a new neighbour.
+pub fn found(cells: &[u8; 4096], sets: &[u64; 256], root: u8, used: usize, th: Thread, q: Quarter) -> Turn
+    ensures { λ r. ⌜ r ≡ step (swap found q) (store (table (now (cells .entry)) (now (sets .entry))) root used) th ⌝ }
+{
+    let b = nodes::node_at(cells, sets, th.found);
+    let parent = b.parent;
+    let seen = look(cells, sets, root, parent, th.found, q);
+    match seen {
+        Probe::Hit(spot) => {
+            if 255 < used {
+                return Turn::Full;
+            }
+            let at = used as u8;
+            let next = notes::go_neighbour(th, 30, at);
+            Turn::Moves(next, Effect::Base { spot: spot, at: at, kind: Kind::Neighbour, parent: parent, container: b.container, main: th.main })
+        }
+        Probe::Next(r) => {
+            let place = place_of(26, r);
+            let next = notes::go(th, place);
+            Turn::Moves(next, Effect::Quiet)
+        }
+        Probe::Miss => {
+            let next = notes::go(th, 38);
+            Turn::Moves(next, Effect::Quiet)
+        }
+    }
+}
+
+// 41 to 44: the neighbour, for the union node.
+pub fn united(cells: &[u8; 4096], sets: &[u64; 256], root: u8, used: usize, th: Thread, q: Quarter) -> Turn
+    ensures { λ r. ⌜ r ≡ step (swap united q) (store (table (now (cells .entry)) (now (sets .entry))) root used) th ⌝ }
+{
+    let m = nodes::node_at(cells, sets, th.main);
+    let b = nodes::node_at(cells, sets, m.neighbour);
+    let parent = b.parent;
+    let seen = look(cells, sets, root, parent, m.neighbour, q);
+    match seen {
+        Probe::Hit(spot) => {
+            let next = notes::go(th, 45);
+            Turn::Moves(next, Effect::Swing { spot: spot, to: m.union })
+        }
+        Probe::Next(r) => {
+            let place = place_of(41, r);
+            let next = notes::go(th, place);
+            Turn::Moves(next, Effect::Quiet)
+        }
+        Probe::Miss => {
+            let next = notes::go(th, 45);
+            Turn::Moves(next, Effect::Quiet)
+        }
+    }
+}
