@@ -1,0 +1,90 @@
+//! Times Run and List of the library and of the reference on the same schedules, in turn, and prints the
+//! medians and their ratio for each size. Buffers are lent as they are, not cleared between calls.
+
+use differential::library;
+use differential::random::steady;
+use differential::rng::Rng;
+use reference::LIST_BUFFER;
+use std::hint::black_box;
+use std::time::{Duration, Instant};
+
+const SIZES: [usize; 5] = [1, 16, 256, 1024, 4096];
+/// Schedules of each size; every sample goes over all of them.
+const FILES: usize = 32;
+/// Samples of each size and each implementation; an odd number has a median.
+const SAMPLES: usize = 201;
+/// About as long as one sample takes.
+const SAMPLE: Duration = Duration::from_micros(1500);
+const SEED: u64 = 0x0062_656E_6368;
+
+type Operation<'a> = &'a mut dyn FnMut(&[u8]) -> u64;
+
+/// The time of so many rounds over all files, in nanoseconds for one call.
+fn sample(files: &[Vec<u8>], rounds: usize, operation: Operation) -> f64 {
+    let start = Instant::now();
+    for _ in 0..rounds {
+        for file in files {
+            black_box(operation(black_box(file)));
+        }
+    }
+    start.elapsed().as_secs_f64() * 1e9 / (rounds * files.len()) as f64
+}
+
+fn median(mut values: Vec<f64>) -> f64 {
+    values.sort_by(f64::total_cmp);
+    values[values.len() / 2]
+}
+
+/// Times both in turn and prints a line.
+fn compare(name: &str, size: usize, files: &[Vec<u8>], ours: Operation, theirs: Operation) {
+    for file in files {
+        assert_eq!(
+            ours(file),
+            theirs(file),
+            "{name} differs on a file of {size} records"
+        );
+    }
+    let once = sample(files, 1, ours)
+        .max(sample(files, 1, theirs))
+        .max(1.0);
+    let rounds = (SAMPLE.as_nanos() as f64 / (once * files.len() as f64)).ceil() as usize;
+    let (mut our, mut their) = (Vec::new(), Vec::new());
+    for _ in 0..SAMPLES {
+        our.push(sample(files, rounds, ours));
+        their.push(sample(files, rounds, theirs));
+    }
+    let (our, their) = (median(our), median(their));
+    let each = our / size as f64;
+    let ratio = our / their;
+    println!("{name:4} {size:7} {our:12.0} {their:14.0} {each:18.1} {ratio:7.2}");
+}
+
+fn main() {
+    println!(
+        "medians of {SAMPLES} samples over {FILES} schedules, buffers not cleared between calls"
+    );
+    println!("     records   library ns   reference ns   library ns/record   ratio");
+    let mut rng = Rng::new(SEED);
+    for size in SIZES {
+        let files: Vec<Vec<u8>> = (0..FILES).map(|_| steady(&mut rng, size)).collect();
+        assert!(files
+            .iter()
+            .all(|file| reference::run(file, &mut vec![0; 2 * size]).records == size as u64));
+        let (mut rows, mut rows2) = (vec![0; 2 * size], vec![0; 2 * size]);
+        compare(
+            "Run",
+            size,
+            &files,
+            &mut |file| library::run(file, &mut rows).set,
+            &mut |file| reference::run(file, &mut rows2).set,
+        );
+        let (mut text, mut text2) = (vec![0; LIST_BUFFER], vec![0; LIST_BUFFER]);
+        compare(
+            "List",
+            size,
+            &files,
+            &mut |file| library::list(file, &mut text).length,
+            &mut |file| reference::list(file, &mut text2).length,
+        );
+    }
+}

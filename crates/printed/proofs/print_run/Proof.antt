@@ -1,0 +1,74 @@
+-- `printed::print_run` meets its contract. Assumes nothing.
+use borrow.Author.Needs.{needs}
+use Rattle.printed.proofs.Cases.{ends-within}
+use Rattle.printed.proofs.print_run.Statement.{statement}
+use Rattle.printed.proofs.print_run.Tie as tie
+
+file-refusal-requires : tie.Need-file-refusal-requires
+file-refusal-requires c κs = search needs
+
+count-of-requires : tie.Need-count-of-requires
+count-of-requires c κs = c .before .file-refusal .ensures .1 (c .if1 .taken) .header
+
+slice-aggregate-run : tie.Need-slice-aggregate-run
+slice-aggregate-run c = search needs
+
+run-requires : tie.Need-run-requires
+run-requires c κs = search needs
+
+slice-aggregate-list : tie.Need-slice-aggregate-list
+slice-aggregate-list c = search needs
+
+list-requires : tie.Need-list-requires
+list-requires c κs = search needs
+
+slice-aggregate-put-lines : tie.Need-slice-aggregate-put-lines
+slice-aggregate-put-lines c = search needs
+
+slice-aggregate-put-lines-2 : tie.Need-slice-aggregate-put-lines-2
+slice-aggregate-put-lines-2 c = search needs
+
+put-lines-requires : tie.Need-put-lines-requires
+put-lines-requires c κs = search needs
+
+same-length : tie.Need-same-length
+same-length c = search needs
+
+returns : tie.Need-returns
+returns c = search ends-within
+
+returns-2 : tie.Need-returns-2
+returns-2 c = search needs
+
+returns-3 : tie.Need-returns-3
+returns-3 c = search needs
+
+put-first-requires : tie.Need-put-first-requires
+put-first-requires c κs = search needs
+
+same-length-2 : tie.Need-same-length-2
+same-length-2 c = search needs
+
+returns-4 : tie.Need-returns-4
+returns-4 c = search ends-within
+
+pub print-run-spec : {M : Type 1} → statement M
+print-run-spec =
+    tie.close
+    (tie.spec
+    file-refusal-requires
+    count-of-requires
+    slice-aggregate-run
+    run-requires
+    slice-aggregate-list
+    list-requires
+    slice-aggregate-put-lines
+    slice-aggregate-put-lines-2
+    put-lines-requires
+    same-length
+    returns
+    returns-2
+    returns-3
+    put-first-requires
+    same-length-2
+    returns-4)

@@ -1,0 +1,238 @@
+// The printed run: Run's report and rows and List's text, as lines.
+ghost use mathlib.Core.Path.{_≡_};
+ghost use mathlib.Core.List.{[], _∷_, _++_};
+ghost use Prim.Native.Nat.{_*_, _%_, _≤_};
+ghost use lib.ListN.{length, take};
+ghost use Rattle.buffer.specs.Page.{page, putAll};
+ghost use Rattle.definitions.specs.Listing.{space, newline, decimal};
+ghost use Rattle.definitions.specs.Printed.{records-word, of-word, refusal-word, stored-word, used-word, actionWord, answerWord, firstLine, rowLines, lastLine};
+use buffer::put_byte;
+use buffer::put_decimal;
+use buffer::put_four;
+use buffer::put_two;
+use definitions::Listed;
+use definitions::Report;
+
+// ---- words and numbers
+
+// A number of a report.
+pub fn put_number(out: &mut [u8], at: usize, n: u64) -> usize
+    ensures { λ r. ⌜ page (now (out .exit)) r ≡ putAll (page (now (out .entry)) at) (decimal (n % 10000)) ⌝ }
+{
+    let small = (n % 10000) as u16;
+    put_decimal(out, at, small)
+}
+
+// The word for an action's number.
+pub fn put_action(out: &mut [u8], at: usize, a: u8) -> usize
+    ensures { λ r. ⌜ page (now (out .exit)) r ≡ putAll (page (now (out .entry)) at) (actionWord a) ⌝ }
+{
+    match a {
+        1 => {
+            let next = put_four(out, at, b'l', b'o', b'o', b'k');
+            put_two(out, next, b'u', b'p')
+        }
+        2 => {
+            let next = put_four(out, at, b'i', b'n', b's', b'e');
+            put_two(out, next, b'r', b't')
+        }
+        3 => {
+            let next = put_four(out, at, b'r', b'e', b'm', b'o');
+            put_two(out, next, b'v', b'e')
+        }
+        4 => {
+            let next = put_four(out, at, b's', b'p', b'l', b'i');
+            put_byte(out, next, b't')
+        }
+        _ => put_four(out, at, b'j', b'o', b'i', b'n'),
+    }
+}
+
+// "yes" or "no", and the end of the line.
+pub fn put_answer(out: &mut [u8], at: usize, y: u8) -> usize
+    ensures { λ r. ⌜ page (now (out .exit)) r ≡ putAll (page (now (out .entry)) at) (answerWord y ++ newline ∷ []) ⌝ }
+{
+    if y == 0 {
+        let next = put_two(out, at, b'n', b'o');
+        put_byte(out, next, b'\n')
+    } else {
+        put_four(out, at, b'y', b'e', b's', b'\n')
+    }
+}
+
+// ---- the rows
+
+// How a row's line begins: thread and action.
+fn put_start(out: &mut [u8], at: usize, t: u8, a: u8) -> usize
+    ensures { λ r. ⌜ page (now (out .exit)) r ≡ putAll (page (now (out .entry)) at) (116 ∷ (decimal t ++ space ∷ actionWord a)) ⌝ }
+{
+    let n1 = put_byte(out, at, b't');
+    let n2 = put_decimal(out, n1, t as u16);
+    let n3 = put_byte(out, n2, b' ');
+    put_action(out, n3, a)
+}
+
+// How it ends: station and answer.
+fn put_end(out: &mut [u8], at: usize, s: u8, y: u8) -> usize
+    ensures { λ r. ⌜ page (now (out .exit)) r ≡ putAll (page (now (out .entry)) at) (space ∷ (decimal s ++ space ∷ (answerWord y ++ newline ∷ []))) ⌝ }
+{
+    let n1 = put_byte(out, at, b' ');
+    let n2 = put_decimal(out, n1, s as u16);
+    let n3 = put_byte(out, n2, b' ');
+    put_answer(out, n3, y)
+}
+
+// The line of a row.
+pub fn put_row(out: &mut [u8], at: usize, t: u8, a: u8, s: u8, y: u8) -> usize
+    ensures { λ r. ⌜ page (now (out .exit)) r ≡ putAll (page (now (out .entry)) at) (rowLines (t ∷ a ∷ s ∷ y ∷ [])) ⌝ }
+{
+    let next = put_start(out, at, t, a);
+    put_end(out, next, s, y)
+}
+
+// The lines of the first rows of a buffer.
+pub fn put_rows(out: &mut [u8], at: usize, rows: &[u8], count: usize) -> usize
+    requires { ⌜ count * 4 ≤ length (now rows) ⌝ }
+    ensures { λ r. ⌜ page (now (out .exit)) r ≡ putAll (page (now (out .entry)) at) (rowLines (take (count * 4) (now (rows .entry)))) ⌝ }
+{
+    let mut next = at;
+    let mut k = 0;
+    while k < count {
+        let j = k * 4;
+        next = put_row(
+            out,
+            next,
+            rows[j + 0],
+            rows[j + 1],
+            rows[j + 2],
+            rows[j + 3],
+        );
+        k += 1;
+    }
+    next
+}
+
+// ---- the tree and set lines
+
+// The first bytes of a text.
+pub fn put_text(out: &mut [u8], at: usize, text: &[u8], size: usize) -> usize
+    requires { ⌜ size ≤ length (now text) ⌝ }
+    ensures { λ r. ⌜ page (now (out .exit)) r ≡ putAll (page (now (out .entry)) at) (take size (now (text .entry))) ⌝ }
+{
+    let mut next = at;
+    let mut k = 0;
+    while k < size {
+        next = put_byte(out, next, text[k]);
+        k += 1;
+    }
+    next
+}
+
+// ---- the first line and the last
+
+// How the first line begins: records done.
+fn put_records(out: &mut [u8], at: usize, done: u64) -> usize
+    ensures { λ r. ⌜ page (now (out .exit)) r ≡ putAll (page (now (out .entry)) at) (records-word ++ space ∷ decimal (done % 10000)) ⌝ }
+{
+    let n1 = put_four(out, at, b'r', b'e', b'c', b'o');
+    let n2 = put_four(out, n1, b'r', b'd', b's', b' ');
+    put_number(out, n2, done)
+}
+
+// Then the count.
+fn put_count(out: &mut [u8], at: usize, count: u64) -> usize
+    ensures { λ r. ⌜ page (now (out .exit)) r ≡ putAll (page (now (out .entry)) at) (space ∷ (of-word ++ space ∷ decimal (count % 10000))) ⌝ }
+{
+    let next = put_four(out, at, b' ', b'o', b'f', b' ');
+    put_number(out, next, count)
+}
+
+// Then the refusal.
+fn put_refusal(out: &mut [u8], at: usize, refusal: u64) -> usize
+    ensures { λ r. ⌜ page (now (out .exit)) r ≡ putAll (page (now (out .entry)) at) (space ∷ (refusal-word ++ space ∷ decimal (refusal % 10000))) ⌝ }
+{
+    let n1 = put_four(out, at, b' ', b'r', b'e', b'f');
+    let n2 = put_four(out, n1, b'u', b's', b'a', b'l');
+    let n3 = put_byte(out, n2, b' ');
+    put_number(out, n3, refusal)
+}
+
+// The first line.
+pub fn put_first(out: &mut [u8], at: usize, done: u64, count: u64, refusal: u64) -> usize
+    ensures { λ r. ⌜ page (now (out .exit)) r ≡ putAll (page (now (out .entry)) at) (firstLine (done % 10000) (count % 10000) (refusal % 10000)) ⌝ }
+{
+    let n1 = put_records(out, at, done);
+    let n2 = put_count(out, n1, count);
+    let n3 = put_refusal(out, n2, refusal);
+    put_byte(out, n3, b'\n')
+}
+
+// How the last line begins: the stored count.
+fn put_stored(out: &mut [u8], at: usize, stored: u64) -> usize
+    ensures { λ r. ⌜ page (now (out .exit)) r ≡ putAll (page (now (out .entry)) at) (stored-word ++ space ∷ decimal (stored % 10000)) ⌝ }
+{
+    let n1 = put_four(out, at, b's', b't', b'o', b'r');
+    let n2 = put_two(out, n1, b'e', b'd');
+    let n3 = put_byte(out, n2, b' ');
+    put_number(out, n3, stored)
+}
+
+// How it ends: the numbers used.
+fn put_used(out: &mut [u8], at: usize, used: u64) -> usize
+    ensures { λ r. ⌜ page (now (out .exit)) r ≡ putAll (page (now (out .entry)) at) (space ∷ (used-word ++ space ∷ (decimal (used % 10000) ++ newline ∷ []))) ⌝ }
+{
+    let n1 = put_four(out, at, b' ', b'u', b's', b'e');
+    let n2 = put_two(out, n1, b'd', b' ');
+    let n3 = put_number(out, n2, used);
+    put_byte(out, n3, b'\n')
+}
+
+// The last line.
+pub fn put_last(out: &mut [u8], at: usize, stored: u64, used: u64) -> usize
+    ensures { λ r. ⌜ page (now (out .exit)) r ≡ putAll (page (now (out .entry)) at) (lastLine (stored % 10000) (used % 10000)) ⌝ }
+{
+    let next = put_stored(out, at, stored);
+    put_used(out, next, used)
+}
+
+// ---- the whole
+
+// The lines of a run: its report and rows, its text, and the file's count.
+pub fn put_lines(
+    out: &mut [u8],
+    count: u64,
+    r: Report,
+    rows: &[u8],
+    l: Listed,
+    text: &[u8],
+) -> usize
+    requires { ⌜ (r .rows * 4 ≤ length (now rows)) × (l .length ≤ length (now text)) ⌝ }
+    ensures { λ n. ⌜ page (now (out .exit)) n ≡ putAll (page (now (out .entry)) 0) (firstLine (r .records % 10000) (count % 10000) (r .refusal % 10000) ++ (rowLines (take (r .rows * 4) (now (rows .entry))) ++ (take (l .length) (now (text .entry)) ++ lastLine (r .stored % 10000) (r .used % 10000)))) ⌝ }
+{
+    let n1 = put_first(out, 0, r.records, count, r.refusal);
+    let n2 = put_rows(out, n1, rows, r.rows as usize);
+    let n3 = put_text(out, n2, text, l.length as usize);
+    put_last(out, n3, r.stored, r.used)
+}
+
+// The printed run of a schedule; gives its length.
+pub fn print_run(schedule: &[u8], out: &mut [u8]) -> usize
+    ensures { λ r. ⌜ r ≤ length (now (out .exit)) ⌝ }
+{
+    let bad = schedule::file_refusal(schedule);
+    if bad == 0 {
+        let count = schedule::count_of(schedule);
+        let mut rows = [0u8; 8192];
+        let mut text = [0u8; 4096];
+        let r = run::run(schedule, &mut rows);
+        let l = list::list(schedule, &mut text);
+        // the rows and the text always fit
+        if r.rows <= 2048 {
+            if l.length <= 4096 {
+                return put_lines(out, count as u64, r, &rows, l, &text);
+            }
+        }
+        return 0;
+    }
+    put_first(out, 0, 0, 0, bad)
+}

@@ -1,0 +1,69 @@
+/* A libFuzzer target: each input as a schedule file, as it is and with its header put right, through the
+ * library and the reference. Any difference in a field or a byte, and any byte touched outside the memory
+ * lent, ends the program. The reference is built with coverage counters, so that inputs grow towards places
+ * not seen yet. */
+#define _DEFAULT_SOURCE
+#include "guard.h"
+#include "nuxalder.h"
+
+enum { MOST_RECORDS = 4096, MEMORY = 3 * GUARD_PAGE };
+
+typedef void operation(const uint8_t *, size_t, uint8_t *, size_t, uint64_t *);
+
+/* The reference behind the same interface, under names of its own. */
+extern operation reference_run, reference_list;
+
+static struct guard file_memory, our_memory, their_memory;
+
+static void compare(const char *name, operation *ours, operation *theirs, size_t fields, const uint8_t *file,
+                    size_t length, size_t room, int at_start)
+{
+    uint64_t our[NUXALDER_RUN_FIELDS] = {0}, their[NUXALDER_RUN_FIELDS] = {0};
+    uint8_t *lent = guard_lend(file_memory, length, at_start);
+    memcpy(lent, file, length);
+    guard_fill(our_memory);
+    guard_fill(their_memory);
+    ours(lent, length, guard_lend(our_memory, room, at_start), room, our);
+    theirs(lent, length, guard_lend(their_memory, room, at_start), room, their);
+    if (memcmp(our, their, fields * sizeof our[0]) != 0 || memcmp(lent, file, length) != 0 ||
+        memcmp(our_memory.bytes, their_memory.bytes, MEMORY) != 0) {
+        fprintf(stderr, "%s differs from the reference with a buffer of %zu bytes\n", name, room);
+        abort();
+    }
+}
+
+/* Run and List with buffers just long enough, one byte short and longer. */
+static void compare_all(const uint8_t *file, size_t length)
+{
+    size_t count = length < 3 ? 0 : (size_t)file[1] << 8 | file[2];
+    size_t need = 2 * (count > MOST_RECORDS ? MOST_RECORDS : count);
+    const size_t row_rooms[] = {need, need > 0 ? need - 1 : 0, need + 17};
+    const size_t text_rooms[] = {NUXALDER_LIST_BUFFER, NUXALDER_LIST_BUFFER - 1, NUXALDER_LIST_BUFFER + 17};
+    for (int i = 0; i < 3; i++) {
+        compare("Run", nuxalder_run, reference_run, NUXALDER_RUN_FIELDS, file, length, row_rooms[i], i & 1);
+        compare("List", nuxalder_list, reference_list, NUXALDER_LIST_FIELDS, file, length, text_rooms[i],
+                i & 1);
+    }
+}
+
+int LLVMFuzzerTestOneInput(const uint8_t *data, size_t size)
+{
+    static uint8_t repaired[3 + 2 * MOST_RECORDS];
+    if (file_memory.bytes == NULL) {
+        file_memory = guard_new(MEMORY);
+        our_memory = guard_new(MEMORY);
+        their_memory = guard_new(MEMORY);
+    }
+    if (size > MEMORY)
+        return -1;
+    compare_all(data, size);
+    if (size >= 3) {
+        size_t count = (size - 3) / 2 > MOST_RECORDS ? MOST_RECORDS : (size - 3) / 2;
+        memcpy(repaired, data, 3 + 2 * count);
+        repaired[0] = 1;
+        repaired[1] = (uint8_t)(count >> 8);
+        repaired[2] = (uint8_t)count;
+        compare_all(repaired, 3 + 2 * count);
+    }
+    return 0;
+}

@@ -1,0 +1,70 @@
+/* Nuxalder: a turn-by-turn bench for a lock-free contention adapting search tree.
+ *
+ * Both functions take a schedule file as bytes, carry it out on a fresh bench and hand back numbers in
+ * `report` and bytes in a buffer that the caller lends. They keep no state between calls, allocate nothing,
+ * read no byte outside the schedule and write no byte outside the buffer and the report. The lent memory
+ * must not overlap.
+ *
+ * A schedule file: version byte 1, two-byte big-endian count, then `count` records of two bytes.
+ * First byte: 16 * thread + action (0 step, 1 lookup, 2 insert, 3 remove, 4 split, 5 join).
+ * Second byte: the station, 0 to 63; for a step, 0.
+ *
+ * Refusal numbers:
+ *    0  none
+ *    1  a file under three bytes              7  a thread over 3
+ *    2  a version other than 1                8  an action over 5
+ *    3  a count over 4,096                    9  a start with a station over 63
+ *    4  a length other than 3 + 2 * count    10  a step whose second byte is not 0
+ *    5  a row buffer under 2 * count bytes   11  a start of a busy thread
+ *    6  a text buffer under 4,096 bytes      12  a step of an idle thread
+ *                                            13  a swap that needs more node numbers than are left
+ */
+#ifndef NUXALDER_H
+#define NUXALDER_H
+
+#include <stddef.h>
+#include <stdint.h>
+
+#ifdef __cplusplus
+extern "C" {
+#endif
+
+/* What nuxalder_run writes to report[]. */
+enum {
+    NUXALDER_RUN_REFUSAL = 0, /* refusal number, 0 for none */
+    NUXALDER_RUN_RECORDS = 1, /* records done */
+    NUXALDER_RUN_ROWS = 2,    /* rows written, four bytes each */
+    NUXALDER_RUN_SET = 3,     /* bit s is set where station s is in the tree */
+    NUXALDER_RUN_STORED = 4,  /* stored count: container sizes over the reachable bases */
+    NUXALDER_RUN_USED = 5     /* node numbers used */
+};
+
+/* What nuxalder_list writes to report[]. */
+enum {
+    NUXALDER_LIST_REFUSAL = 0, /* refusal number, 0 for none */
+    NUXALDER_LIST_LENGTH = 1   /* bytes of text written */
+};
+
+#define NUXALDER_RUN_FIELDS 6
+#define NUXALDER_LIST_FIELDS 2
+#define NUXALDER_LIST_BUFFER 4096 /* the text never needs more */
+
+/* Carries out the schedule. A row is four bytes: thread, action, station, answer (1 yes, 0 no), in order of
+ * finishing; `rows` needs 2 * count bytes. On refusals 1 to 5 every other field is 0 and `rows` is untouched.
+ * On refusals 7 to 13 the run ends before the refused record, and the fields and rows are as they then stood.
+ * Bytes of `rows` after the rows written are untouched. */
+void nuxalder_run(const uint8_t *schedule, size_t schedule_length,
+                  uint8_t *rows, size_t rows_length,
+                  uint64_t report[NUXALDER_RUN_FIELDS]);
+
+/* Carries out the schedule and lists the tree where the run ended, also after a refused record: a line for
+ * each node (depth, kind, key or container), then the set. On refusals 1, 2, 3, 4 and 6 nothing is written
+ * and the length is 0. Bytes of `text` past the length are untouched; no byte 0 is added. */
+void nuxalder_list(const uint8_t *schedule, size_t schedule_length,
+                   uint8_t *text, size_t text_length,
+                   uint64_t report[NUXALDER_LIST_FIELDS]);
+
+#ifdef __cplusplus
+}
+#endif
+#endif

@@ -1,0 +1,321 @@
+/* The C test harness: the paper's runs through include/nuxalder.h, and buffers of every interesting length
+ * in guarded memory. Ends with the counts of passed and failed checks. */
+#define _DEFAULT_SOURCE
+#include "guard.h"
+#include "nuxalder.h"
+#include "plan.h"
+
+#include <inttypes.h>
+#include <stdarg.h>
+
+enum { MEMORY = 4 * GUARD_PAGE };
+
+static unsigned long passed, failed;
+static struct guard schedule_memory, rows_memory, text_memory;
+
+/* What the last calls handed back. */
+static uint64_t run[NUXALDER_RUN_FIELDS];
+static const uint8_t *rows;
+static uint64_t listing[NUXALDER_LIST_FIELDS];
+static const uint8_t *text;
+
+__attribute__((format(printf, 2, 3))) static void check(int holds, const char *format, ...)
+{
+    if (holds) {
+        passed++;
+        return;
+    }
+    failed++;
+    va_list arguments;
+    va_start(arguments, format);
+    fputs("FAILED: ", stdout);
+    vprintf(format, arguments);
+    putchar('\n');
+    va_end(arguments);
+}
+
+/* A copy of the file in guarded memory. */
+static const uint8_t *lend_file(const uint8_t *file, size_t length, int at_start)
+{
+    guard_fill(schedule_memory);
+    uint8_t *copy = guard_lend(schedule_memory, length, at_start);
+    if (length > 0)
+        memcpy(copy, file, length);
+    return copy;
+}
+
+static void file_kept(const uint8_t *copy, const uint8_t *file, size_t length)
+{
+    check((length == 0 || memcmp(copy, file, length) == 0) && guard_kept(schedule_memory, copy, length),
+          "the schedule was written to");
+}
+
+/* Calls Run with a row buffer of `room` bytes; what the paper leaves alone must be as before. */
+static void call_run(const uint8_t *file, size_t length, size_t room, int at_start)
+{
+    const uint8_t *copy = lend_file(file, length, at_start);
+    guard_fill(rows_memory);
+    uint8_t *buffer = guard_lend(rows_memory, room, at_start);
+    uint64_t around[NUXALDER_RUN_FIELDS + 2];
+    memset(around, 0x5A, sizeof around);
+    uint64_t canary = around[0];
+    nuxalder_run(copy, length, buffer, room, around + 1);
+    memcpy(run, around + 1, sizeof run);
+    rows = buffer;
+    check(around[0] == canary && around[NUXALDER_RUN_FIELDS + 1] == canary, "Run wrote outside its report");
+    size_t written = 4 * (size_t)run[NUXALDER_RUN_ROWS];
+    check(written <= room && guard_kept(rows_memory, buffer, written), "Run touched bytes after its rows");
+    file_kept(copy, file, length);
+}
+
+/* The same for List with a text buffer of `room` bytes. */
+static void call_list(const uint8_t *file, size_t length, size_t room, int at_start)
+{
+    const uint8_t *copy = lend_file(file, length, at_start);
+    guard_fill(text_memory);
+    uint8_t *buffer = guard_lend(text_memory, room, at_start);
+    uint64_t around[NUXALDER_LIST_FIELDS + 2];
+    memset(around, 0x5A, sizeof around);
+    uint64_t canary = around[0];
+    nuxalder_list(copy, length, buffer, room, around + 1);
+    memcpy(listing, around + 1, sizeof listing);
+    text = buffer;
+    check(around[0] == canary && around[NUXALDER_LIST_FIELDS + 1] == canary, "List wrote outside its report");
+    size_t written = (size_t)listing[NUXALDER_LIST_LENGTH];
+    check(written <= room && guard_kept(text_memory, buffer, written), "List touched bytes past its length");
+    file_kept(copy, file, length);
+}
+
+static void expect_run(const char *name, uint64_t refusal, uint64_t records, uint64_t row_count, uint64_t set,
+                       uint64_t stored, uint64_t used)
+{
+    static const char *const fields[] = {"refusal", "records", "rows", "set", "stored", "used"};
+    const uint64_t expected[] = {refusal, records, row_count, set, stored, used};
+    for (size_t i = 0; i < NUXALDER_RUN_FIELDS; i++)
+        check(run[i] == expected[i], "%s: %s is %" PRIu64 ", not %" PRIu64, name, fields[i], run[i],
+              expected[i]);
+}
+
+static void expect_row(const char *name, size_t index, unsigned thread, unsigned action, unsigned station,
+                       unsigned answer)
+{
+    const uint8_t expected[4] = {(uint8_t)thread, (uint8_t)action, (uint8_t)station, (uint8_t)answer};
+    check(index < run[NUXALDER_RUN_ROWS] && memcmp(rows + 4 * index, expected, 4) == 0, "%s: row %zu", name,
+          index);
+}
+
+static void expect_list(const char *name, uint64_t refusal, const char *expected)
+{
+    size_t length = strlen(expected);
+    check(listing[NUXALDER_LIST_REFUSAL] == refusal, "%s: List's refusal is %" PRIu64, name,
+          listing[NUXALDER_LIST_REFUSAL]);
+    check(listing[NUXALDER_LIST_LENGTH] == length && memcmp(text, expected, length) == 0,
+          "%s: the listing is\n%.*s", name, (int)listing[NUXALDER_LIST_LENGTH], (const char *)text);
+}
+
+static void call_both(const struct plan *p)
+{
+    call_run(p->file, p->length, 2 * plan_count(p), 0);
+    call_list(p->file, p->length, NUXALDER_LIST_BUFFER, 0);
+}
+
+static uint64_t bit(unsigned station)
+{
+    return UINT64_C(1) << station;
+}
+
+static void examples(void)
+{
+    static struct plan p;
+
+    plan_empty(&p);
+    call_both(&p);
+    expect_run("empty schedule", 0, 0, 0, 0, 0, 1);
+    expect_list("empty schedule", 0, "0 normal -\nset -\n");
+
+    plan_alone(&p, 0, INSERT, 9, 3);
+    call_both(&p);
+    expect_run("insert 9", 0, 4, 1, bit(9), 1, 2);
+    expect_row("insert 9", 0, 0, INSERT, 9, 1);
+    expect_list("insert 9", 0, "0 normal 9\nset 9\n");
+    call_run(p.file, p.length, 7, 0);
+    expect_run("insert 9 with 7 bytes", 5, 0, 0, 0, 0, 0);
+    plan_alone(&p, 0, INSERT, 9, 3);
+    call_both(&p);
+    expect_run("insert 9 twice", 0, 8, 2, bit(9), 1, 3);
+    expect_row("insert 9 twice", 1, 0, INSERT, 9, 0);
+
+    plan_empty(&p);
+    plan_alone(&p, 0, INSERT, 3, 0);
+    plan_alone(&p, 1, INSERT, 9, 0);
+    plan_steps(&p, 0, 2);
+    plan_steps(&p, 1, 2);
+    plan_steps(&p, 0, 1);
+    plan_steps(&p, 1, 4);
+    call_both(&p);
+    expect_run("race, one step short", 0, 11, 1, bit(3), 1, 2);
+    plan_steps(&p, 1, 1);
+    call_both(&p);
+    expect_run("race", 0, 12, 2, bit(3) | bit(9), 2, 3);
+    expect_row("race", 0, 0, INSERT, 3, 1);
+    expect_row("race", 1, 1, INSERT, 9, 1);
+
+    plan_empty(&p);
+    plan_alone(&p, 0, INSERT, 3, 3);
+    plan_alone(&p, 0, SPLIT, 3, 2);
+    call_both(&p);
+    expect_run("split of one station", 0, 7, 2, bit(3), 1, 2);
+    expect_row("split of one station", 1, 0, SPLIT, 3, 0);
+
+    plan_printed_run(&p);
+    call_both(&p);
+    expect_run("printed run", 0, 12, 3, bit(3) | bit(9), 2, 6);
+    expect_list("printed run", 0, "0 route 9\n1 normal 3\n1 normal 9\nset 3 9\n");
+    plan_alone(&p, 0, JOIN, 3, 20);
+    call_both(&p);
+    expect_run("join, one step short", 0, 33, 3, bit(3) | bit(9), 2, 9);
+    plan_steps(&p, 0, 1);
+    call_both(&p);
+    expect_run("join", 0, 34, 4, bit(3) | bit(9), 2, 9);
+    expect_row("join", 3, 0, JOIN, 3, 1);
+    expect_list("join", 0, "0 neighbour 3 9\nset 3 9\n");
+
+    plan_printed_run(&p);
+    plan_alone(&p, 0, JOIN, 3, 7);
+    call_list(p.file, p.length, NUXALDER_LIST_BUFFER, 0);
+    expect_list("join under way", 0, "0 route 9\n1 main 3\n1 normal 9\nset 3 9\n");
+    plan_alone(&p, 1, INSERT, 4, 10);
+    plan_steps(&p, 0, 9);
+    call_both(&p);
+    expect_run("killed join", 0, 40, 5, bit(3) | bit(4) | bit(9), 3, 9);
+    expect_row("killed join", 3, 1, INSERT, 4, 1);
+    expect_row("killed join", 4, 0, JOIN, 3, 0);
+
+    plan_printed_run(&p);
+    plan_alone(&p, 1, LOOKUP, 3, 1);
+    plan_alone(&p, 0, JOIN, 3, 21);
+    plan_alone(&p, 0, REMOVE, 3, 3);
+    plan_steps(&p, 1, 1);
+    call_both(&p);
+    expect_run("lookup of an earlier moment", 0, 41, 6, bit(9), 1, 10);
+    expect_row("lookup of an earlier moment", 5, 1, LOOKUP, 3, 1);
+    expect_list("lookup of an earlier moment", 0, "0 normal 9\nset 9\n");
+}
+
+static void refused_records(void)
+{
+    static const struct {
+        unsigned first, second, refusal;
+    } cases[] = {{0x40, 0, 7},  {0x46, 99, 7}, {0xFF, 0, 7}, {0x30, 0, 12}, {0x06, 0, 8},
+                 {0x3F, 99, 8}, {0x02, 64, 9}, {0x05, 255, 9}, {0x00, 1, 10}, {0x02, 63, 0}};
+    static struct plan p;
+    for (size_t i = 0; i < sizeof cases / sizeof cases[0]; i++) {
+        plan_printed_run(&p);
+        plan_record(&p, cases[i].first, cases[i].second);
+        plan_alone(&p, 1, INSERT, 5, 0);
+        call_both(&p);
+        expect_run("refused record", cases[i].refusal, cases[i].refusal == 0 ? 14 : 12, 3, bit(3) | bit(9), 2,
+                   6);
+        expect_list("refused record", cases[i].refusal, "0 route 9\n1 normal 3\n1 normal 9\nset 3 9\n");
+    }
+    plan_printed_run(&p);
+    plan_alone(&p, 2, LOOKUP, 3, 1);
+    plan_alone(&p, 2, LOOKUP, 3, 1);
+    call_both(&p);
+    expect_run("busy thread", 11, 14, 3, bit(3) | bit(9), 2, 6);
+}
+
+static void longest(void)
+{
+    static struct plan p;
+    plan_empty(&p);
+    for (unsigned i = 0; i < 255; i++)
+        plan_alone(&p, 0, INSERT, 9, 3);
+    call_both(&p);
+    expect_run("255 inserts", 0, 1020, 255, bit(9), 1, 256);
+    plan_alone(&p, 0, INSERT, 9, 3);
+    call_both(&p);
+    expect_run("256 inserts", 13, 1023, 255, bit(9), 1, 256);
+    expect_list("256 inserts", 13, "0 normal 9\nset 9\n");
+
+    plan_empty(&p);
+    for (unsigned i = 0; i < MOST_RECORDS / 2; i++)
+        plan_alone(&p, 3, LOOKUP, 63, 1);
+    check(p.length == 8195, "the longest schedule has %zu bytes", p.length);
+    call_both(&p);
+    expect_run("4096 records", 0, MOST_RECORDS, MOST_RECORDS / 2, 0, 0, 1);
+    plan_alone(&p, 3, LOOKUP, 63, 0);
+    call_both(&p);
+    expect_run("4097 records", 3, 0, 0, 0, 0, 0);
+    expect_list("4097 records", 3, "");
+}
+
+/* Every length of the row buffer around the one needed, and of the file around the one stated. */
+static void buffer_lengths(int at_start)
+{
+    static const size_t rooms[] = {0, 1, 4094, 4095, 4096, 4097, 5000, 8192, 8193};
+    static struct plan p;
+    plan_printed_run(&p);
+    size_t need = 2 * plan_count(&p);
+    for (size_t room = 0; room <= 3 * need; room++) {
+        call_run(p.file, p.length, room, at_start);
+        if (room < need)
+            expect_run("short row buffer", 5, 0, 0, 0, 0, 0);
+        else
+            expect_run("row buffer", 0, 12, 3, bit(3) | bit(9), 2, 6);
+    }
+    for (size_t i = 0; i < sizeof rooms / sizeof rooms[0]; i++) {
+        call_list(p.file, p.length, rooms[i], at_start);
+        if (rooms[i] < NUXALDER_LIST_BUFFER)
+            expect_list("short text buffer", 6, "");
+        else
+            expect_list("text buffer", 0, "0 route 9\n1 normal 3\n1 normal 9\nset 3 9\n");
+    }
+    for (size_t length = 0; length <= p.length + 2; length++) {
+        uint64_t refusal = length < 3 ? 1 : length == p.length ? 0 : 4;
+        call_run(p.file, length, refusal == 0 ? need : 0, at_start);
+        check(run[NUXALDER_RUN_REFUSAL] == refusal, "a file cut to %zu bytes gets %" PRIu64, length,
+              run[NUXALDER_RUN_REFUSAL]);
+        call_list(p.file, length, refusal == 0 ? NUXALDER_LIST_BUFFER : 0, at_start);
+        check(listing[NUXALDER_LIST_REFUSAL] == refusal, "a listed file cut to %zu bytes gets %" PRIu64, length,
+              listing[NUXALDER_LIST_REFUSAL]);
+    }
+}
+
+/* Headers with several faults get the first number in the paper's order. */
+static void headers(int at_start)
+{
+    static const struct {
+        uint8_t file[5];
+        size_t length;
+        uint64_t refusal;
+    } cases[] = {{{2, 255, 255}, 2, 1}, {{2, 255, 255}, 3, 2},     {{0, 0, 0}, 3, 2},
+                 {{255, 0, 0}, 4, 2},   {{1, 16, 1}, 3, 3},        {{1, 255, 255}, 3, 3},
+                 {{1, 16, 0}, 3, 4},    {{1, 0, 1, 64, 0}, 4, 4},  {{1, 0, 0}, 4, 4},
+                 {{1, 0, 1}, 3, 4},     {{1, 0, 1, 64, 0}, 5, 7}};
+    for (size_t i = 0; i < sizeof cases / sizeof cases[0]; i++) {
+        call_run(cases[i].file, cases[i].length, 0, at_start);
+        uint64_t expected = cases[i].refusal == 7 ? 5 : cases[i].refusal;
+        expect_run("header", expected, 0, 0, 0, 0, 0);
+        call_list(cases[i].file, cases[i].length, 0, at_start);
+        expect_list("header", cases[i].refusal == 7 ? 6 : cases[i].refusal, "");
+        call_list(cases[i].file, cases[i].length, NUXALDER_LIST_BUFFER, at_start);
+        expect_list("header", cases[i].refusal, cases[i].refusal == 7 ? "0 normal -\nset -\n" : "");
+    }
+}
+
+int main(void)
+{
+    schedule_memory = guard_new(MEMORY);
+    rows_memory = guard_new(MEMORY);
+    text_memory = guard_new(MEMORY);
+    examples();
+    refused_records();
+    longest();
+    for (int at_start = 0; at_start <= 1; at_start++) {
+        buffer_lengths(at_start);
+        headers(at_start);
+    }
+    printf("%lu passed, %lu failed\n", passed, failed);
+    return failed == 0 && passed > 0 ? EXIT_SUCCESS : EXIT_FAILURE;
+}

@@ -1,0 +1,60 @@
+/* Schedules for the harness, built record by record. */
+#ifndef PLAN_H
+#define PLAN_H
+
+#include <stddef.h>
+#include <stdint.h>
+#include <string.h>
+
+enum { STEP, LOOKUP, INSERT, REMOVE, SPLIT, JOIN };
+enum { MOST_RECORDS = 4096, ROOM = 3 + 2 * (MOST_RECORDS + 1) };
+
+struct plan {
+    uint8_t file[ROOM];
+    size_t length;
+};
+
+static inline size_t plan_count(const struct plan *p)
+{
+    return (p->length - 3) / 2;
+}
+
+static inline void plan_empty(struct plan *p)
+{
+    static const uint8_t header[3] = {1, 0, 0};
+    memcpy(p->file, header, sizeof header);
+    p->length = sizeof header;
+}
+
+static inline void plan_record(struct plan *p, unsigned first, unsigned second)
+{
+    p->file[p->length++] = (uint8_t)first;
+    p->file[p->length++] = (uint8_t)second;
+    p->file[1] = (uint8_t)(plan_count(p) >> 8);
+    p->file[2] = (uint8_t)plan_count(p);
+}
+
+static inline void plan_steps(struct plan *p, unsigned thread, unsigned steps)
+{
+    while (steps-- > 0)
+        plan_record(p, 16 * thread, 0);
+}
+
+/* A start and its steps with nobody in between. */
+static inline void plan_alone(struct plan *p, unsigned thread, unsigned action, unsigned station,
+                              unsigned steps)
+{
+    plan_record(p, 16 * thread + action, station);
+    plan_steps(p, thread, steps);
+}
+
+/* The paper's printed run: t0 insert 3, insert 9, split 3. */
+static inline void plan_printed_run(struct plan *p)
+{
+    plan_empty(p);
+    plan_alone(p, 0, INSERT, 3, 3);
+    plan_alone(p, 0, INSERT, 9, 3);
+    plan_alone(p, 0, SPLIT, 3, 3);
+}
+
+#endif

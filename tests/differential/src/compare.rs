@@ -1,0 +1,161 @@
+//! One file through the library and the reference: every field and every byte of every buffer.
+
+use crate::guard::Guarded;
+use crate::library;
+use crate::rng::Rng;
+use reference::{Counter, Observer, LIST_BUFFER, MAX_RECORDS};
+use std::fmt::Debug;
+
+/// The most a buffer is longer than it need be.
+const SLACK: usize = 300;
+
+/// The memory lent to the library and its twins for the reference.
+pub struct Comparer {
+    file: Guarded,
+    buffer: Guarded,
+    twin: Vec<u8>,
+    /// What the reference reached.
+    pub counter: Counter,
+    /// Records carried out, each file counted once.
+    pub records: u64,
+}
+
+impl Comparer {
+    /// For files of at most `longest` bytes.
+    pub fn new(longest: usize) -> Self {
+        Comparer {
+            file: Guarded::new(longest),
+            buffer: Guarded::new(2 * MAX_RECORDS + SLACK),
+            twin: Vec::new(),
+            counter: Counter::new(),
+            records: 0,
+        }
+    }
+
+    /// Compares Run and List on a file, with buffers of several lengths; the first difference ends it.
+    pub fn file(&mut self, file: &[u8], rng: &mut Rng) -> Result<(), String> {
+        let need = 2 * claimed(file);
+        self.run(file, need, rng, true)?;
+        self.run(file, need + 1 + rng.below(SLACK), rng, false)?;
+        if need > 0 {
+            self.run(file, need - 1, rng, false)?;
+            self.run(file, rng.below(need), rng, false)?;
+        }
+        self.list(file, LIST_BUFFER, rng)?;
+        self.list(file, LIST_BUFFER + 1 + rng.below(SLACK), rng)?;
+        self.list(file, LIST_BUFFER - 1, rng)?;
+        self.list(file, rng.below(LIST_BUFFER), rng)
+    }
+
+    fn run(&mut self, file: &[u8], room: usize, rng: &mut Rng, counts: bool) -> Result<(), String> {
+        let mut ignored = Counter::new();
+        let counter = if counts {
+            &mut self.counter
+        } else {
+            &mut ignored
+        };
+        let place = prepare(
+            &mut self.file,
+            &mut self.buffer,
+            &mut self.twin,
+            file,
+            room,
+            rng,
+        );
+        let expected = reference::run_observed(file, &mut self.twin[place.buffer.clone()], counter);
+        let lent = &mut self.buffer.bytes_mut()[place.buffer.clone()];
+        let got = library::run(&self.file.bytes()[place.file.clone()], lent);
+        if counts {
+            self.records += expected.records;
+        } else if expected.refusal == 5 {
+            self.counter.refusal(5, 0);
+        }
+        self.judge("Run", room, file, place, (got, expected))
+    }
+
+    fn list(&mut self, file: &[u8], room: usize, rng: &mut Rng) -> Result<(), String> {
+        let place = prepare(
+            &mut self.file,
+            &mut self.buffer,
+            &mut self.twin,
+            file,
+            room,
+            rng,
+        );
+        let expected = reference::list(file, &mut self.twin[place.buffer.clone()]);
+        let lent = &mut self.buffer.bytes_mut()[place.buffer.clone()];
+        let got = library::list(&self.file.bytes()[place.file.clone()], lent);
+        if expected.refusal == 6 {
+            self.counter.refusal(6, 0);
+        }
+        self.judge("List", room, file, place, (got, expected))
+    }
+
+    fn judge<R: Debug + PartialEq>(
+        &self,
+        name: &str,
+        room: usize,
+        file: &[u8],
+        place: Place,
+        (got, expected): (R, R),
+    ) -> Result<(), String> {
+        if got != expected {
+            return Err(format!(
+                "{name} with {room} bytes gives {got:?}, not {expected:?}"
+            ));
+        }
+        let bytes = self.buffer.bytes();
+        if bytes != self.twin {
+            let at = (0..bytes.len())
+                .find(|&i| bytes[i] != self.twin[i])
+                .expect("they differ");
+            let offset = at as isize - place.buffer.start as isize;
+            let (got, expected) = (bytes[at], self.twin[at]);
+            return Err(format!(
+                "{name} with {room} bytes: byte {offset} is {got}, not {expected}"
+            ));
+        }
+        if self.file.bytes()[place.file] != *file {
+            return Err(format!("{name} wrote to the schedule"));
+        }
+        Ok(())
+    }
+}
+
+/// Where the file and the buffer were lent.
+struct Place {
+    file: std::ops::Range<usize>,
+    buffer: std::ops::Range<usize>,
+}
+
+/// Copies the file in, and fills the buffer's whole memory and its twin with one random pattern.
+fn prepare(
+    memory: &mut Guarded,
+    buffer: &mut Guarded,
+    twin: &mut Vec<u8>,
+    file: &[u8],
+    room: usize,
+    rng: &mut Rng,
+) -> Place {
+    let at_start = rng.once_in(2);
+    let place = Place {
+        file: memory.place(file.len(), at_start),
+        buffer: buffer.place(room, at_start),
+    };
+    memory.bytes_mut()[place.file.clone()].copy_from_slice(file);
+    let (first, stride) = (rng.byte(), rng.byte() | 1);
+    twin.clear();
+    twin.extend(
+        (0..buffer.bytes().len()).map(|i| first.wrapping_add((i as u8).wrapping_mul(stride))),
+    );
+    buffer.bytes_mut().copy_from_slice(twin);
+    place
+}
+
+/// The count that the header states, as far as there is a header, and no more than a file may hold.
+fn claimed(file: &[u8]) -> usize {
+    match file {
+        [_, high, low, ..] => usize::from(u16::from_be_bytes([*high, *low])).min(MAX_RECORDS),
+        _ => 0,
+    }
+}

@@ -1,0 +1,76 @@
+//! The coverage table: every place, every turn from place to place, every refusal; what must be reached.
+
+use reference::{Counter, PLACES, PLACE_LIMIT, REFUSALS};
+
+/// The swaps that need new node numbers and can be short of them.
+const FULL_PLACES: [u8; 7] = [10, 11, 13, 25, 27, 29, 35];
+
+/// Turns from place to place that matter by themselves: kills, help, lost swaps, aborted joins.
+/// 0 stands for a finish.
+const TURNS: [(u8, u8, &str); 24] = [
+    (3, 15, "an update meets a join"),
+    (10, 15, "an update loses the root"),
+    (11, 15, "an update loses on the left"),
+    (12, 15, "an update's base is gone"),
+    (13, 15, "an update loses on the right"),
+    (15, 1, "a normal base, or a join over"),
+    (15, 16, "a join to kill"),
+    (15, 40, "a join to help"),
+    (21, 0, "a join's base is gone"),
+    (24, 0, "a join meets a join"),
+    (25, 0, "a join loses its base"),
+    (27, 38, "a join loses its neighbour on the left"),
+    (28, 38, "a join's neighbour is gone"),
+    (29, 38, "a join loses its neighbour on the right"),
+    (30, 38, "the parent is marked"),
+    (33, 37, "the grandparent is marked"),
+    (35, 36, "killed late, with a grandparent"),
+    (35, 37, "killed late, with none"),
+    (40, 0, "the owner finds the join done"),
+    (40, 1, "a helper finds the join done"),
+    (43, 45, "the union node is in already"),
+    (48, 50, "the parent is out already"),
+    (51, 0, "the owner ends the join"),
+    (51, 1, "a helper ends the join"),
+];
+
+/// Prints the table; hands back what was never reached.
+pub fn report(counter: &Counter) -> Vec<String> {
+    let mut missing = Vec::new();
+    let mut need = |count: u64, what: String| {
+        if count == 0 {
+            missing.push(what);
+        }
+        count
+    };
+    println!("place      reached  led to (0: finished)");
+    for place in PLACES {
+        let turns: Vec<String> = (0..PLACE_LIMIT as u8)
+            .filter(|&next| counter.turn(place, next) > 0)
+            .map(|next| format!("{next}: {}", counter.turn(place, next)))
+            .collect();
+        let count = need(counter.place(place), format!("place {place}"));
+        println!("{place:5} {count:12}  {}", turns.join(", "));
+    }
+    println!("refusal    reached");
+    for number in 1..REFUSALS as u8 {
+        println!(
+            "{number:7} {:10}",
+            need(counter.refusals(number), format!("refusal {number}"))
+        );
+    }
+    for place in FULL_PLACES {
+        let what = format!("refusal 13 at place {place}");
+        println!(
+            "{what}: {}",
+            need(counter.refusals_at(13, place), what.clone())
+        );
+    }
+    for (place, next, meaning) in TURNS {
+        need(
+            counter.turn(place, next),
+            format!("the turn from {place} to {next} ({meaning})"),
+        );
+    }
+    missing
+}

@@ -1,0 +1,11 @@
+//! What the differential tests and the benchmark share: the library's C interface, schedules and checks.
+
+pub mod answers;
+pub mod compare;
+pub mod coverage;
+pub mod guard;
+pub mod library;
+pub mod plan;
+pub mod random;
+pub mod rng;
+pub mod systematic;

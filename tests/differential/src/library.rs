@@ -1,0 +1,68 @@
+//! The library through include/nuxalder.h.
+
+use reference::{ListReport, RunReport};
+
+extern "C" {
+    fn nuxalder_run(
+        file: *const u8,
+        length: usize,
+        rows: *mut u8,
+        rows_length: usize,
+        report: *mut u64,
+    );
+    fn nuxalder_list(
+        file: *const u8,
+        length: usize,
+        text: *mut u8,
+        text_length: usize,
+        report: *mut u64,
+    );
+}
+
+type Raw = unsafe extern "C" fn(*const u8, usize, *mut u8, usize, *mut u64);
+
+const CANARY: u64 = 0x5A5A_A5A5_1234_8765;
+
+/// Calls with a report of `N` fields between two words that must stay.
+#[inline]
+fn call<const N: usize, const WORDS: usize>(
+    function: Raw,
+    file: &[u8],
+    buffer: &mut [u8],
+) -> [u64; N] {
+    let mut words = [CANARY; WORDS];
+    // The slices are valid for their lengths and do not overlap, and the report has N fields.
+    unsafe {
+        function(
+            file.as_ptr(),
+            file.len(),
+            buffer.as_mut_ptr(),
+            buffer.len(),
+            words[1..].as_mut_ptr(),
+        );
+    }
+    assert!(
+        words[0] == CANARY && words[N + 1] == CANARY,
+        "the library wrote outside its report"
+    );
+    std::array::from_fn(|i| words[i + 1])
+}
+
+#[inline]
+pub fn run(file: &[u8], rows: &mut [u8]) -> RunReport {
+    let [refusal, records, rows, set, stored, used] = call::<6, 8>(nuxalder_run, file, rows);
+    RunReport {
+        refusal,
+        records,
+        rows,
+        set,
+        stored,
+        used,
+    }
+}
+
+#[inline]
+pub fn list(file: &[u8], text: &mut [u8]) -> ListReport {
+    let [refusal, length] = call::<2, 4>(nuxalder_list, file, text);
+    ListReport { refusal, length }
+}

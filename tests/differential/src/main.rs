@@ -1,0 +1,131 @@
+//! Compares the library with the reference and prints what was covered.
+//!
+//! `differential [--files N] [--records N] [--seed S] [--trace]`: the systematic files, then random ones
+//! until there are N files and N records carried out. `--trace` names each file before it is run.
+
+use differential::compare::Comparer;
+use differential::rng::Rng;
+use differential::{answers, coverage, random, systematic};
+use std::path::Path;
+use std::process::ExitCode;
+
+const DEFAULT_FILES: u64 = 20_000;
+const DEFAULT_SEED: u64 = 0x6E75_7861_6C64_6572;
+const MOST_FAILURES: u64 = 10;
+
+struct Options {
+    files: u64,
+    records: u64,
+    seed: u64,
+    trace: bool,
+}
+
+fn options() -> Result<Options, String> {
+    let mut options = Options {
+        files: DEFAULT_FILES,
+        records: 0,
+        seed: DEFAULT_SEED,
+        trace: false,
+    };
+    let mut words = std::env::args().skip(1);
+    while let Some(word) = words.next() {
+        let mut number = || {
+            let value = words.next().ok_or(format!("{word} needs a number"))?;
+            value.parse().map_err(|_| format!("{value} is no number"))
+        };
+        match word.as_str() {
+            "--files" => options.files = number()?,
+            "--records" => options.records = number()?,
+            "--seed" => options.seed = number()?,
+            "--trace" => options.trace = true,
+            _ => return Err(format!("unknown word {word}")),
+        }
+    }
+    Ok(options)
+}
+
+struct Session {
+    comparer: Comparer,
+    rng: Rng,
+    trace: bool,
+    passed: u64,
+    failed: u64,
+}
+
+impl Session {
+    fn file(&mut self, name: &str, file: &[u8]) {
+        let number = self.passed + self.failed;
+        if self.failed == MOST_FAILURES {
+            return;
+        }
+        if self.trace {
+            println!("file {number} ({name}), {} bytes", file.len());
+        }
+        let rule = answers::check(file.get(3..).unwrap_or(&[]));
+        match rule.and_then(|()| self.comparer.file(file, &mut self.rng)) {
+            Ok(()) => self.passed += 1,
+            Err(why) => {
+                self.failed += 1;
+                println!("FAILED: file {number} ({name}): {why}");
+                self.keep(number, file);
+            }
+        }
+    }
+
+    /// Leaves a failing file beside the build.
+    fn keep(&self, number: u64, file: &[u8]) {
+        let folder = std::env::var_os("CARGO_TARGET_DIR").unwrap_or_else(|| ".".into());
+        let path = Path::new(&folder).join(format!("differential-{number}.schedule"));
+        match std::fs::write(&path, file) {
+            Ok(()) => println!("  kept as {}", path.display()),
+            Err(why) => println!("  not kept: {why}"),
+        }
+    }
+}
+
+fn main() -> ExitCode {
+    let options = match options() {
+        Ok(options) => options,
+        Err(why) => {
+            eprintln!("differential: {why}");
+            return ExitCode::from(2);
+        }
+    };
+    let mut session = Session {
+        comparer: Comparer::new(random::LONGEST_FILE),
+        rng: Rng::new(!options.seed),
+        trace: options.trace,
+        passed: 0,
+        failed: 0,
+    };
+    systematic::each(&mut |name, file| session.file(name, &file));
+    let systematic = session.passed + session.failed;
+    let mut rng = Rng::new(options.seed);
+    let mut files = 0;
+    while (files < options.files || session.comparer.records < options.records)
+        && session.failed < MOST_FAILURES
+    {
+        let (name, file) = random::file(&mut rng);
+        session.file(name, &file);
+        files += 1;
+    }
+    let missing = coverage::report(&session.comparer.counter);
+    for what in &missing {
+        println!("FAILED: {what} was never reached");
+    }
+    println!(
+        "seed {}: {systematic} systematic and {files} random files, {} records",
+        options.seed, session.comparer.records
+    );
+    let mut failed = session.failed + missing.len() as u64;
+    if systematic == 0 || files == 0 {
+        println!("FAILED: there were no files of one kind");
+        failed += 1;
+    }
+    println!("{} passed, {failed} failed", session.passed);
+    if failed == 0 {
+        ExitCode::SUCCESS
+    } else {
+        ExitCode::FAILURE
+    }
+}

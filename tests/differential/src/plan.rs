@@ -1,0 +1,108 @@
+//! A schedule under construction, carried out on a reference bench as it grows.
+
+use reference::{Bench, CAPACITY, MAX_RECORDS, STEP};
+
+/// No operation alone takes more steps than this: 63 routes down and up, and the places around them.
+const LONGEST_ALONE: usize = 400;
+
+pub struct Plan {
+    records: Vec<u8>,
+    bench: Bench,
+    refused: bool,
+}
+
+impl Plan {
+    pub fn new() -> Self {
+        Plan {
+            records: Vec::new(),
+            bench: Bench::new(),
+            refused: false,
+        }
+    }
+
+    pub fn count(&self) -> usize {
+        self.records.len() / 2
+    }
+
+    /// Nothing more can be added or carried out.
+    pub fn is_over(&self) -> bool {
+        self.refused || self.count() == MAX_RECORDS
+    }
+
+    pub fn place(&self, thread: u8) -> u8 {
+        self.bench.place(thread.into())
+    }
+
+    pub fn is_idle(&self, thread: u8) -> bool {
+        self.place(thread) == 0
+    }
+
+    /// Node numbers left.
+    pub fn left(&self) -> usize {
+        CAPACITY - self.bench.used()
+    }
+
+    /// Adds a record as it is, unless the file is full.
+    pub fn record(&mut self, first: u8, second: u8) {
+        if self.count() == MAX_RECORDS {
+            return;
+        }
+        self.records.extend([first, second]);
+        if !self.refused {
+            self.refused = self.bench.record(first, second).is_err();
+        }
+    }
+
+    pub fn start(&mut self, thread: u8, action: u8, station: u8) {
+        self.record(16 * thread + action, station);
+    }
+
+    pub fn step(&mut self, thread: u8) {
+        self.record(16 * thread + STEP, 0);
+    }
+
+    /// Steps a thread if it is busy.
+    pub fn advance(&mut self, thread: u8) {
+        if !self.is_over() && !self.is_idle(thread) {
+            self.step(thread);
+        }
+    }
+
+    /// Steps a thread until it is idle or at a place that `stop` names.
+    pub fn until(&mut self, thread: u8, stop: impl Fn(u8) -> bool) {
+        let mut steps = 0;
+        while !self.is_over() && !self.is_idle(thread) && !stop(self.place(thread)) {
+            self.step(thread);
+            steps += 1;
+            assert!(steps < LONGEST_ALONE, "thread {thread} does not end");
+        }
+    }
+
+    pub fn finish(&mut self, thread: u8) {
+        self.until(thread, |_| false);
+    }
+
+    pub fn finish_all(&mut self) {
+        (0..4).for_each(|thread| self.finish(thread));
+    }
+
+    /// An operation of an idle thread with nobody in between.
+    pub fn alone(&mut self, thread: u8, action: u8, station: u8) {
+        if !self.is_over() && self.is_idle(thread) {
+            self.start(thread, action, station);
+            self.finish(thread);
+        }
+    }
+
+    /// The schedule file.
+    pub fn file(&self) -> Vec<u8> {
+        let count = self.count() as u16;
+        [&[1], &count.to_be_bytes()[..], &self.records].concat()
+    }
+}
+
+impl Default for Plan {
+    fn default() -> Self {
+        Self::new()
+    }
+}

@@ -1,0 +1,244 @@
+//! Random schedules: short and long, uniform, in bursts and with stalled threads, wild bytes, bad headers.
+
+use crate::plan::Plan;
+use crate::rng::Rng;
+use crate::systematic;
+use reference::{INSERT, LOOKUP, MAX_RECORDS, SPLIT};
+
+/// The longest file that is made: the most records that a header can state, and a few bytes.
+pub const LONGEST_FILE: usize = 3 + 2 * 65535 + 8;
+
+/// How often each action from lookup to join is started.
+const MIXES: [[usize; 5]; 5] = [
+    [1, 1, 1, 1, 1],
+    [1, 6, 2, 6, 8],
+    [1, 2, 1, 8, 14],
+    [4, 8, 8, 1, 1],
+    [96, 1, 1, 1, 1],
+];
+
+/// Who has the next turn.
+#[derive(Clone, Copy)]
+enum Order {
+    Uniform,
+    Burst,
+    Stalls,
+}
+
+/// A random file with the name of its kind.
+pub fn file(rng: &mut Rng) -> (&'static str, Vec<u8>) {
+    match rng.weighted(&[80, 6, 6, 6, 2]) {
+        0 => ("mixed", mixed(rng, usize::MAX)),
+        1 => ("wild", wild(rng)),
+        2 => ("bad header", bad_header(rng)),
+        3 => ("short of numbers", short_of_numbers(rng)),
+        _ => ("deep", deep(rng)),
+    }
+}
+
+/// An unrefused file of exactly `count` records, for the benchmark.
+pub fn steady(rng: &mut Rng, count: usize) -> Vec<u8> {
+    let mut plan = Plan::new();
+    let style = Style {
+        order: Order::Burst,
+        threads: 4,
+        mix: MIXES[0],
+        stations: !0,
+        spare: 16,
+    };
+    turns(&mut plan, rng, &style, count);
+    plan.file()
+}
+
+fn length(rng: &mut Rng) -> usize {
+    match rng.weighted(&[66, 24, 10]) {
+        0 => rng.below(65),
+        1 => rng.below(600),
+        _ if rng.once_in(2) => MAX_RECORDS,
+        _ => rng.below(MAX_RECORDS + 1),
+    }
+}
+
+struct Style {
+    order: Order,
+    threads: usize,
+    mix: [usize; 5],
+    /// A mask of the stations to work on.
+    stations: u64,
+    /// Only lookups are started once fewer node numbers are left.
+    spare: usize,
+}
+
+impl Style {
+    fn random(rng: &mut Rng) -> Self {
+        let stations = match rng.below(4) {
+            0 => !0,
+            1 => 0b111 << rng.below(62),
+            2 => rng.word() & rng.word() & rng.word() | 1 << rng.below(64),
+            _ => 1 << 3 | 1 << 9 | 1 << 20 | 1 << 40,
+        };
+        Style {
+            order: rng.pick(&[Order::Uniform, Order::Burst, Order::Stalls, Order::Stalls]),
+            threads: rng.pick(&[1, 2, 3, 4, 4, 4]),
+            mix: rng.pick(&MIXES),
+            stations,
+            spare: rng.pick(&[0, 16, 16, 100, 200]),
+        }
+    }
+
+    fn start(&self, plan: &mut Plan, rng: &mut Rng, thread: u8) {
+        let action = if plan.left() < self.spare {
+            LOOKUP
+        } else {
+            1 + rng.weighted(&self.mix) as u8
+        };
+        let skipped = rng.below(self.stations.count_ones() as usize);
+        let rest = (0..skipped).fold(self.stations, |rest, _| rest & (rest - 1));
+        plan.start(thread, action, rest.trailing_zeros() as u8);
+    }
+}
+
+/// Adds turns up to `count` records.
+fn turns(plan: &mut Plan, rng: &mut Rng, style: &Style, count: usize) {
+    let mut thread = 0;
+    let mut burst = 0;
+    let mut stalled = [0usize; 4];
+    while plan.count() < count && !plan.is_over() {
+        match style.order {
+            Order::Burst if burst > 0 => burst -= 1,
+            Order::Burst => {
+                thread = rng.below(style.threads);
+                burst = rng.below(40);
+            }
+            Order::Uniform => thread = rng.below(style.threads),
+            Order::Stalls => {
+                let awake: Vec<usize> = (0..style.threads).filter(|&t| stalled[t] == 0).collect();
+                thread = if awake.is_empty() {
+                    rng.below(style.threads)
+                } else {
+                    rng.pick(&awake)
+                };
+                stalled
+                    .iter_mut()
+                    .for_each(|turns| *turns = turns.saturating_sub(1));
+                if plan.place(thread as u8) >= 10 && rng.once_in(8) {
+                    stalled[thread] = rng.below(100);
+                    continue;
+                }
+            }
+        }
+        if plan.is_idle(thread as u8) {
+            style.start(plan, rng, thread as u8);
+        } else {
+            plan.step(thread as u8);
+        }
+    }
+}
+
+/// Valid turns, then perhaps a fault and more.
+fn mixed(rng: &mut Rng, most: usize) -> Vec<u8> {
+    let mut plan = Plan::new();
+    if rng.once_in(2) {
+        systematic::grow(&mut plan, rng.below(16));
+    }
+    let count = (plan.count() + length(rng)).min(most);
+    let style = Style::random(rng);
+    turns(&mut plan, rng, &style, count);
+    if rng.once_in(8) {
+        let (first, second) = fault(rng);
+        plan.record(first, second);
+    }
+    for _ in 0..rng.pick(&[0, 0, 0, 3]) {
+        plan.record(rng.byte(), rng.byte());
+    }
+    plan.file()
+}
+
+/// A record that is likely to be refused.
+fn fault(rng: &mut Rng) -> (u8, u8) {
+    let thread = 16 * rng.below(4) as u8;
+    match rng.below(5) {
+        0 => (64 + rng.byte() % 192, rng.byte()),
+        1 => (thread + 6 + rng.below(10) as u8, rng.byte()),
+        2 => (thread + 1 + rng.below(5) as u8, 64 + rng.byte() % 192),
+        3 => (thread, rng.byte()),
+        _ => (thread + rng.below(6) as u8, 0),
+    }
+}
+
+/// A good header over records that are good only now and then.
+fn wild(rng: &mut Rng) -> Vec<u8> {
+    let mut plan = Plan::new();
+    for _ in 0..rng.below(120) {
+        let thread = rng.below(4) as u8;
+        if rng.once_in(12) {
+            plan.record(rng.byte(), rng.byte());
+        } else if plan.is_idle(thread) {
+            plan.start(thread, 1 + rng.below(5) as u8, rng.byte() % 66);
+        } else {
+            plan.step(thread);
+        }
+    }
+    plan.file()
+}
+
+/// A file with one header fault or several.
+fn bad_header(rng: &mut Rng) -> Vec<u8> {
+    let mut file = mixed(rng, 40);
+    for _ in 0..1 + rng.below(2) {
+        match rng.below(7) {
+            0 => file.truncate(rng.below(4)),
+            1 if !file.is_empty() => file[0] = rng.byte(),
+            2 if file.len() > 2 => file[1] = rng.byte(),
+            3 if file.len() > 2 => {
+                file[2] = file[2].wrapping_add(1).wrapping_sub(2 * (rng.byte() & 1))
+            }
+            4 => file.extend((0..1 + rng.below(3)).map(|i| i as u8)),
+            5 => file.truncate(file.len().saturating_sub(1 + rng.below(3))),
+            _ => {
+                let count = MAX_RECORDS + rng.below(3);
+                file.resize(3, 1);
+                file[1..].copy_from_slice(&(count as u16).to_be_bytes());
+                file.resize(3 + 2 * count, 0);
+            }
+        }
+    }
+    file
+}
+
+/// Turns on with no more than a few node numbers left.
+fn short_of_numbers(rng: &mut Rng) -> Vec<u8> {
+    let mut plan = Plan::new();
+    systematic::grow(&mut plan, rng.below(16));
+    let left = rng.below(8);
+    while plan.left() > left && !plan.is_over() {
+        plan.alone(3, INSERT, rng.pick(&[3, 9, 20, 40]));
+    }
+    let style = Style {
+        mix: rng.pick(&MIXES[..3]),
+        spare: 0,
+        ..Style::random(rng)
+    };
+    let count = plan.count() + rng.below(400);
+    turns(&mut plan, rng, &style, count);
+    plan.file()
+}
+
+/// A chain of routes as deep as the records allow, to one side or the other.
+fn deep(rng: &mut Rng) -> Vec<u8> {
+    let mut plan = Plan::new();
+    let down = rng.once_in(2);
+    let levels = rng.pick(&[10, 40, 64]);
+    for level in 0..levels {
+        let station = if down { 63 - level } else { level };
+        plan.alone(level % 4, INSERT, station);
+        plan.alone(level % 4, SPLIT, station);
+    }
+    let style = Style {
+        spare: 3,
+        ..Style::random(rng)
+    };
+    let count = plan.count() + rng.below(200);
+    turns(&mut plan, rng, &style, count);
+    plan.file()
+}

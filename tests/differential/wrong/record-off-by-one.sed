@@ -1,0 +1,2 @@
+# src/file.rs: counts the refused record as done.
+s/return (number, done)/return (number, done + 1)/

@@ -1,0 +1,191 @@
+"""Tests of run and trace: the gallery and the vectors against their printed runs, and the figures of 01."""
+
+import os
+import re
+import shutil
+import time
+from collections import Counter
+
+import bench
+import text_form
+from checks import EXAMPLES, OUT, VECTORS, Expected, cut, examples, file_of, tool
+
+TRACE_SECONDS_MOST = 15  # for 4,096 records, on a machine that does other work too
+
+# What 01 says of its runs, as the trace must tell it: who finishes at which own step.
+FIGURES = {
+    "insert": ["insert 9, own step 3, row: t0 insert 9 yes"],
+    "insert-twice": ["own step 3, row: t0 insert 9 yes", "own step 3, row: t0 insert 9 no"],
+    "concurrent-inserts": ["own step 3, row: t0 insert 3 yes", "own step 7, row: t1 insert 9 yes"],
+    "single-station-split": ["split 3, own step 2, row: t0 split 3 no"],
+    "join": ["join 3, own step 21, row: t0 join 3 yes"],
+    "killed-join": ["own step 10, row: t1 insert 4 yes", "own step 16, row: t0 join 3 no"],
+    "late-lookup": ["own step 21, row: t0 join 3 yes", "own step 2, row: t1 lookup 3 yes"],
+    "lost-insert": ["own step 21, row: t0 join 3 yes", "own step 9, row: t1 insert 4 yes"],
+    "helped-join": ["own step 20, row: t1 insert 10 yes", "own step 18, row: t0 join 12 yes"],
+    "refused-7-thread": ["raw 40 00", "refused 7: a thread over 3"],
+    "refused-12-idle": ["refused 12: a step of an idle thread"],
+    "refused-13-numbers": ["turn 1024  t0 step         refused 13", "records 1023 of 1024 refusal 13"],
+    "refused-3-count": ["refused 3: a count over 4,096"],
+}
+
+# Bytes that 01 gives for a file.
+BYTES = {
+    "empty": "010000",
+    "insert": "0100040209000000000000",
+    "refused-7-thread": "0100014000",
+    "refused-12-idle": "0100013000",
+    "refused-8-action": "0100010600",
+}
+
+TRACED = ["printed-run", "killed-join", "late-lookup", "helped-join", "refused-11-busy", "full-schedule"]
+
+
+def runs(checks):
+    checks.group("gallery: printed runs")
+    checks.that("target/bin/bench is there", bench.PROGRAM.is_file() or os.environ.get("HANDS_ON_WITHOUT_PROGRAM"))
+    names = {path.stem for path in examples()}
+    checks.equal("each schedule has its printed run", {path.stem for path in EXAMPLES.glob("*.printed")}, names)
+    checks.that("the gallery is whole", set(FIGURES) | set(BYTES) | set(TRACED) <= names, names)
+    for path in examples():
+        expected = (0, path.with_suffix(".printed").read_bytes(), "")
+        checks.equal(f"run {path.name}", tool("run", path), expected)
+        checks.equal(f"run --library {path.name}", tool("run", "--library", path), expected)
+        comment = [line for line in path.read_text().splitlines() if line.startswith("#")]
+        checks.that(f"{path.name} says what to look at", any("Look at" in line for line in comment))
+    for name, file in BYTES.items():
+        checks.equal(f"bytes of {name}", file_of(EXAMPLES / f"{name}.txt").hex(), file)
+    checks.equal("8,195 bytes hold 4,096 records", len(file_of(EXAMPLES / "full-schedule.txt")), 8195)
+
+
+def vectors(checks):
+    checks.group("vectors: printed runs and round trips")
+    files = sorted(VECTORS.glob("*.schedule"))
+    checks.that("there are vectors", len(files) >= 50, len(files))
+    for path in files:
+        file = path.read_bytes()
+        expected = path.with_suffix(".printed").read_text()
+        checks.that(f"library on {path.name}", bench.printed_by_library(file) == expected)
+        text = text_form.decode(file)
+        checks.that(f"round trip of {path.name}", text_form.encode(text.encode(), path.name) == file)
+        if len(file) > 3 and file[0] == 1:
+            checks.that(f"{path.name} is no text", not text_form.is_text(file))
+        checks.that(f"the text of {path.name} is text", text_form.is_text(text.encode()))
+
+
+def replay(lines):
+    """After each turn of a trace: the tree's lines as a bag, the rows so far and the counts line."""
+    bag, rows, counts, states = Counter(), [], "", []
+    for line in lines:
+        if re.match(r"turn \d+ ", line):
+            if ", row: " in line:
+                rows.append(line.split(", row: ")[1])
+            states.append(None)
+        elif line.startswith("           + "):
+            bag[line[13:]] += 1
+        elif line.startswith("           - "):
+            bag[line[13:]] -= 1
+        elif line.startswith("           stored "):
+            counts = line.strip()
+        states[-1] = (+bag, list(rows), counts)
+    return states
+
+
+def sample(file, last):
+    """Turns worth a look: the first and last ones, and some between."""
+    return sorted({0, 1, 2, last - 1, last} & set(range(last + 1)) | {last * part // 9 for part in range(9)})
+
+
+def traces(checks):
+    checks.group("trace")
+    for name in TRACED:
+        path = EXAMPLES / f"{name}.txt"
+        file = file_of(path)
+        since = time.time()
+        status, out, err = tool("trace", path)
+        took = time.time() - since
+        checks.that(f"trace {name} takes {took:.1f} s", took < TRACE_SECONDS_MOST)
+        lines = out.decode().splitlines()
+        whole = Expected(file, len(text_form.records_of(file)))
+        last = whole.done + (1 if whole.refusal else 0)
+        states = replay(lines[:-1])
+        checks.equal(f"trace {name} has all turns", (status, err, len(states)), (0, "", last + 1))
+        head = path.with_suffix(".printed").read_text().splitlines()[0]
+        checks.equal(f"trace {name} ends with the head of the run", lines[-1], head)
+        binary = OUT / f"{name}.schedule"
+        binary.write_bytes(file)
+        checks.that(f"trace of the binary {name} is the same", tool("trace", binary)[1] == out)
+        for turn in sample(file, last):
+            expected = Expected(file, turn)
+            counts = f"stored {expected.stored} used {expected.used}"
+            checks.equal(f"{name} turn {turn}", states[turn], (Counter(expected.listing), expected.rows, counts))
+            one_turn(checks, path, turn, expected, counts)
+    for name, texts in FIGURES.items():
+        told = tool("trace", EXAMPLES / f"{name}.txt")[1].decode()
+        checks.that(f"the figures of 01 for {name}", all(text in told for text in texts), told)
+
+
+def one_turn(checks, path, turn, expected, counts):
+    """--at: the whole listing, the row of this turn and what is open."""
+    status, out, err = tool("trace", path, "--at", turn)
+    lines = out.decode().splitlines()
+    tree = [line[13:] for line in lines if re.match(r" {11}[+ ] (\d|set)", line)]
+    opened = [f"t{thread} {given[0]}" for thread, given in expected.open.items() if given]
+    checks.equal(f"--at {turn} of {path.stem}", (status, err, tree, lines[-1].strip()), (0, "", expected.listing, counts))
+    checks.that(f"--at {turn}: open", f"           open: {', '.join(opened) or '-'}" in lines, lines)
+    if ", row: " in lines[0]:
+        checks.equal(f"--at {turn}: row", lines[0].split(", row: ")[1], expected.rows[-1])
+
+
+def errors(checks):
+    checks.group("errors")
+
+    def refused(what, says, *arguments, env=None, status=1):
+        got, out, err = tool(*arguments, env=env)
+        checks.that(what, got == status and out == b"" and says in err and "Traceback" not in err, (got, out, err))
+
+    example = EXAMPLES / "printed-run.txt"
+    refused("no such file", "nowhere.txt", "run", "nowhere.txt")
+    refused("a directory", "examples", "trace", EXAMPLES)
+    refused("no library", "rt staticlib collector", "trace", example, env={"NUXALDER_LIB": "/nowhere/libcollector.a"})
+    refused("a turn too far", "turns 0 to 12", "trace", example, "--at", "13")
+    refused("a turn before the first", "turns 0 to 12", "trace", example, "--at", "-1")
+    refused("a turn of a refused file", "refused 4", "trace", EXAMPLES / "refused-4-length.txt", "--at", "0")
+    refused("a schedule file given to encode", "schedule decode", "encode", VECTORS / "0000.schedule")
+    refused("text given to decode", "text already", "decode", example)
+    refused("a page that cannot be written", "nowhere", "show", example, "--html", "/nowhere/page.html")
+    refused("no command", "usage", status=2)
+    broken = OUT / "broken" / "libcollector.a"
+    broken.parent.mkdir(exist_ok=True)
+    broken.write_bytes(b"!<arch>\n")
+    refused("a library without the functions", "cannot link", "trace", example, env={"NUXALDER_LIB": str(broken)})
+    checks.equal("an empty file is a short schedule", tool("run", "-")[1], b"records 0 of 0 refusal 1\n")
+    checks.that("as text it is an empty schedule", b"of 0 refusal 0" in tool("run", "-", "--as", "text", "--library")[1])
+
+
+def rebuilds(checks):
+    checks.group("the helper is linked anew")
+    copy = OUT / "copy" / "libcollector.a"
+    copy.parent.mkdir(exist_ok=True)
+    shutil.copyfile(bench.library(), copy)
+    os.environ["NUXALDER_LIB"], before = str(copy), os.environ.get("NUXALDER_LIB")
+    try:
+        program = bench.helper()
+        made = program.stat().st_mtime_ns
+        checks.equal("not while it is newer", bench.helper().stat().st_mtime_ns, made)
+        os.utime(program, (0, 0))
+        checks.that("when the library is newer", bench.helper().stat().st_mtime_ns > made)
+        checks.equal("and answers", bench.answers(cut(file_of(EXAMPLES / "insert.txt"), 4)).whole.rows, ["t0 insert 9 yes"])
+    finally:
+        del os.environ["NUXALDER_LIB"]
+        if before is not None:
+            os.environ["NUXALDER_LIB"] = before
+
+
+def all_of(checks):
+    OUT.mkdir(parents=True, exist_ok=True)
+    runs(checks)
+    vectors(checks)
+    traces(checks)
+    errors(checks)
+    rebuilds(checks)

@@ -1,0 +1,140 @@
+"""Tests of the text form: exact both ways, and bad lines refused with number, word and what would be right."""
+
+import random
+
+import text_form
+from checks import OUT, VECTORS, examples, file_of, tool
+
+SEED = 20210
+
+# Text, its bad line, the word that is wrong (or after which one is missing), part of what would be right.
+BAD_LINES = [
+    ("t0 inser 3", 1, "inser", "did you mean insert?"),
+    ("# fine\n\nt4 step", 3, "t4", "t0 to t3"),
+    ("T0 step", 1, "T0", "did you mean t0?"),
+    ("t0 insert 64", 1, "64", "0 to 63"),
+    ("t0 insert -1", 1, "-1", "0 to 63"),
+    ("t0 insert 3.0", 1, "3.0", "0 to 63"),
+    ("t0 lookup \u0663", 1, "\u0663", "0 to 63"),
+    ("t0 insert", 1, "insert", "a station"),
+    ("t0", 1, "t0", "step, lookup, insert, remove, split or join"),
+    ("t0 insert 3 4", 1, "4", "nothing may follow '3'"),
+    ("t0 step 0", 1, "0", "1 to 4096"),
+    ("t0 step 4097", 1, "4097", "1 to 4096"),
+    ("t0 step 2 2", 1, "2", "nothing may follow"),
+    ("t0 step 4096\nt1 step", 2, "t1", "at most 4096"),
+    ("raw 40", 1, "40", "two hexadecimal digits"),
+    ("raw 4 00", 1, "4", "two hexadecimal digits"),
+    ("raw 40 0g", 1, "0g", "two hexadecimal digits"),
+    ("raw 40 00 00", 1, "00", "nothing may follow"),
+    ("raw-byte", 1, "raw-byte", "two hexadecimal digits"),
+    ("raw-byte 00\nt0 step", 2, "t0", "raw-byte"),
+    ("version 256", 1, "256", "0 to 255"),
+    ("version 1\nversion 2", 2, "version", "once"),
+    ("count 65536", 1, "65536", "0 to 65535"),
+    ("t0 insert 3\ncount 1", 2, "count", "before the first record"),
+    ("no-header\ncount 1", 2, "count", "no-header"),
+    ("count 1\nno-header", 2, "no-header", "no version and no count"),
+    ("no-header 1", 1, "1", "nothing may follow"),
+    ("insert 3", 1, "insert", "a line starts with a thread"),
+    ("t0\x07 step", 1, "t0\\x07", "a line starts with a thread"),
+    ("t0 step \ufffd", 1, "\ufffd", "1 to 4096"),
+]
+
+# Text in free spelling and the bytes that it means.
+SPELLINGS = [
+    ("", "010000"),
+    ("# only a comment\n", "010000"),
+    ("t0 insert 9\nt0 step 3\n", "0100040209000000000000"),
+    ("  t0\tinsert   09 # nine\r\n\r\nt0 step#one\r\nt0 step 2", "0100040209000000000000"),
+    ("\ufefft3 join 63", "010001353f"),
+    ("t1 lookup 0\nt2 remove 7\nt3 split 5", "010003110023073405"),
+    ("raw fF Ab", "010001ffab"),
+    ("version 2\ncount 513\nt0 step\nraw-byte 07", "020201000007"),
+    ("no-header", ""),
+    ("no-header\nraw-byte 01", "01"),
+    ("no-header\nraw 01 00\nraw-byte 00", "010000"),
+]
+
+
+def random_record(rng):
+    """A record that is a well-formed operation, and its text."""
+    thread, action = rng.randrange(4), rng.randrange(6)
+    station = rng.randrange(64) if action else 0
+    word = ("step", "lookup", "insert", "remove", "split", "join")[action]
+    return bytes([16 * thread + action, station]), f"t{thread} {word}" + (f" {station}" if action else "")
+
+
+def spellings(checks):
+    checks.group("text form: spellings")
+    for text, file in SPELLINGS:
+        checks.equal(f"encode {text!r}", text_form.encode(text.encode(), "text"), bytes.fromhex(file))
+
+
+def round_trips(checks):
+    checks.group("text form: round trips")
+    rng = random.Random(SEED)
+    for size in [0, 1, 2, 4095, 4096] + [rng.randrange(80) for _ in range(600)]:
+        made = [random_record(rng) for _ in range(size)]
+        file = b"\x01" + size.to_bytes(2, "big") + b"".join(record for record, _ in made)
+        text = "".join(f"{line}\n" for _, line in made).encode()
+        checks.that(f"encode of {size} operations", text_form.encode(text, "text") == file, text)
+        decoded = text_form.decode(file)
+        checks.that(f"round trip of {size} operations", text_form.encode(decoded.encode(), "text") == file, decoded)
+        checks.that("operations decode to no raw line", "raw" not in decoded, decoded)
+    for size in [0, 1, 4096] + [rng.randrange(80) for _ in range(600)]:
+        file = b"\x01" + size.to_bytes(2, "big") + rng.randbytes(2 * size)
+        decoded = text_form.decode(file).encode()
+        checks.that(f"round trip of {size} records of any bytes", text_form.encode(decoded, "text") == file, decoded)
+    for size in [0, 1, 2, 3, 4, 5, 8197, 8198] + [rng.randrange(40) for _ in range(600)]:
+        file = rng.randbytes(size)
+        decoded = text_form.decode(file).encode()
+        checks.that(f"round trip of {size} bytes of any kind", text_form.encode(decoded, "text") == file, file)
+    long = b"\x01" + (4097).to_bytes(2, "big") + bytes(2 * 4097)
+    checks.that("round trip of 4097 steps", text_form.encode(text_form.decode(long).encode(), "text") == long)
+
+
+def commands(checks):
+    checks.group("text form: encode and decode as commands")
+    for at, path in enumerate(examples() + sorted(VECTORS.glob("*.schedule"))[:8]):
+        file = file_of(path)
+        binary, text, again = (OUT / "text" / f"{at}.{end}" for end in ("schedule", "txt", "again"))
+        binary.write_bytes(file)
+        if path.suffix == ".txt":
+            status, out, err = tool("encode", path)
+            checks.equal(f"encode {path.name}", (status, out, err), (0, file, ""))
+        forced = ("--as", "binary")
+        checks.equal(f"decode {path.name}", tool("decode", binary, "-o", text, *forced), (0, b"", ""))
+        checks.equal(f"encode it again {path.name}", tool("encode", text, "-o", again), (0, b"", ""))
+        checks.equal(f"same bytes {path.name}", again.read_bytes(), file)
+    checks.equal("standard input", tool("encode", "-", stdin=b"t1 step"), (0, b"\x01\x00\x01\x10\x00", ""))
+    checks.equal("standard input back", tool("decode", "-", stdin=b"\x01\x00\x01\x10\x00")[1], b"# 1 record\nt1 step\n")
+
+
+def bad_lines(checks):
+    checks.group("text form: bad lines")
+    bad, out = OUT / "text" / "bad.txt", OUT / "text" / "bad.out"
+    out.unlink(missing_ok=True)
+    for text, line, word, right in BAD_LINES:
+        bad.write_bytes(text.encode())
+        status, stdout, err = tool("encode", bad, "-o", out)
+        told = f"{bad}:{line}: " in err and f"'{word}'" in err and right in err and len(err.splitlines()) == 1
+        checks.that(f"{text!r} is refused in words", told, err)
+        checks.that(f"{text!r} gives no file", status == 1 and stdout == b"" and not out.exists(), (status, stdout))
+    bad.write_bytes(b"t0 stop\nt0 step\nt9 step\n")
+    for command in (("run",), ("trace",), ("show", "--html", out)):
+        status, stdout, err = tool(*command, bad)
+        numbers = [text.split(":")[1] for text in err.splitlines()]
+        checks.equal(f"{command[0]} names both bad lines", (status, stdout, numbers), (1, b"", ["1", "3"]))
+    bad.write_bytes(b"oops\n" * 50)
+    checks.equal("a flood of bad lines is cut", len(tool("encode", bad)[2].splitlines()), 21)
+    bad.write_bytes(b"t0 step \xff\xfe\n")
+    checks.that("bytes that are no text are named", "bad.txt:1: '\\xff\\xfe'" in tool("encode", bad)[2])
+
+
+def all_of(checks):
+    (OUT / "text").mkdir(parents=True, exist_ok=True)
+    spellings(checks)
+    round_trips(checks)
+    commands(checks)
+    bad_lines(checks)
