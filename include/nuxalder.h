@@ -3,7 +3,7 @@
  * Both functions take a schedule file as bytes, carry it out on a fresh bench and hand back numbers in
  * `report` and bytes in a buffer that the caller lends. They keep no state between calls, allocate nothing,
  * read no byte outside the schedule and write no byte outside the buffer and the report. The lent memory
- * must not overlap.
+ * must not overlap, and no pointer is null, also where its length is 0.
  *
  * A schedule file: version byte 1, two-byte big-endian count, then `count` records of two bytes.
  * First byte: 16 * thread + action (0 step, 1 lookup, 2 insert, 3 remove, 4 split, 5 join).

@@ -9,14 +9,14 @@ use definitions::Listed;
 pub fn refusal_of(schedule: &[u8], room: usize) -> u64
     ensures { λ r. ⌜ (r ≡ listRefusal (now (schedule .entry)) room) × (r ≡ 0 → Proper (now (schedule .entry))) ⌝ }
 {
-    let bad = schedule::file_refusal(schedule);
-    if bad == 0 {
+    let wrong = schedule::file_refusal(schedule);
+    if wrong == 0 {
         if room < 4096 {
             return 6;
         }
         return 0;
     }
-    bad
+    wrong
 }
 
 // List: the report, and the text in the buffer.

@@ -5,7 +5,7 @@ ghost use Prim.Native.Nat.{_*_, _%_, _≤_};
 ghost use lib.ListN.{length, take};
 ghost use Rattle.buffer.specs.Page.{page, putAll};
 ghost use Rattle.definitions.specs.Listing.{space, newline, decimal};
-ghost use Rattle.definitions.specs.Printed.{records-word, of-word, refusal-word, stored-word, used-word, actionWord, answerWord, firstLine, rowLines, lastLine};
+ghost use Rattle.definitions.specs.Printed.{records-word, of-word, refusal-word, stored-word, used-word, actionWord, answerWord, firstLine, rowLines, lastLine, printed};
 use buffer::put_byte;
 use buffer::put_decimal;
 use buffer::put_four;
@@ -217,7 +217,7 @@ pub fn put_lines(
 
 // The printed run of a schedule; gives its length.
 pub fn print_run(schedule: &[u8], out: &mut [u8]) -> usize
-    ensures { λ r. ⌜ r ≤ length (now (out .exit)) ⌝ }
+    ensures { λ r. ⌜ page (now (out .exit)) r ≡ putAll (page (now (out .entry)) 0) (printed (now (schedule .entry))) ⌝ }
 {
     let bad = schedule::file_refusal(schedule);
     if bad == 0 {
@@ -226,13 +226,7 @@ pub fn print_run(schedule: &[u8], out: &mut [u8]) -> usize
         let mut text = [0u8; 4096];
         let r = run::run(schedule, &mut rows);
         let l = list::list(schedule, &mut text);
-        // the rows and the text always fit
-        if r.rows <= 2048 {
-            if l.length <= 4096 {
-                return put_lines(out, count as u64, r, &rows, l, &text);
-            }
-        }
-        return 0;
+        return put_lines(out, count as u64, r, &rows, l, &text);
     }
     put_first(out, 0, 0, 0, bad)
 }

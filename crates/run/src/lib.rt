@@ -162,15 +162,15 @@ pub fn carry_out(
 pub fn refusal_of(schedule: &[u8], room: usize) -> u64
     ensures { λ r. ⌜ (r ≡ runRefusal (now (schedule .entry)) room) × (r ≡ 0 → Proper (now (schedule .entry))) ⌝ }
 {
-    let bad = schedule::file_refusal(schedule);
-    if bad == 0 {
+    let wrong = schedule::file_refusal(schedule);
+    if wrong == 0 {
         let count = schedule::count_of(schedule);
         if room < 2 * count {
             return 5;
         }
         return 0;
     }
-    bad
+    wrong
 }
 
 // Run: the report, and the rows in the buffer.

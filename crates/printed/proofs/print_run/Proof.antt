@@ -1,6 +1,6 @@
 -- `printed::print_run` meets its contract. Assumes nothing.
 use borrow.Author.Needs.{needs}
-use Rattle.printed.proofs.Cases.{ends-within}
+use Rattle.printed.proofs.Ended.{lines-fit, lines-printed, line-printed}
 use Rattle.printed.proofs.print_run.Statement.{statement}
 use Rattle.printed.proofs.print_run.Tie as tie
 
@@ -29,19 +29,24 @@ slice-aggregate-put-lines-2 : tie.Need-slice-aggregate-put-lines-2
 slice-aggregate-put-lines-2 c = search needs
 
 put-lines-requires : tie.Need-put-lines-requires
-put-lines-requires c κs = search needs
+put-lines-requires c κs =
+    let f = c .before .before .before .before .before .before .before .before .before .before .before .file-refusal .ensures in
+    let z = c .before .before .before .before .before .before .before .before .before .before .if1 .taken in
+    let r = c .before .before .before .before .before .before .before .run .ensures in
+    let l = c .before .before .before .before .list .ensures in
+    lines-fit _ (f .0) _ _ z (f .1 z .few) (search needs) (search needs) (r .0) (r .1) (l .0) (l .1)
 
 same-length : tie.Need-same-length
 same-length c = search needs
 
 returns : tie.Need-returns
-returns c = search ends-within
-
-returns-2 : tie.Need-returns-2
-returns-2 c = search needs
-
-returns-3 : tie.Need-returns-3
-returns-3 c = search needs
+returns c =
+    let f = c .before .before .before .before .before .before .before .before .before .before .before .before .before .before .file-refusal .ensures in
+    let z = c .before .before .before .before .before .before .before .before .before .before .before .before .before .if1 .taken in
+    let n = c .before .before .before .before .before .before .before .before .before .before .before .before .count-of .ensures in
+    let r = c .before .before .before .before .before .before .before .before .before .before .run .ensures in
+    let l = c .before .before .before .before .before .before .before .list .ensures in
+    lines-printed _ (f .0) _ _ z (f .1 z .few) (search needs) (search needs) (r .0) (r .1) (l .0) (l .1) _ n (c .before .before .put-lines .ensures)
 
 put-first-requires : tie.Need-put-first-requires
 put-first-requires c κs = search needs
@@ -49,8 +54,8 @@ put-first-requires c κs = search needs
 same-length-2 : tie.Need-same-length-2
 same-length-2 c = search needs
 
-returns-4 : tie.Need-returns-4
-returns-4 c = search ends-within
+returns-2 : tie.Need-returns-2
+returns-2 c = search line-printed
 
 pub print-run-spec : {M : Type 1} → statement M
 print-run-spec =
@@ -67,8 +72,6 @@ print-run-spec =
     put-lines-requires
     same-length
     returns
-    returns-2
-    returns-3
     put-first-requires
     same-length-2
-    returns-4)
+    returns-2)
