@@ -1,6 +1,5 @@
 // Run and List for a C host; include/nuxalder.h says what each number means.
 ghost use mathlib.Core.Path.{_≡_};
-ghost use mathlib.Core.List.{List, [], _∷_};
 ghost use lib.ListN.{length};
 ghost use Rattle.definitions.specs.Run.{runReport, runBuffer};
 ghost use Rattle.definitions.specs.Listing.{listReport, listBuffer};

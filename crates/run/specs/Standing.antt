@@ -1,5 +1,5 @@
 -- How the code holds a run in progress: the bench by its table and state, the rows in a page of the lent buffer.
-use Prim.Native.Nat.{ℕ, _/_}
+use Prim.Native.Nat.{ℕ}
 use mathlib.Core.Path.{_≡_}
 use mathlib.Core.List.{List}
 use Rattle.buffer.specs.Page.{page, putAll}

@@ -1,6 +1,6 @@
 // Run: a schedule carried out on a fresh bench, with its rows written into a lent buffer.
 ghost use mathlib.Core.Path.{_≡_};
-ghost use Prim.Native.Nat.{ℕ, _+_, _*_, _<_, _≤_};
+ghost use Prim.Native.Nat.{_+_, _*_, _<_, _≤_};
 ghost use lib.ListN.{length, getD};
 ghost use Rattle.nodes.specs.Cells.{table};
 ghost use Rattle.schedule.specs.Proper.{Proper};
