@@ -15,7 +15,7 @@ use definitions::Stage;
 // The root, and how many node numbers are used.
 pub struct Top {
     pub root: u8,
-    pub used: usize,
+    pub used: u16,
 }
 
 // A new base.
@@ -84,7 +84,7 @@ pub fn hang_at(
     cells: &mut [u8; 4096],
     sets: &[u64; 256],
     root: u8,
-    used: usize,
+    used: u16,
     spot: Spot,
     x: u8,
 ) -> u8
@@ -151,7 +151,7 @@ pub fn apply(cells: &mut [u8; 4096], sets: &mut [u64; 256], top: Top, e: Effect)
             main,
         } => {
             put_base(cells, sets, at, kind, parent, container, main);
-            let used = at as usize + 1;
+            let used = at as u16 + 1;
             let root = hang_at(cells, sets, top.root, used, spot, at);
             Top {
                 root: root,
@@ -168,7 +168,7 @@ pub fn apply(cells: &mut [u8; 4096], sets: &mut [u64; 256], top: Top, e: Effect)
             high,
         } => {
             put_fork(cells, sets, at, left, right, key, low, high);
-            let used = at as usize + 3;
+            let used = at as u16 + 3;
             let root = hang_at(cells, sets, top.root, used, spot, at);
             Top {
                 root: root,
@@ -188,7 +188,7 @@ pub fn apply(cells: &mut [u8; 4096], sets: &mut [u64; 256], top: Top, e: Effect)
             nodes::commit(cells, sets, main, at, neighbour, grandparent, other);
             Top {
                 root: top.root,
-                used: at as usize + 1,
+                used: at as u16 + 1,
             }
         }
     }

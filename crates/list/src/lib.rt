@@ -31,8 +31,8 @@ pub fn list(schedule: &[u8], text: &mut [u8]) -> Listed
         let mut none = [0u8; 1];
         let count = schedule::count_of(schedule);
         let p = run::carry_out(&mut cells, &mut sets, schedule, count, &mut none[..0]);
-        let state = p.state;
-        let at = listing::write_tree(&cells, &sets, state.root, text);
+        let top = p.top;
+        let at = listing::write_tree(&cells, &sets, top.root, text);
         return Listed {
             refusal: p.refusal as u64,
             length: at as u64,

@@ -1,163 +1,122 @@
 -- The cases of a record, each with the code's own facts as premises. Assumes nothing.
 use mathlib.Core.Path.{_≡_, refl, sym, ap, ap₂, _∙_, fun-ext}
 use mathlib.Core.Bool.{Bool, true, false, cond}
-use mathlib.Core.List.{List, [], _∷_}
 use Prim.Native.Nat.{ℕ, zero, suc, _<_, _≤_, _/_, _%_}
-use native.Mathlib.Omega.{arith}
-use mir.Val.{Val}
-use denote.Laws.{Is}
 use lib.Dec.{eqb}
-use lib.ListN.{getD, set, length, length-map, replicate}
-use lib.Seq.{getD-set-same, getD-set-other}
-use borrow.Author.Tests.{eqb-true, eqb-false, eq-eqb, ne-eqb, lt-ltb, le-ltb}
+use borrow.Author.Tests.{eqb-true, eq-eqb, ne-eqb, lt-ltb, le-ltb}
 use Rattle.container.specs.Choice.{ite, upd}
-use Rattle.definitions.specs.declared.Link.the-variants.{Nil}
 use Rattle.definitions.specs.declared.Action.{Action}
-use Rattle.definitions.specs.declared.Action.the-variants.{Lookup}
 use Rattle.definitions.specs.declared.Thread.{Thread}
-use Rattle.definitions.specs.declared.Effect.{Effect}
 use Rattle.definitions.specs.declared.Turn.{Turn}
-use Rattle.definitions.specs.declared.Turn.the-variants.{Moves, Finishes, Full}
-use Rattle.definitions.specs.Nodes.{Nodes, emptyBase}
-use Rattle.definitions.specs.Bench.{Store, store, bench, begun, idle, fresh}
+use Rattle.definitions.specs.declared.Turn.the-variants.{Full}
+use Rattle.definitions.specs.Nodes.{Nodes}
+use Rattle.definitions.specs.Bench.{Bench, Store, store, bench, idle}
 use Rattle.definitions.specs.Places.{placeOf}
 use Rattle.definitions.specs.Effects.{perform}
 use Rattle.definitions.specs.Steps.{step}
-use Rattle.definitions.specs.Records.{Row, noRow, row, refused, taken, stepped, started, acted, recordStep}
+use Rattle.definitions.specs.Records.{noRow, row, refused, taken, stepped, started, acted, recordStep}
 use Rattle.effects.specs.declared.Top.{Top}
-use Rattle.machine.specs.declared.State.{State}
+use Rattle.steps.specs.declared.Decision.{Decision}
+use Rattle.steps.specs.Decision.{turnBy, turnOf}
 use Rattle.machine.specs.declared.Said.the-variants.{Nothing, Answer}
 use Rattle.machine.specs.declared.Outcome.{Outcome}
-use Rattle.machine.specs.State.{After, benchOf, refusedWith, afterOf, settled}
-use Rattle.machine.proofs.State as state
+use Rattle.machine.specs.State.{benchOf, refusedWith, afterOf, settled, turned, Does, Takes}
 
--- a fact in hand, for what is proved from it
-pub having {ℓ} : {A B : Type ℓ} → A → (A → B) → B
-having a f = f a
-
--- ---- the thread table
-
--- it has four threads
-pub four : (s : State) (vs : List Val) → Is state.the-row s vs → length (s .threads) ≡ 4
-four s vs p = sym (length-map (s .threads) _) ∙ p .1 .1 .1 .1 .0 .1 .0 .1
-
--- what the code would read past its end
-abbrev outside : Thread
-outside = record { action = Lookup; station = 0; place = 0; route = 0; base = 0; parent = 0; left = false; found = 0; neighbour = 0; main = 0; owner = false; grandparent = Nil; other = 0 }
-
-within : (l : List Thread) (t : ℕ) → t < length l → getD l t outside ≡ getD l t idle
-within [] t h = absurd (omega arith)
-within (x ∷ l) zero h = refl
-within (x ∷ l) (suc t) h = within l t (omega arith)
-
-put : (l : List Thread) (t : ℕ) (v : Thread) → t < length l → (λ k. getD (set l t v) k idle) ≡ upd (λ k. getD l k idle) t v
-put l t v h = fun-ext (λ k. at k (eqb k t) refl)
+-- a thread that is put back where it stands changes nothing
+pub kept : (threads : ℕ → Thread) (t : ℕ) {th : Thread} → threads t ≡ th → upd threads t th ≡ threads
+kept threads t {th} q = fun-ext (λ k. at k (eqb k t) refl)
   where
-    at : (k : ℕ) (b : Bool) → eqb k t ≡ b → getD (set l t v) k idle ≡ cond b v (getD l k idle)
-    at k true e = rw (eqb-true k t e) (getD-set-same l t v idle h)
-    at k false e = getD-set-other l t k v idle (eqb-false k t e)
+    at : (k : ℕ) (b : Bool) → eqb k t ≡ b → cond b th (threads k) ≡ threads k
+    at k true e = rw (eqb-true k t e) (sym q)
+    at k false e = refl
 
-idles : (k t : ℕ) → getD (replicate k idle) t idle ≡ idle
-idles zero t = refl
-idles (suc k) zero = refl
-idles (suc k) (suc t) = idles k t
+-- a refused record, on every bench
+refusal : (n : Nodes) (top : Top) {th : Thread} (k : ℕ) (threads : ℕ → Thread) (t : ℕ) → threads t ≡ th → {r : Outcome} → r ≡ refusedWith top th k → afterOf n threads t r ≡ settled (benchOf n top threads) (refused k)
+refusal n top k threads t q e = rw e (ap (λ (f : ℕ → Thread). record { bench = benchOf n top f; refusal = k; added = noRow }) (kept threads t q))
 
-pub fresh-made : {th : Thread} → th ≡ idle → benchOf (λ _. emptyBase) (record { root = 0; used = 1; threads = replicate 4 th }) ≡ fresh
-fresh-made q = ap (λ (x : Thread). benchOf (λ _. emptyBase) (record { root = 0; used = 1; threads = replicate 4 x })) q ∙ ap (λ (f : ℕ → Thread). bench (store (λ _. emptyBase) 0 1) f) (fun-ext (idles 4))
+-- ---- a record of thread th
+module _ (n : Nodes) (top : Top) (th : Thread) where
+  -- its turn is the decision d: n' and top' are the table and the top after its effect
+  module _ (d : Decision) (p : turnOf d ≡ step (placeOf (th .place)) (store n (top .root) (top .used)) th) where
+    decided : (threads : ℕ → Thread) (t : ℕ) → threads t ≡ th → {w : Turn} → turnOf d ≡ w → settled (benchOf n top threads) (taken (benchOf n top threads) t w) ≡ settled (benchOf n top threads) (turned (benchOf n top threads) t)
+    decided threads t i q = ap (λ (v : Turn). settled (benchOf n top threads) (taken (benchOf n top threads) t v)) (sym q ∙ (p ∙ ap (λ (x : Thread). step (placeOf (x .place)) (store n (top .root) (top .used)) x) (sym i)))
 
--- ---- a record of thread t
+    turn-is : {k : ℕ} → d .what ≡ k → turnOf d ≡ turnBy k (d .thread) (d .effect) (d .answer)
+    turn-is q = ap (λ (k : ℕ). turnBy k (d .thread) (d .effect) (d .answer)) q
 
--- the bench after a step of t, which is busy
-abbrev turned : Nodes → State → ℕ → After
-turned n s t = settled (benchOf n s) (taken (benchOf n s) t (step (placeOf (benchOf n s .threads t .place)) (benchOf n s .store) (benchOf n s .threads t)))
-
-module _ (n : Nodes) (s : State) (t : ℕ) (len : length (s .threads) ≡ 4) (one : t < 4) where
-  read : getD (s .threads) t outside ≡ getD (s .threads) t idle
-  read = within (s .threads) t (omega arith)
-
-  replaced : (v : Thread) → (λ k. getD (set (s .threads) t v) k idle) ≡ upd (λ k. getD (s .threads) k idle) t v
-  replaced v = put (s .threads) t v (omega arith)
-
-  is-idle : getD (s .threads) t outside .place ≡ 0 → eqb (getD (s .threads) t idle .place) 0 ≡ true
-  is-idle h = eq-eqb _ _ (ap (λ (x : Thread). x .place) (sym read) ∙ h)
-
-  is-busy : (getD (s .threads) t outside .place ≡ 0 → ⊥) → eqb (getD (s .threads) t idle .place) 0 ≡ false
-  is-busy h = ne-eqb _ _ (λ e. h (ap (λ (x : Thread). x .place) read ∙ e))
-
-  -- its turn is d: n' and top are the table, the root and the numbers used after its effect, r the outcome
-  module _ {d : Turn} (p : d ≡ step (placeOf (getD (s .threads) t outside .place)) (store n (s .root) (s .used)) (getD (s .threads) t outside)) where
-    decided : {w : Turn} → d ≡ w → settled (benchOf n s) (taken (benchOf n s) t w) ≡ turned n s t
-    decided q = ap (λ (v : Turn). settled (benchOf n s) (taken (benchOf n s) t v)) (sym q ∙ (p ∙ ap (λ (x : Thread). step (placeOf (x .place)) (store n (s .root) (s .used)) x) read))
-
-    carried-out : {n' : Nodes} {top : Top} (e : Effect) (next : Thread) (w : Row) → store n' (top .root) (top .used) ≡ perform e (store n (s .root) (s .used)) → _≡_ {A = After} (record { bench = bench (store n' (top .root) (top .used)) (λ k. getD (set (s .threads) t next) k idle); refusal = 0; added = w }) (record { bench = bench (perform e (store n (s .root) (s .used))) (upd (λ k. getD (s .threads) k idle) t next); refusal = 0; added = w })
-    carried-out e next w h = ap₂ (λ (x : Store) (f : ℕ → Thread). record { bench = bench x f; refusal = 0; added = w }) h (replaced next)
-
-    pub move-on : {n' : Nodes} {top : Top} (next : Thread) (e : Effect) → d ≡ Moves next e → store n' (top .root) (top .used) ≡ perform e (store n (s .root) (s .used)) → afterOf n' (record { state = record { root = top .root; used = top .used; threads = set (s .threads) t next }; refusal = 0; said = Nothing }) ≡ turned n s t
+    pub move-on : {n' : Nodes} {top' : Top} → d .what ≡ 0 → store n' (top' .root) (top' .used) ≡ perform (d .effect) (store n (top .root) (top .used)) → Does turned n top th n' (record { thread = d .thread; top = top'; refusal = 0; said = Nothing })
     unfolding taken
-    move-on next e q h = carried-out e next noRow h ∙ decided q
+    move-on q h = record { on = λ threads t i. ap (λ (x : Store). record { bench = bench x (upd threads t (d .thread)); refusal = 0; added = noRow }) h ∙ decided threads t i (turn-is q) }
 
-    pub move-over : {n' : Nodes} {top : Top} {blank : Thread} (e : Effect) (a : Bool) → d ≡ Finishes e a → store n' (top .root) (top .used) ≡ perform e (store n (s .root) (s .used)) → blank ≡ idle → afterOf n' (record { state = record { root = top .root; used = top .used; threads = set (s .threads) t blank }; refusal = 0; said = Answer a }) ≡ turned n s t
+    pub move-over : {n' : Nodes} {top' : Top} {blank : Thread} → d .what ≡ 1 → store n' (top' .root) (top' .used) ≡ perform (d .effect) (store n (top .root) (top .used)) → blank ≡ idle → Does turned n top th n' (record { thread = blank; top = top'; refusal = 0; said = Answer (d .answer) })
     unfolding taken
-    move-over e a q h i = rw i (carried-out e idle (row a) h ∙ decided q)
+    move-over q h z = record { on = λ threads t i. ap₂ (λ (x : Store) (v : Thread). record { bench = bench x (upd threads t v); refusal = 0; added = row (d .answer) }) h z ∙ decided threads t i (turn-is q) }
 
-    pub move-full : {r : Outcome} → d ≡ Full → r ≡ refusedWith s 13 → afterOf n r ≡ turned n s t
+    full-by : (k : ℕ) → (k ≡ 0 → ⊥) → (k ≡ 1 → ⊥) → turnBy k (d .thread) (d .effect) (d .answer) ≡ Full
+    full-by zero f g = absurd (f refl)
+    full-by (suc zero) f g = absurd (g refl)
+    full-by (suc (suc k)) f g = refl
+
+    pub move-full : {r : Outcome} → (d .what ≡ 0 → ⊥) → (d .what ≡ 1 → ⊥) → r ≡ refusedWith top th 13 → Does turned n top th n r
     unfolding taken
-    move-full q i = rw i (decided q)
+    move-full f g e = record { on = λ threads t i. refusal n top 13 threads t i e ∙ decided threads t i (full-by (d .what) f g) }
 
-  -- a step: o is what its turn gives
-  pub step-second : {y : ℕ} {r : Outcome} → (y ≡ 0 → ⊥) → r ≡ refusedWith s 10 → afterOf n r ≡ settled (benchOf n s) (stepped (benchOf n s) t y)
-  unfolding stepped ite
-  step-second h q = rw (q, ne-eqb _ _ h)
+  is-idle : {x : Thread} → x ≡ th → th .place ≡ 0 → eqb (x .place) 0 ≡ true
+  is-idle i h = eq-eqb _ _ (ap (λ (v : Thread). v .place) i ∙ h)
 
-  pub step-idle : {y : ℕ} {r : Outcome} → y ≡ 0 → getD (s .threads) t outside .place ≡ 0 → r ≡ refusedWith s 12 → afterOf n r ≡ settled (benchOf n s) (stepped (benchOf n s) t y)
-  unfolding stepped ite
-  step-idle h k q = rw (q, eq-eqb _ _ h, is-idle k)
+  is-busy : {x : Thread} → x ≡ th → (th .place ≡ 0 → ⊥) → eqb (x .place) 0 ≡ false
+  is-busy i h = ne-eqb _ _ (λ e. h (ap (λ (v : Thread). v .place) (sym i) ∙ e))
 
-  pub step-busy : {y : ℕ} {o : After} → y ≡ 0 → (getD (s .threads) t outside .place ≡ 0 → ⊥) → o ≡ turned n s t → o ≡ settled (benchOf n s) (stepped (benchOf n s) t y)
+  -- a step
+  pub step-second : {y : ℕ} {r : Outcome} → (y ≡ 0 → ⊥) → r ≡ refusedWith top th 10 → Does (λ b t. stepped b t y) n top th n r
   unfolding stepped ite
-  step-busy h k q = q ∙ rw (eq-eqb _ _ h, is-busy k)
+  step-second h e = record { on = λ threads t i. rw (ne-eqb _ _ h) (refusal n top 10 threads t i e) }
+
+  pub step-idle : {y : ℕ} {r : Outcome} → y ≡ 0 → th .place ≡ 0 → r ≡ refusedWith top th 12 → Does (λ b t. stepped b t y) n top th n r
+  unfolding stepped ite
+  step-idle h k e = record { on = λ threads t i. rw (eq-eqb _ _ h, is-idle i k) (refusal n top 12 threads t i e) }
+
+  pub step-busy : {y : ℕ} {n' : Nodes} {o : Outcome} → y ≡ 0 → (th .place ≡ 0 → ⊥) → Does turned n top th n' o → Does (λ b t. stepped b t y) n top th n' o
+  unfolding stepped ite
+  step-busy h k q = record { on = λ threads t i. rw (eq-eqb _ _ h, is-busy i k) (q .on threads t i) }
 
   -- a start
   module _ (a : Action) (y : ℕ) where
-    pub start-station : {r : Outcome} → 63 < y → r ≡ refusedWith s 9 → afterOf n r ≡ settled (benchOf n s) (started (benchOf n s) t a y)
+    pub start-station : {r : Outcome} → 63 < y → r ≡ refusedWith top th 9 → Does (λ b t. started b t a y) n top th n r
     unfolding started ite
-    start-station h q = rw (q, lt-ltb _ _ h)
+    start-station h e = record { on = λ threads t i. rw (lt-ltb _ _ h) (refusal n top 9 threads t i e) }
 
-    pub start-busy : {r : Outcome} → y ≤ 63 → (getD (s .threads) t outside .place ≡ 0 → ⊥) → r ≡ refusedWith s 11 → afterOf n r ≡ settled (benchOf n s) (started (benchOf n s) t a y)
+    pub start-busy : {r : Outcome} → y ≤ 63 → (th .place ≡ 0 → ⊥) → r ≡ refusedWith top th 11 → Does (λ b t. started b t a y) n top th n r
     unfolding started ite
-    start-busy h k q = rw (q, le-ltb _ _ h, is-busy k)
+    start-busy h k e = record { on = λ threads t i. rw (le-ltb _ _ h, is-busy i k) (refusal n top 11 threads t i e) }
 
-    pub start-begun : {blank : Thread} → y ≤ 63 → getD (s .threads) t outside .place ≡ 0 → blank ≡ idle → afterOf n (record { state = record { root = s .root; used = s .used; threads = set (s .threads) t (record { action = a; station = y; place = 1; route = blank .route; base = blank .base; parent = blank .parent; left = blank .left; found = blank .found; neighbour = blank .neighbour; main = blank .main; owner = blank .owner; grandparent = blank .grandparent; other = blank .other }) }; refusal = 0; said = Nothing }) ≡ settled (benchOf n s) (started (benchOf n s) t a y)
+    pub start-begun : {blank : Thread} → y ≤ 63 → th .place ≡ 0 → blank ≡ idle → Does (λ b t. started b t a y) n top th n (record { thread = record { action = a; station = y; place = 1; route = blank .route; base = blank .base; parent = blank .parent; left = blank .left; found = blank .found; neighbour = blank .neighbour; main = blank .main; owner = blank .owner; grandparent = blank .grandparent; other = blank .other }; top = top; refusal = 0; said = Nothing })
     unfolding started ite
-    start-begun h k q = rw (q, le-ltb _ _ h, is-idle k) (ap (λ (f : ℕ → Thread). record { bench = bench (store n (s .root) (s .used)) f; refusal = 0; added = noRow }) (replaced (begun a y 1)))
+    start-begun h k z = record { on = λ threads t i. rw (z, le-ltb _ _ h, is-idle i k) }
 
--- ---- a record by its bytes: o is what its thread's start or step gives
-acted-over : (a : ℕ) → (a ≡ 0 → ⊥) → (a ≡ 1 → ⊥) → (a ≡ 2 → ⊥) → (a ≡ 3 → ⊥) → (a ≡ 4 → ⊥) → (a ≡ 5 → ⊥) → (n : Nodes) (s : State) (t y : ℕ) → acted a (benchOf n s) t y ≡ refused 8
-acted-over zero h0 h1 h2 h3 h4 h5 n s t y = absurd (h0 refl)
-acted-over (suc zero) h0 h1 h2 h3 h4 h5 n s t y = absurd (h1 refl)
-acted-over (suc (suc zero)) h0 h1 h2 h3 h4 h5 n s t y = absurd (h2 refl)
-acted-over (suc (suc (suc zero))) h0 h1 h2 h3 h4 h5 n s t y = absurd (h3 refl)
-acted-over (suc (suc (suc (suc zero)))) h0 h1 h2 h3 h4 h5 n s t y = absurd (h4 refl)
-acted-over (suc (suc (suc (suc (suc zero))))) h0 h1 h2 h3 h4 h5 n s t y = absurd (h5 refl)
-acted-over (suc (suc (suc (suc (suc (suc a)))))) h0 h1 h2 h3 h4 h5 n s t y = refl
+  -- a record by its bytes: r is what its thread's start or step gives
+  module _ (x y : ℕ) where
+    pub record-thread : {r : Outcome} → 3 < x / 16 → r ≡ refusedWith top th 7 → Takes n top th x y n r
+    unfolding recordStep ite
+    record-thread h e = record { on = λ threads t i j. rw (lt-ltb _ _ h) (refusal n top 7 threads t i e) }
 
-module _ (n : Nodes) (s : State) (x y : ℕ) where
-  pub record-thread : {r : Outcome} → 3 < x / 16 → r ≡ refusedWith s 7 → afterOf n r ≡ settled (benchOf n s) (recordStep (benchOf n s) x y)
-  unfolding recordStep ite
-  record-thread h q = rw (q, lt-ltb _ _ h)
+    pub record-acted : {n' : Nodes} {o : Outcome} (a : ℕ) → x / 16 ≤ 3 → x % 16 ≡ a → Does (λ b t. acted a b t y) n top th n' o → Takes n top th x y n' o
+    unfolding recordStep ite
+    record-acted a h e q = record { on = λ threads t i j. q .on threads t i ∙ rw (le-ltb _ _ h, e, j h) }
 
-  pub record-acted : {o : After} (a : ℕ) → x / 16 ≤ 3 → x % 16 ≡ a → o ≡ settled (benchOf n s) (acted a (benchOf n s) (x / 16) y) → o ≡ settled (benchOf n s) (recordStep (benchOf n s) x y)
-  unfolding recordStep ite
-  record-acted a h e q = q ∙ rw (le-ltb _ _ h) (ap (λ (k : ℕ). settled (benchOf n s) (acted k (benchOf n s) (x / 16) y)) (sym e))
+acted-over : (a : ℕ) → (a ≡ 0 → ⊥) → (a ≡ 1 → ⊥) → (a ≡ 2 → ⊥) → (a ≡ 3 → ⊥) → (a ≡ 4 → ⊥) → (a ≡ 5 → ⊥) → (b : Bench) (t y : ℕ) → acted a b t y ≡ refused 8
+acted-over zero h0 h1 h2 h3 h4 h5 b t y = absurd (h0 refl)
+acted-over (suc zero) h0 h1 h2 h3 h4 h5 b t y = absurd (h1 refl)
+acted-over (suc (suc zero)) h0 h1 h2 h3 h4 h5 b t y = absurd (h2 refl)
+acted-over (suc (suc (suc zero))) h0 h1 h2 h3 h4 h5 b t y = absurd (h3 refl)
+acted-over (suc (suc (suc (suc zero)))) h0 h1 h2 h3 h4 h5 b t y = absurd (h4 refl)
+acted-over (suc (suc (suc (suc (suc zero))))) h0 h1 h2 h3 h4 h5 b t y = absurd (h5 refl)
+acted-over (suc (suc (suc (suc (suc (suc a)))))) h0 h1 h2 h3 h4 h5 b t y = refl
 
-  pub record-over : {r : Outcome} → x / 16 ≤ 3 → (x % 16 ≡ 0 → ⊥) → (x % 16 ≡ 1 → ⊥) → (x % 16 ≡ 2 → ⊥) → (x % 16 ≡ 3 → ⊥) → (x % 16 ≡ 4 → ⊥) → (x % 16 ≡ 5 → ⊥) → r ≡ refusedWith s 8 → afterOf n r ≡ settled (benchOf n s) (recordStep (benchOf n s) x y)
-  unfolding recordStep ite
-  record-over h h0 h1 h2 h3 h4 h5 q = rw (q, le-ltb _ _ h, acted-over (x % 16) h0 h1 h2 h3 h4 h5 n s (x / 16) y)
+pub record-over : (n : Nodes) (top : Top) (th : Thread) (x y : ℕ) {r : Outcome} → x / 16 ≤ 3 → (x % 16 ≡ 0 → ⊥) → (x % 16 ≡ 1 → ⊥) → (x % 16 ≡ 2 → ⊥) → (x % 16 ≡ 3 → ⊥) → (x % 16 ≡ 4 → ⊥) → (x % 16 ≡ 5 → ⊥) → r ≡ refusedWith top th 8 → Takes n top th x y n r
+unfolding recordStep ite
+record-over n top th x y h h0 h1 h2 h3 h4 h5 e = record { on = λ threads t i j. rw (le-ltb _ _ h, acted-over (x % 16) h0 h1 h2 h3 h4 h5 (benchOf n top threads) (x / 16) y) (refusal n top 8 threads t i e) }
 
 pub ruleset move-cases = (move-on, move-over, move-full)
-
-pub ruleset step-cases = (step-second, step-idle, step-busy)
-
-pub ruleset start-cases = (start-station, start-busy, start-begun)
 
 pub ruleset record-cases = (record-thread, record-acted, record-over)

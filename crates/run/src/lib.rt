@@ -1,30 +1,35 @@
 // Run: a schedule carried out on a fresh bench, with its rows written into a lent buffer.
 ghost use mathlib.Core.Path.{_≡_};
 ghost use Prim.Native.Nat.{_+_, _*_, _<_, _≤_};
-ghost use lib.ListN.{length, getD};
+ghost use lib.ListN.{length};
 ghost use Rattle.nodes.specs.Cells.{table};
 ghost use Rattle.schedule.specs.Proper.{Proper};
 ghost use Rattle.buffer.specs.Page.{page, putAll};
 ghost use Rattle.machine.specs.State.{rowOf};
 ghost use Rattle.definitions.specs.Nodes.{emptyBase};
-ghost use Rattle.definitions.specs.Bench.{idle};
 ghost use Rattle.definitions.specs.Records.{actionNumber};
 ghost use Rattle.definitions.specs.Run.{answerNumber, rowBytes, rowCount, runRefusal, runReport, runBuffer};
 ghost use Rattle.run.specs.Standing.{Advances, Carried};
 use definitions::Action;
 use definitions::Report;
 use definitions::Thread;
+use effects::Top;
 use machine::Said;
-use machine::State;
 use schedule::Record;
 
-// Where a run stands. `at` is where the next row goes.
+// Where a run stands, its threads apart. `at` is where the next row goes.
 pub struct Standing {
-    pub state: State,
+    pub top: Top,
     pub refusal: u8,
     pub done: usize,
     pub finished: usize,
     pub at: usize,
+}
+
+// Where a run stands after a record, and the record's thread then.
+pub struct Advanced {
+    pub thread: Thread,
+    pub standing: Standing,
 }
 
 // An action's number in a row.
@@ -72,62 +77,53 @@ pub fn row_count(said: Said) -> usize
     }
 }
 
-// A thread of the table; the idle one where there is none.
-pub fn thread_at(s: State, t: u8) -> Thread
-    ensures { λ r. ⌜ r ≡ getD (s .threads) t idle ⌝ }
-{
-    let k = t as usize;
-    if k < 4 {
-        s.threads[k]
-    } else {
-        definitions::idle_thread()
-    }
-}
-
-// One record more, unless one was refused.
+// One record more, its thread being th, or any where it names none of the four.
 pub fn advance_one(
     cells: &mut [u8; 4096],
     sets: &mut [u64; 256],
     p: Standing,
+    th: Thread,
     x: u8,
     y: u8,
     rows: &mut [u8],
-) -> Standing
-    requires { ⌜ (p .done < 4096) × (p .finished < 4096) ⌝ }
-    ensures { λ r. ⌜ Advances (table (now (cells .entry)) (now (sets .entry))) p (now (rows .entry)) (table (now (cells .exit)) (now (sets .exit))) r (now (rows .exit)) x y ⌝ }
+) -> Advanced
+    requires { ⌜ (p .refusal ≡ 0) × ((p .done < 4096) × (p .finished < 4096)) ⌝ }
+    ensures { λ r. ⌜ Advances (table (now (cells .entry)) (now (sets .entry))) p th (now (rows .entry)) (table (now (cells .exit)) (now (sets .exit))) r (now (rows .exit)) x y ⌝ }
 {
-    if p.refusal == 0 {
-        let t = x / 16;
-        let state = p.state;
-        let th = thread_at(state, t);
-        let o = machine::take_record(cells, sets, state, x, y);
-        let said = o.said;
-        let next = o.state;
-        if o.refusal == 0 {
-            let at = put_row(rows, p.at, t, th, said);
-            let more = row_count(said);
-            Standing {
-                state: next,
+    let t = x / 16;
+    let top = p.top;
+    let o = machine::take_record(cells, sets, top, th, x, y);
+    let said = o.said;
+    let next = o.thread;
+    let after = o.top;
+    if o.refusal == 0 {
+        let at = put_row(rows, p.at, t, th, said);
+        let more = row_count(said);
+        Advanced {
+            thread: next,
+            standing: Standing {
+                top: after,
                 refusal: 0,
                 done: p.done + 1,
                 finished: more + p.finished,
                 at: at,
-            }
-        } else {
-            Standing {
-                state: next,
+            },
+        }
+    } else {
+        Advanced {
+            thread: next,
+            standing: Standing {
+                top: after,
                 refusal: o.refusal,
                 done: p.done,
                 finished: p.finished,
                 at: p.at,
-            }
+            },
         }
-    } else {
-        p
     }
 }
 
-// The first `count` records, from a fresh bench.
+// The first `count` records, from a fresh bench; the first one refused ends them.
 pub fn carry_out(
     cells: &mut [u8; 4096],
     sets: &mut [u64; 256],
@@ -138,9 +134,10 @@ pub fn carry_out(
     requires { ⌜ (count ≤ 4096) × ((3 + 2 * count ≤ length (now schedule)) × (table (now cells) (now sets) ≡ (λ _. emptyBase))) ⌝ }
     ensures { λ r. ⌜ Carried (now (schedule .entry)) count (table (now (cells .exit)) (now (sets .exit))) r (now (rows .entry)) (now (rows .exit)) ⌝ }
 {
-    let state = machine::fresh_state();
+    let idle = definitions::idle_thread();
+    let mut threads = [idle; 4];
     let mut p = Standing {
-        state: state,
+        top: Top { root: 0, used: 1 },
         refusal: 0,
         done: 0,
         finished: 0,
@@ -148,11 +145,19 @@ pub fn carry_out(
     };
     let mut k = 0;
     while k < count {
+        if p.refusal != 0 {
+            return p;
+        }
         let record = schedule::read(schedule, k);
         let Record::Pair(x, y) = record else {
             return p;
         };
-        p = advance_one(cells, sets, p, x, y, rows);
+        let t = (x / 16 % 4) as usize;
+        let th = threads[t];
+        let a = advance_one(cells, sets, p, th, x, y, rows);
+        let next = a.thread;
+        threads[t] = next;
+        p = a.standing;
         k += 1;
     }
     p
@@ -184,16 +189,16 @@ pub fn run(schedule: &[u8], rows: &mut [u8]) -> Report
         let mut sets = [0u64; 256];
         let count = schedule::count_of(schedule);
         let p = carry_out(&mut cells, &mut sets, schedule, count, rows);
-        let state = p.state;
-        let set = tree::set_below(&cells, &sets, state.root, 18446744073709551615, 63);
-        let stored = tree::stored_below(&cells, &sets, state.root, 63);
+        let top = p.top;
+        let set = tree::set_below(&cells, &sets, top.root, 18446744073709551615, 63);
+        let stored = tree::stored_below(&cells, &sets, top.root, 63);
         return Report {
             refusal: p.refusal as u64,
             records: p.done as u64,
             rows: p.finished as u64,
             set: set,
             stored: stored,
-            used: state.used as u64,
+            used: top.used as u64,
         };
     }
     Report {

@@ -5,6 +5,7 @@ ghost use Rattle.nodes.specs.Cells.{table};
 ghost use Rattle.definitions.specs.Bench.{store};
 ghost use Rattle.definitions.specs.Places.{placeOf};
 ghost use Rattle.definitions.specs.Steps.{ended, invalid, names, replacement, cutAt, cutOn, cutRight, freeing, step};
+ghost use Rattle.steps.specs.Decision.{turnOf};
 use super::notes;
 use definitions::Effect;
 use definitions::Link;
@@ -12,25 +13,25 @@ use definitions::Node;
 use definitions::Spot;
 use definitions::Stage;
 use definitions::Thread;
-use definitions::Turn;
+use super::Decision;
 
 // The end of a completed join: the owner finishes yes, a helper goes to 1.
-pub fn end(effect: Effect, th: Thread) -> Turn
-    ensures { λ r. ⌜ r ≡ ended effect th ⌝ }
+pub fn end(effect: Effect, th: Thread) -> Decision
+    ensures { λ r. ⌜ turnOf r ≡ ended effect th ⌝ }
 {
     let owner = th.owner;
     if owner {
-        Turn::Finishes(effect, true)
+        Decision { what: 1, thread: th, effect: effect, answer: true }
     } else {
         let next = notes::go(th, 1);
-        Turn::Moves(next, effect)
+        Decision { what: 0, thread: next, effect: effect, answer: false }
     }
 }
 
 // 40: the stage is read.
-pub fn begin(cells: &[u8; 4096], sets: &[u64; 256], root: u8, used: usize, th: Thread) -> Turn
+pub fn begin(cells: &[u8; 4096], sets: &[u64; 256], root: u8, used: u16, th: Thread) -> Decision
     requires { ⌜ th .place ≡ 40 ⌝ }
-    ensures { λ r. ⌜ r ≡ step (placeOf (th .place)) (store (table (now (cells .entry)) (now (sets .entry))) root used) th ⌝ }
+    ensures { λ r. ⌜ turnOf r ≡ step (placeOf (th .place)) (store (table (now (cells .entry)) (now (sets .entry))) root used) th ⌝ }
 {
     let m = nodes::node_at(cells, sets, th.main);
     let stage = m.stage;
@@ -38,7 +39,7 @@ pub fn begin(cells: &[u8; 4096], sets: &[u64; 256], root: u8, used: usize, th: T
         end(Effect::Quiet, th)
     } else {
         let next = notes::go(th, 41);
-        Turn::Moves(next, Effect::Quiet)
+        Decision { what: 0, thread: next, effect: Effect::Quiet, answer: false }
     }
 }
 
@@ -74,8 +75,8 @@ pub fn invalidate(l: Link) -> Effect
 }
 
 // 46: the parent is cut out at the root, or the grandparent's left is read.
-pub fn cut(cells: &[u8; 4096], sets: &[u64; 256], root: u8, m: Node, th: Thread) -> Turn
-    ensures { λ r. ⌜ r ≡ cutAt (m .grandparent) m (table (now (cells .entry)) (now (sets .entry))) root th ⌝ }
+pub fn cut(cells: &[u8; 4096], sets: &[u64; 256], root: u8, m: Node, th: Thread) -> Decision
+    ensures { λ r. ⌜ turnOf r ≡ cutAt (m .grandparent) m (table (now (cells .entry)) (now (sets .entry))) root th ⌝ }
 {
     let grandparent = m.grandparent;
     let parent = m.parent;
@@ -84,40 +85,37 @@ pub fn cut(cells: &[u8; 4096], sets: &[u64; 256], root: u8, m: Node, th: Thread)
             let next = notes::go(th, 51);
             if leads_to(parent, root) {
                 let x = replacing(m);
-                Turn::Moves(
-                    next,
-                    Effect::Swing {
+                Decision { what: 0, thread: next, effect: Effect::Swing {
                         spot: Spot::Root,
                         to: x,
-                    },
-                )
+                    }, answer: false }
             } else {
-                Turn::Moves(next, Effect::Quiet)
+                Decision { what: 0, thread: next, effect: Effect::Quiet, answer: false }
             }
         }
         Link::To(g) => {
             let n = nodes::node_at(cells, sets, g);
             if leads_to(parent, n.left) {
                 let next = notes::go(th, 47);
-                Turn::Moves(next, Effect::Quiet)
+                Decision { what: 0, thread: next, effect: Effect::Quiet, answer: false }
             } else {
                 let next = notes::go(th, 48);
-                Turn::Moves(next, Effect::Quiet)
+                Decision { what: 0, thread: next, effect: Effect::Quiet, answer: false }
             }
         }
     }
 }
 
 // 47, 49: the parent is cut out on one side of the grandparent.
-pub fn cut_side(cells: &[u8; 4096], sets: &[u64; 256], left: bool, m: Node, th: Thread) -> Turn
-    ensures { λ r. ⌜ r ≡ cutOn left (m .grandparent) m (table (now (cells .entry)) (now (sets .entry))) th ⌝ }
+pub fn cut_side(cells: &[u8; 4096], sets: &[u64; 256], left: bool, m: Node, th: Thread) -> Decision
+    ensures { λ r. ⌜ turnOf r ≡ cutOn left (m .grandparent) m (table (now (cells .entry)) (now (sets .entry))) th ⌝ }
 {
     let grandparent = m.grandparent;
     let parent = m.parent;
     match grandparent {
         Link::Nil => {
             let next = notes::go(th, 46);
-            Turn::Moves(next, Effect::Quiet)
+            Decision { what: 0, thread: next, effect: Effect::Quiet, answer: false }
         }
         Link::To(g) => {
             let n = nodes::node_at(cells, sets, g);
@@ -125,73 +123,67 @@ pub fn cut_side(cells: &[u8; 4096], sets: &[u64; 256], left: bool, m: Node, th: 
             let next = notes::go(th, 50);
             if leads_to(parent, y) {
                 let x = replacing(m);
-                Turn::Moves(
-                    next,
-                    Effect::Swing {
+                Decision { what: 0, thread: next, effect: Effect::Swing {
                         spot: Spot::Under(g, left),
                         to: x,
-                    },
-                )
+                    }, answer: false }
             } else {
-                Turn::Moves(next, Effect::Quiet)
+                Decision { what: 0, thread: next, effect: Effect::Quiet, answer: false }
             }
         }
     }
 }
 
 // 48: the grandparent's right is read.
-pub fn read_right(cells: &[u8; 4096], sets: &[u64; 256], m: Node, th: Thread) -> Turn
-    ensures { λ r. ⌜ r ≡ cutRight (m .grandparent) m (table (now (cells .entry)) (now (sets .entry))) th ⌝ }
+pub fn read_right(cells: &[u8; 4096], sets: &[u64; 256], m: Node, th: Thread) -> Decision
+    ensures { λ r. ⌜ turnOf r ≡ cutRight (m .grandparent) m (table (now (cells .entry)) (now (sets .entry))) th ⌝ }
 {
     let grandparent = m.grandparent;
     let parent = m.parent;
     match grandparent {
         Link::Nil => {
             let next = notes::go(th, 46);
-            Turn::Moves(next, Effect::Quiet)
+            Decision { what: 0, thread: next, effect: Effect::Quiet, answer: false }
         }
         Link::To(g) => {
             let n = nodes::node_at(cells, sets, g);
             if leads_to(parent, n.right) {
                 let next = notes::go(th, 49);
-                Turn::Moves(next, Effect::Quiet)
+                Decision { what: 0, thread: next, effect: Effect::Quiet, answer: false }
             } else {
                 let next = notes::go(th, 50);
-                Turn::Moves(next, Effect::Quiet)
+                Decision { what: 0, thread: next, effect: Effect::Quiet, answer: false }
             }
         }
     }
 }
 
 // 50: the grandparent's mark goes from this main to none.
-pub fn free(cells: &[u8; 4096], sets: &[u64; 256], grandparent: Link, th: Thread) -> Turn
-    ensures { λ r. ⌜ r ≡ freeing grandparent (table (now (cells .entry)) (now (sets .entry))) th ⌝ }
+pub fn free(cells: &[u8; 4096], sets: &[u64; 256], grandparent: Link, th: Thread) -> Decision
+    ensures { λ r. ⌜ turnOf r ≡ freeing grandparent (table (now (cells .entry)) (now (sets .entry))) th ⌝ }
 {
     let next = notes::go(th, 51);
     match grandparent {
-        Link::Nil => Turn::Moves(next, Effect::Quiet),
+        Link::Nil => Decision { what: 0, thread: next, effect: Effect::Quiet, answer: false },
         Link::To(g) => {
             let n = nodes::node_at(cells, sets, g);
             let mark = n.mark;
             if leads_to(mark, th.main) {
-                Turn::Moves(
-                    next,
-                    Effect::Mark {
+                Decision { what: 0, thread: next, effect: Effect::Mark {
                         route: g,
                         mark: Link::Nil,
-                    },
-                )
+                    }, answer: false }
             } else {
-                Turn::Moves(next, Effect::Quiet)
+                Decision { what: 0, thread: next, effect: Effect::Quiet, answer: false }
             }
         }
     }
 }
 
 // 45 to 51.
-pub fn finish(cells: &[u8; 4096], sets: &[u64; 256], root: u8, used: usize, th: Thread) -> Turn
+pub fn finish(cells: &[u8; 4096], sets: &[u64; 256], root: u8, used: u16, th: Thread) -> Decision
     requires { ⌜ 45 ≤ th .place ⌝ }
-    ensures { λ r. ⌜ r ≡ step (placeOf (th .place)) (store (table (now (cells .entry)) (now (sets .entry))) root used) th ⌝ }
+    ensures { λ r. ⌜ turnOf r ≡ step (placeOf (th .place)) (store (table (now (cells .entry)) (now (sets .entry))) root used) th ⌝ }
 {
     let m = nodes::node_at(cells, sets, th.main);
     let place = th.place;
@@ -200,7 +192,7 @@ pub fn finish(cells: &[u8; 4096], sets: &[u64; 256], root: u8, used: usize, th: 
             let parent = m.parent;
             let effect = invalidate(parent);
             let next = notes::go(th, 46);
-            Turn::Moves(next, effect)
+            Decision { what: 0, thread: next, effect: effect, answer: false }
         }
         46 => cut(cells, sets, root, m, th),
         47 => cut_side(cells, sets, true, m, th),
@@ -217,6 +209,6 @@ pub fn finish(cells: &[u8; 4096], sets: &[u64; 256], root: u8, used: usize, th: 
             },
             th,
         ),
-        _ => Turn::Moves(th, Effect::Quiet),
+        _ => Decision { what: 0, thread: th, effect: Effect::Quiet, answer: false },
     }
 }

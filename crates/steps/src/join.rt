@@ -5,6 +5,7 @@ ghost use Rattle.nodes.specs.Cells.{table};
 ghost use Rattle.definitions.specs.Bench.{store};
 ghost use Rattle.definitions.specs.Places.{placeOf};
 ghost use Rattle.definitions.specs.Steps.{beside, hooked, isNil, marking, topped, climbed, backOut, unionParent, closed, unmark, grandMarking, step};
+ghost use Rattle.steps.specs.Decision.{turnOf};
 use super::notes;
 use definitions::Effect;
 use definitions::Kind;
@@ -13,57 +14,54 @@ use definitions::Node;
 use definitions::Spot;
 use definitions::Stage;
 use definitions::Thread;
-use definitions::Turn;
+use super::Decision;
 
 // 22, 23: node x is read on the way to the base beside.
-pub fn step_beside(cells: &[u8; 4096], sets: &[u64; 256], th: Thread, x: u8) -> Turn
-    ensures { λ r. ⌜ r ≡ beside (table (now (cells .entry)) (now (sets .entry))) th x ⌝ }
+pub fn step_beside(cells: &[u8; 4096], sets: &[u64; 256], th: Thread, x: u8) -> Decision
+    ensures { λ r. ⌜ turnOf r ≡ beside (table (now (cells .entry)) (now (sets .entry))) th x ⌝ }
 {
     let n = nodes::node_at(cells, sets, x);
     let kind = n.kind;
     if nodes::is_route(kind) {
         let next = notes::go_route(th, 23, x);
-        Turn::Moves(next, Effect::Quiet)
+        Decision { what: 0, thread: next, effect: Effect::Quiet, answer: false }
     } else {
         let next = notes::go_found(th, 24, x);
-        Turn::Moves(next, Effect::Quiet)
+        Decision { what: 0, thread: next, effect: Effect::Quiet, answer: false }
     }
 }
 
 // 25: the base under the parent becomes a main.
-pub fn hook(cells: &[u8; 4096], sets: &[u64; 256], used: usize, th: Thread) -> Turn
-    ensures { λ r. ⌜ r ≡ hooked (table (now (cells .entry)) (now (sets .entry))) used th ⌝ }
+pub fn hook(cells: &[u8; 4096], sets: &[u64; 256], used: u16, th: Thread) -> Decision
+    ensures { λ r. ⌜ turnOf r ≡ hooked (table (now (cells .entry)) (now (sets .entry))) used th ⌝ }
 {
     let p = nodes::node_at(cells, sets, th.parent);
     let x = nodes::kid_of(th.left, p);
     if x == th.base {
         if 255 < used {
-            return Turn::Full;
+            return Decision { what: 2, thread: th, effect: Effect::Quiet, answer: false };
         }
         let at = used as u8;
         let b = nodes::node_at(cells, sets, th.base);
         let parent = b.parent;
         let next = notes::go_main(th, 26, at, true);
         let spot = Spot::Under(th.parent, th.left);
-        return Turn::Moves(
-            next,
-            Effect::Base {
+        return Decision { what: 0, thread: next, effect: Effect::Base {
                 spot: spot,
                 at: at,
                 kind: Kind::Main,
                 parent: parent,
                 container: b.container,
                 main: 0,
-            },
-        );
+            }, answer: false };
     }
-    Turn::Finishes(Effect::Quiet, false)
+    Decision { what: 1, thread: th, effect: Effect::Quiet, answer: false }
 }
 
 // 20 to 25.
-pub fn approach(cells: &[u8; 4096], sets: &[u64; 256], root: u8, used: usize, th: Thread) -> Turn
+pub fn approach(cells: &[u8; 4096], sets: &[u64; 256], root: u8, used: u16, th: Thread) -> Decision
     requires { ⌜ (20 ≤ th .place) × (th .place < 26) ⌝ }
-    ensures { λ r. ⌜ r ≡ step (placeOf (th .place)) (store (table (now (cells .entry)) (now (sets .entry))) root used) th ⌝ }
+    ensures { λ r. ⌜ turnOf r ≡ step (placeOf (th .place)) (store (table (now (cells .entry)) (now (sets .entry))) root used) th ⌝ }
 {
     let place = th.place;
     match place {
@@ -71,19 +69,19 @@ pub fn approach(cells: &[u8; 4096], sets: &[u64; 256], root: u8, used: usize, th
             let p = nodes::node_at(cells, sets, th.parent);
             if p.left == th.base {
                 let next = notes::go_side(th, 22, true);
-                Turn::Moves(next, Effect::Quiet)
+                Decision { what: 0, thread: next, effect: Effect::Quiet, answer: false }
             } else {
                 let next = notes::go(th, 21);
-                Turn::Moves(next, Effect::Quiet)
+                Decision { what: 0, thread: next, effect: Effect::Quiet, answer: false }
             }
         }
         21 => {
             let p = nodes::node_at(cells, sets, th.parent);
             if p.right == th.base {
                 let next = notes::go_side(th, 22, false);
-                Turn::Moves(next, Effect::Quiet)
+                Decision { what: 0, thread: next, effect: Effect::Quiet, answer: false }
             } else {
-                Turn::Finishes(Effect::Quiet, false)
+                Decision { what: 1, thread: th, effect: Effect::Quiet, answer: false }
             }
         }
         22 => {
@@ -99,9 +97,9 @@ pub fn approach(cells: &[u8; 4096], sets: &[u64; 256], root: u8, used: usize, th
         24 => {
             if nodes::is_replaceable(cells, sets, th.found) {
                 let next = notes::go(th, 25);
-                Turn::Moves(next, Effect::Quiet)
+                Decision { what: 0, thread: next, effect: Effect::Quiet, answer: false }
             } else {
-                Turn::Finishes(Effect::Quiet, false)
+                Decision { what: 1, thread: th, effect: Effect::Quiet, answer: false }
             }
         }
         _ => hook(cells, sets, used, th),
@@ -126,73 +124,70 @@ pub fn mark(
     succeeded: u8,
     failed: u8,
     th: Thread,
-) -> Turn
-    ensures { λ r. ⌜ r ≡ marking (table (now (cells .entry)) (now (sets .entry))) g succeeded failed th ⌝ }
+) -> Decision
+    ensures { λ r. ⌜ turnOf r ≡ marking (table (now (cells .entry)) (now (sets .entry))) g succeeded failed th ⌝ }
 {
     let n = nodes::node_at(cells, sets, g);
     let held = n.mark;
     if is_nil(held) {
         let next = notes::go(th, succeeded);
-        Turn::Moves(
-            next,
-            Effect::Mark {
+        Decision { what: 0, thread: next, effect: Effect::Mark {
                 route: g,
                 mark: Link::To(th.main),
-            },
-        )
+            }, answer: false }
     } else {
         let next = notes::go(th, failed);
-        Turn::Moves(next, Effect::Quiet)
+        Decision { what: 0, thread: next, effect: Effect::Quiet, answer: false }
     }
 }
 
 // 31: the root is read.
-pub fn from_top(cells: &[u8; 4096], sets: &[u64; 256], root: u8, th: Thread) -> Turn
-    ensures { λ r. ⌜ r ≡ topped (table (now (cells .entry)) (now (sets .entry))) root th ⌝ }
+pub fn from_top(cells: &[u8; 4096], sets: &[u64; 256], root: u8, th: Thread) -> Decision
+    ensures { λ r. ⌜ turnOf r ≡ topped (table (now (cells .entry)) (now (sets .entry))) root th ⌝ }
 {
     if root == th.parent {
         let next = notes::go_grandparent(th, 34, Link::Nil);
-        return Turn::Moves(next, Effect::Quiet);
+        return Decision { what: 0, thread: next, effect: Effect::Quiet, answer: false };
     }
     let n = nodes::node_at(cells, sets, root);
     let kind = n.kind;
     if nodes::is_route(kind) {
         let next = notes::go_route(th, 32, root);
-        Turn::Moves(next, Effect::Quiet)
+        Decision { what: 0, thread: next, effect: Effect::Quiet, answer: false }
     } else {
         let next = notes::go(th, 37);
-        Turn::Moves(next, Effect::Quiet)
+        Decision { what: 0, thread: next, effect: Effect::Quiet, answer: false }
     }
 }
 
 // 32: node x is read on the way to the parent.
-pub fn climb(cells: &[u8; 4096], sets: &[u64; 256], x: u8, th: Thread) -> Turn
-    ensures { λ r. ⌜ r ≡ climbed (table (now (cells .entry)) (now (sets .entry))) x th ⌝ }
+pub fn climb(cells: &[u8; 4096], sets: &[u64; 256], x: u8, th: Thread) -> Decision
+    ensures { λ r. ⌜ turnOf r ≡ climbed (table (now (cells .entry)) (now (sets .entry))) x th ⌝ }
 {
     if x == th.parent {
         let next = notes::go_grandparent(th, 33, Link::To(th.route));
-        return Turn::Moves(next, Effect::Quiet);
+        return Decision { what: 0, thread: next, effect: Effect::Quiet, answer: false };
     }
     let n = nodes::node_at(cells, sets, x);
     let kind = n.kind;
     if nodes::is_route(kind) {
         let next = notes::go_route(th, 32, x);
-        Turn::Moves(next, Effect::Quiet)
+        Decision { what: 0, thread: next, effect: Effect::Quiet, answer: false }
     } else {
         let next = notes::go(th, 37);
-        Turn::Moves(next, Effect::Quiet)
+        Decision { what: 0, thread: next, effect: Effect::Quiet, answer: false }
     }
 }
 
 // 33: the grandparent's mark.
-pub fn mark_grandparent(cells: &[u8; 4096], sets: &[u64; 256], th: Thread) -> Turn
-    ensures { λ r. ⌜ r ≡ grandMarking (th .grandparent) (table (now (cells .entry)) (now (sets .entry))) th ⌝ }
+pub fn mark_grandparent(cells: &[u8; 4096], sets: &[u64; 256], th: Thread) -> Decision
+    ensures { λ r. ⌜ turnOf r ≡ grandMarking (th .grandparent) (table (now (cells .entry)) (now (sets .entry))) th ⌝ }
 {
     let link = th.grandparent;
     match link {
         Link::Nil => {
             let next = notes::go(th, 37);
-            Turn::Moves(next, Effect::Quiet)
+            Decision { what: 0, thread: next, effect: Effect::Quiet, answer: false }
         }
         Link::To(g) => mark(cells, sets, g, 34, 37, th),
     }
@@ -211,23 +206,21 @@ pub fn union_parent(cells: &[u8; 4096], sets: &[u64; 256], th: Thread) -> Link
 }
 
 // 35: the stage goes from preparing to a new neighbour.
-pub fn close(cells: &[u8; 4096], sets: &[u64; 256], used: usize, th: Thread) -> Turn
-    ensures { λ r. ⌜ r ≡ closed (table (now (cells .entry)) (now (sets .entry))) used th ⌝ }
+pub fn close(cells: &[u8; 4096], sets: &[u64; 256], used: u16, th: Thread) -> Decision
+    ensures { λ r. ⌜ turnOf r ≡ closed (table (now (cells .entry)) (now (sets .entry))) used th ⌝ }
 {
     let m = nodes::node_at(cells, sets, th.main);
     let stage = m.stage;
     let grandparent = th.grandparent;
     if nodes::is_preparing(stage) {
         if 255 < used {
-            return Turn::Full;
+            return Decision { what: 2, thread: th, effect: Effect::Quiet, answer: false };
         }
         let n = nodes::node_at(cells, sets, th.neighbour);
         let parent = union_parent(cells, sets, th);
         let c = container::united(m.container, n.container);
         let next = notes::go(th, 40);
-        return Turn::Moves(
-            next,
-            Effect::Commit {
+        return Decision { what: 0, thread: next, effect: Effect::Commit {
                 main: th.main,
                 at: used as u8,
                 parent: parent,
@@ -235,15 +228,14 @@ pub fn close(cells: &[u8; 4096], sets: &[u64; 256], used: usize, th: Thread) -> 
                 neighbour: th.neighbour,
                 grandparent: grandparent,
                 other: th.other,
-            },
-        );
+            }, answer: false };
     }
     if is_nil(grandparent) {
         let next = notes::go(th, 37);
-        Turn::Moves(next, Effect::Quiet)
+        Decision { what: 0, thread: next, effect: Effect::Quiet, answer: false }
     } else {
         let next = notes::go(th, 36);
-        Turn::Moves(next, Effect::Quiet)
+        Decision { what: 0, thread: next, effect: Effect::Quiet, answer: false }
     }
 }
 
@@ -261,9 +253,9 @@ pub fn unmarked(l: Link) -> Effect
 }
 
 // 30 to 38.
-pub fn prepare(cells: &[u8; 4096], sets: &[u64; 256], root: u8, used: usize, th: Thread) -> Turn
+pub fn prepare(cells: &[u8; 4096], sets: &[u64; 256], root: u8, used: u16, th: Thread) -> Decision
     requires { ⌜ (30 ≤ th .place) × (th .place < 40) ⌝ }
-    ensures { λ r. ⌜ r ≡ step (placeOf (th .place)) (store (table (now (cells .entry)) (now (sets .entry))) root used) th ⌝ }
+    ensures { λ r. ⌜ turnOf r ≡ step (placeOf (th .place)) (store (table (now (cells .entry)) (now (sets .entry))) root used) th ⌝ }
 {
     let place = th.place;
     match place {
@@ -280,32 +272,26 @@ pub fn prepare(cells: &[u8; 4096], sets: &[u64; 256], root: u8, used: usize, th:
             let p = nodes::node_at(cells, sets, th.parent);
             let x = nodes::kid_of(!th.left, p);
             let next = notes::go_other(th, 35, x);
-            Turn::Moves(next, Effect::Quiet)
+            Decision { what: 0, thread: next, effect: Effect::Quiet, answer: false }
         }
         35 => close(cells, sets, used, th),
         36 => {
             let link = th.grandparent;
             let effect = unmarked(link);
             let next = notes::go(th, 37);
-            Turn::Moves(next, effect)
+            Decision { what: 0, thread: next, effect: effect, answer: false }
         }
         37 => {
             let next = notes::go(th, 38);
-            Turn::Moves(
-                next,
-                Effect::Mark {
+            Decision { what: 0, thread: next, effect: Effect::Mark {
                     route: th.parent,
                     mark: Link::Nil,
-                },
-            )
+                }, answer: false }
         }
-        38 => Turn::Finishes(
-            Effect::Settle {
+        38 => Decision { what: 1, thread: th, effect: Effect::Settle {
                 main: th.main,
                 stage: Stage::Aborted,
-            },
-            false,
-        ),
-        _ => Turn::Moves(th, Effect::Quiet),
+            }, answer: false },
+        _ => Decision { what: 0, thread: th, effect: Effect::Quiet, answer: false },
     }
 }

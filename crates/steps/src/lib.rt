@@ -5,7 +5,8 @@ ghost use Rattle.nodes.specs.Cells.{table};
 ghost use Rattle.definitions.specs.Bench.{store};
 ghost use Rattle.definitions.specs.Places.{placeOf};
 ghost use Rattle.definitions.specs.Steps.{step};
-use definitions::Turn;
+ghost use Rattle.steps.specs.Decision.{turnOf};
+use definitions::Effect;
 use definitions::Thread;
 
 pub mod notes; // a thread's next notes
@@ -14,9 +15,17 @@ pub mod swap; // 10 to 13, 26 to 29, 41 to 44: the four-step swap
 pub mod join; // 20 to 38: a join until its stage is a node number
 pub mod complete; // 40 to 51: a join that is completed, by its owner or a helper
 
+// What a step decides: 0, the thread goes on to its next notes; 1, it finishes with the answer; 2, numbers have run out.
+pub struct Decision {
+    pub what: u8,
+    pub thread: Thread,
+    pub effect: Effect,
+    pub answer: bool,
+}
+
 // The place decides.
-pub fn decide(cells: &[u8; 4096], sets: &[u64; 256], root: u8, used: usize, th: Thread) -> Turn
-    ensures { λ r. ⌜ r ≡ step (placeOf (th .place)) (store (table (now (cells .entry)) (now (sets .entry))) root used) th ⌝ }
+pub fn decide(cells: &[u8; 4096], sets: &[u64; 256], root: u8, used: u16, th: Thread) -> Decision
+    ensures { λ r. ⌜ turnOf r ≡ step (placeOf (th .place)) (store (table (now (cells .entry)) (now (sets .entry))) root used) th ⌝ }
 {
     let place = th.place;
     match place {

@@ -5,6 +5,7 @@ ghost use Rattle.nodes.specs.Cells.{table};
 ghost use Rattle.definitions.specs.Bench.{store};
 ghost use Rattle.definitions.specs.Places.{placeOf};
 ghost use Rattle.definitions.specs.Steps.{reached, lost, cleared, helpAs, step};
+ghost use Rattle.steps.specs.Decision.{turnOf};
 use super::notes;
 use definitions::Action;
 use definitions::Effect;
@@ -13,72 +14,72 @@ use definitions::Link;
 use definitions::Node;
 use definitions::Stage;
 use definitions::Thread;
-use definitions::Turn;
+use super::Decision;
 
 // 1, 2: node x is read.
-pub fn reach(cells: &[u8; 4096], sets: &[u64; 256], th: Thread, x: u8) -> Turn
-    ensures { λ r. ⌜ r ≡ reached (table (now (cells .entry)) (now (sets .entry))) th x ⌝ }
+pub fn reach(cells: &[u8; 4096], sets: &[u64; 256], th: Thread, x: u8) -> Decision
+    ensures { λ r. ⌜ turnOf r ≡ reached (table (now (cells .entry)) (now (sets .entry))) th x ⌝ }
 {
     let n = nodes::node_at(cells, sets, x);
     let kind = n.kind;
     if nodes::is_route(kind) {
         let next = notes::go_route(th, 2, x);
-        return Turn::Moves(next, Effect::Quiet);
+        return Decision { what: 0, thread: next, effect: Effect::Quiet, answer: false };
     }
     let action = th.action;
     let next = notes::go_base(th, 3, x);
     match action {
         Action::Lookup => {
             let held = container::contains(n.container, th.station);
-            Turn::Finishes(Effect::Quiet, held)
+            Decision { what: 1, thread: th, effect: Effect::Quiet, answer: held }
         }
-        Action::Insert => Turn::Moves(next, Effect::Quiet),
-        Action::Remove => Turn::Moves(next, Effect::Quiet),
-        Action::Split => Turn::Moves(next, Effect::Quiet),
-        Action::Join => Turn::Moves(next, Effect::Quiet),
+        Action::Insert => Decision { what: 0, thread: next, effect: Effect::Quiet, answer: false },
+        Action::Remove => Decision { what: 0, thread: next, effect: Effect::Quiet, answer: false },
+        Action::Split => Decision { what: 0, thread: next, effect: Effect::Quiet, answer: false },
+        Action::Join => Decision { what: 0, thread: next, effect: Effect::Quiet, answer: false },
     }
 }
 
 // A base that is not replaceable, or a swap that failed: updates go to 15, others finish no.
-pub fn lose(th: Thread) -> Turn
-    ensures { λ r. ⌜ r ≡ lost th ⌝ }
+pub fn lose(th: Thread) -> Decision
+    ensures { λ r. ⌜ turnOf r ≡ lost th ⌝ }
 {
     let action = th.action;
     let next = notes::go(th, 15);
     match action {
-        Action::Lookup => Turn::Finishes(Effect::Quiet, false),
-        Action::Insert => Turn::Moves(next, Effect::Quiet),
-        Action::Remove => Turn::Moves(next, Effect::Quiet),
-        Action::Split => Turn::Finishes(Effect::Quiet, false),
-        Action::Join => Turn::Finishes(Effect::Quiet, false),
+        Action::Lookup => Decision { what: 1, thread: th, effect: Effect::Quiet, answer: false },
+        Action::Insert => Decision { what: 0, thread: next, effect: Effect::Quiet, answer: false },
+        Action::Remove => Decision { what: 0, thread: next, effect: Effect::Quiet, answer: false },
+        Action::Split => Decision { what: 1, thread: th, effect: Effect::Quiet, answer: false },
+        Action::Join => Decision { what: 1, thread: th, effect: Effect::Quiet, answer: false },
     }
 }
 
 // 3: the base b is replaceable.
-pub fn clear(b: Node, th: Thread) -> Turn
-    ensures { λ r. ⌜ r ≡ cleared b th ⌝ }
+pub fn clear(b: Node, th: Thread) -> Decision
+    ensures { λ r. ⌜ turnOf r ≡ cleared b th ⌝ }
 {
     let action = th.action;
     let next = notes::go(th, 10);
     match action {
-        Action::Lookup => Turn::Finishes(Effect::Quiet, false),
-        Action::Insert => Turn::Moves(next, Effect::Quiet),
-        Action::Remove => Turn::Moves(next, Effect::Quiet),
+        Action::Lookup => Decision { what: 1, thread: th, effect: Effect::Quiet, answer: false },
+        Action::Insert => Decision { what: 0, thread: next, effect: Effect::Quiet, answer: false },
+        Action::Remove => Decision { what: 0, thread: next, effect: Effect::Quiet, answer: false },
         Action::Split => {
             let size = container::count(b.container);
             if size < 2 {
-                Turn::Finishes(Effect::Quiet, false)
+                Decision { what: 1, thread: th, effect: Effect::Quiet, answer: false }
             } else {
-                Turn::Moves(next, Effect::Quiet)
+                Decision { what: 0, thread: next, effect: Effect::Quiet, answer: false }
             }
         }
         Action::Join => {
             let parent = b.parent;
             match parent {
-                Link::Nil => Turn::Finishes(Effect::Quiet, false),
+                Link::Nil => Decision { what: 1, thread: th, effect: Effect::Quiet, answer: false },
                 Link::To(p) => {
                     let under = notes::go_parent(th, 20, p);
-                    Turn::Moves(under, Effect::Quiet)
+                    Decision { what: 0, thread: under, effect: Effect::Quiet, answer: false }
                 }
             }
         }
@@ -86,9 +87,9 @@ pub fn clear(b: Node, th: Thread) -> Turn
 }
 
 // 1 to 3.
-pub fn find(cells: &[u8; 4096], sets: &[u64; 256], root: u8, used: usize, th: Thread) -> Turn
+pub fn find(cells: &[u8; 4096], sets: &[u64; 256], root: u8, used: u16, th: Thread) -> Decision
     requires { ⌜ th .place < 10 ⌝ }
-    ensures { λ r. ⌜ r ≡ step (placeOf (th .place)) (store (table (now (cells .entry)) (now (sets .entry))) root used) th ⌝ }
+    ensures { λ r. ⌜ turnOf r ≡ step (placeOf (th .place)) (store (table (now (cells .entry)) (now (sets .entry))) root used) th ⌝ }
 {
     let place = th.place;
     match place {
@@ -106,45 +107,45 @@ pub fn find(cells: &[u8; 4096], sets: &[u64; 256], root: u8, used: usize, th: Th
                 lose(th)
             }
         }
-        _ => Turn::Moves(th, Effect::Quiet),
+        _ => Decision { what: 0, thread: th, effect: Effect::Quiet, answer: false },
     }
 }
 
 // 15: what main m's stage leads to.
-pub fn help(stage: Stage, m: u8, th: Thread) -> Turn
-    ensures { λ r. ⌜ r ≡ helpAs stage m th ⌝ }
+pub fn help(stage: Stage, m: u8, th: Thread) -> Decision
+    ensures { λ r. ⌜ turnOf r ≡ helpAs stage m th ⌝ }
 {
     match stage {
         Stage::Preparing => {
             let next = notes::go_main(th, 16, m, false);
-            Turn::Moves(next, Effect::Quiet)
+            Decision { what: 0, thread: next, effect: Effect::Quiet, answer: false }
         }
         Stage::Completing => {
             let next = notes::go_main(th, 40, m, false);
-            Turn::Moves(next, Effect::Quiet)
+            Decision { what: 0, thread: next, effect: Effect::Quiet, answer: false }
         }
         Stage::Aborted => {
             let next = notes::go(th, 1);
-            Turn::Moves(next, Effect::Quiet)
+            Decision { what: 0, thread: next, effect: Effect::Quiet, answer: false }
         }
         Stage::Done => {
             let next = notes::go(th, 1);
-            Turn::Moves(next, Effect::Quiet)
+            Decision { what: 0, thread: next, effect: Effect::Quiet, answer: false }
         }
     }
 }
 
 // 15: the base's kind, and the stage of its main.
-pub fn inspect(cells: &[u8; 4096], sets: &[u64; 256], root: u8, used: usize, th: Thread) -> Turn
+pub fn inspect(cells: &[u8; 4096], sets: &[u64; 256], root: u8, used: u16, th: Thread) -> Decision
     requires { ⌜ th .place ≡ 15 ⌝ }
-    ensures { λ r. ⌜ r ≡ step (placeOf (th .place)) (store (table (now (cells .entry)) (now (sets .entry))) root used) th ⌝ }
+    ensures { λ r. ⌜ turnOf r ≡ step (placeOf (th .place)) (store (table (now (cells .entry)) (now (sets .entry))) root used) th ⌝ }
 {
     let b = nodes::node_at(cells, sets, th.base);
     let kind = b.kind;
     let again = notes::go(th, 1);
     match kind {
-        Kind::Normal => Turn::Moves(again, Effect::Quiet),
-        Kind::Route => Turn::Moves(again, Effect::Quiet),
+        Kind::Normal => Decision { what: 0, thread: again, effect: Effect::Quiet, answer: false },
+        Kind::Route => Decision { what: 0, thread: again, effect: Effect::Quiet, answer: false },
         Kind::Main => {
             let stage = b.stage;
             help(stage, th.base, th)
@@ -158,9 +159,9 @@ pub fn inspect(cells: &[u8; 4096], sets: &[u64; 256], root: u8, used: usize, th:
 }
 
 // 15, 16.
-pub fn blocked(cells: &[u8; 4096], sets: &[u64; 256], root: u8, used: usize, th: Thread) -> Turn
+pub fn blocked(cells: &[u8; 4096], sets: &[u64; 256], root: u8, used: u16, th: Thread) -> Decision
     requires { ⌜ (14 ≤ th .place) × (th .place < 20) ⌝ }
-    ensures { λ r. ⌜ r ≡ step (placeOf (th .place)) (store (table (now (cells .entry)) (now (sets .entry))) root used) th ⌝ }
+    ensures { λ r. ⌜ turnOf r ≡ step (placeOf (th .place)) (store (table (now (cells .entry)) (now (sets .entry))) root used) th ⌝ }
 {
     let place = th.place;
     match place {
@@ -170,11 +171,16 @@ pub fn blocked(cells: &[u8; 4096], sets: &[u64; 256], root: u8, used: usize, th:
             let stage = m.stage;
             let next = notes::go(th, 1);
             if nodes::is_preparing(stage) {
-                Turn::Moves(next, Effect::Settle { main: th.main, stage: Stage::Aborted })
+                Decision {
+                    what: 0,
+                    thread: next,
+                    effect: Effect::Settle { main: th.main, stage: Stage::Aborted },
+                    answer: false,
+                }
             } else {
-                Turn::Moves(next, Effect::Quiet)
+                Decision { what: 0, thread: next, effect: Effect::Quiet, answer: false }
             }
         }
-        _ => Turn::Moves(th, Effect::Quiet),
+        _ => Decision { what: 0, thread: th, effect: Effect::Quiet, answer: false },
     }
 }

@@ -5,6 +5,7 @@ ghost use Rattle.nodes.specs.Cells.{table};
 ghost use Rattle.definitions.specs.Bench.{store};
 ghost use Rattle.definitions.specs.Places.{quarterOf, quarterNumber, swap, own, found, united};
 ghost use Rattle.definitions.specs.Steps.{probe, replaced, step};
+ghost use Rattle.steps.specs.Decision.{turnOf};
 use super::notes;
 use super::search;
 use definitions::Action;
@@ -16,7 +17,7 @@ use definitions::Probe;
 use definitions::Quarter;
 use definitions::Spot;
 use definitions::Thread;
-use definitions::Turn;
+use super::Decision;
 
 // The step by its number from 0.
 pub fn quarter(k: u8) -> Quarter
@@ -97,46 +98,61 @@ pub fn look(cells: &[u8; 4096], sets: &[u64; 256], root: u8, parent: Link, x: u8
 }
 
 // The comparison of an update's or a split's swap succeeded.
-pub fn replace(spot: Spot, b: Node, used: usize, th: Thread) -> Turn
-    ensures { λ r. ⌜ r ≡ replaced spot b used th ⌝ }
+pub fn replace(spot: Spot, b: Node, used: u16, th: Thread) -> Decision
+    ensures { λ r. ⌜ turnOf r ≡ replaced spot b used th ⌝ }
 {
     let action = th.action;
     let parent = b.parent;
     match action {
-        Action::Lookup => Turn::Full,
+        Action::Lookup => Decision { what: 2, thread: th, effect: Effect::Quiet, answer: false },
         Action::Insert => {
             if 255 < used {
-                return Turn::Full;
+                return Decision { what: 2, thread: th, effect: Effect::Quiet, answer: false };
             }
             let held = container::contains(b.container, th.station);
             let c = container::with(b.container, th.station);
-            Turn::Finishes(Effect::Base { spot: spot, at: used as u8, kind: Kind::Normal, parent: parent, container: c, main: 0 }, !held)
+            Decision {
+                what: 1,
+                thread: th,
+                effect: Effect::Base { spot: spot, at: used as u8, kind: Kind::Normal, parent: parent, container: c, main: 0 },
+                answer: !held,
+            }
         }
         Action::Remove => {
             if 255 < used {
-                return Turn::Full;
+                return Decision { what: 2, thread: th, effect: Effect::Quiet, answer: false };
             }
             let held = container::contains(b.container, th.station);
             let c = container::without(b.container, th.station);
-            Turn::Finishes(Effect::Base { spot: spot, at: used as u8, kind: Kind::Normal, parent: parent, container: c, main: 0 }, held)
+            Decision {
+                what: 1,
+                thread: th,
+                effect: Effect::Base { spot: spot, at: used as u8, kind: Kind::Normal, parent: parent, container: c, main: 0 },
+                answer: held,
+            }
         }
         Action::Split => {
             if 253 < used {
-                return Turn::Full;
+                return Decision { what: 2, thread: th, effect: Effect::Quiet, answer: false };
             }
             let at = used as u8;
             let high = container::upper_half(b.container);
             let low = container::lower_half(b.container);
             let key = container::lowest(high);
-            Turn::Finishes(Effect::Fork { spot: spot, at: at, left: at + 1, right: at + 2, key: key, low: low, high: high }, true)
+            Decision {
+                what: 1,
+                thread: th,
+                effect: Effect::Fork { spot: spot, at: at, left: at + 1, right: at + 2, key: key, low: low, high: high },
+                answer: true,
+            }
         }
-        Action::Join => Turn::Full,
+        Action::Join => Decision { what: 2, thread: th, effect: Effect::Quiet, answer: false },
     }
 }
 
 // 10 to 13: the thread's own base.
-pub fn own(cells: &[u8; 4096], sets: &[u64; 256], root: u8, used: usize, th: Thread, q: Quarter) -> Turn
-    ensures { λ r. ⌜ r ≡ step (swap own q) (store (table (now (cells .entry)) (now (sets .entry))) root used) th ⌝ }
+pub fn own(cells: &[u8; 4096], sets: &[u64; 256], root: u8, used: u16, th: Thread, q: Quarter) -> Decision
+    ensures { λ r. ⌜ turnOf r ≡ step (swap own q) (store (table (now (cells .entry)) (now (sets .entry))) root used) th ⌝ }
 {
     let b = nodes::node_at(cells, sets, th.base);
     let parent = b.parent;
@@ -146,15 +162,15 @@ pub fn own(cells: &[u8; 4096], sets: &[u64; 256], root: u8, used: usize, th: Thr
         Probe::Next(r) => {
             let place = place_of(10, r);
             let next = notes::go(th, place);
-            Turn::Moves(next, Effect::Quiet)
+            Decision { what: 0, thread: next, effect: Effect::Quiet, answer: false }
         }
         Probe::Miss => search::lose(th),
     }
 }
 
 // 26 to 29: the base found, for a new neighbour.
-pub fn found(cells: &[u8; 4096], sets: &[u64; 256], root: u8, used: usize, th: Thread, q: Quarter) -> Turn
-    ensures { λ r. ⌜ r ≡ step (swap found q) (store (table (now (cells .entry)) (now (sets .entry))) root used) th ⌝ }
+pub fn found(cells: &[u8; 4096], sets: &[u64; 256], root: u8, used: u16, th: Thread, q: Quarter) -> Decision
+    ensures { λ r. ⌜ turnOf r ≡ step (swap found q) (store (table (now (cells .entry)) (now (sets .entry))) root used) th ⌝ }
 {
     let b = nodes::node_at(cells, sets, th.found);
     let parent = b.parent;
@@ -162,27 +178,32 @@ pub fn found(cells: &[u8; 4096], sets: &[u64; 256], root: u8, used: usize, th: T
     match seen {
         Probe::Hit(spot) => {
             if 255 < used {
-                return Turn::Full;
+                return Decision { what: 2, thread: th, effect: Effect::Quiet, answer: false };
             }
             let at = used as u8;
             let next = notes::go_neighbour(th, 30, at);
-            Turn::Moves(next, Effect::Base { spot: spot, at: at, kind: Kind::Neighbour, parent: parent, container: b.container, main: th.main })
+            Decision {
+                what: 0,
+                thread: next,
+                effect: Effect::Base { spot: spot, at: at, kind: Kind::Neighbour, parent: parent, container: b.container, main: th.main },
+                answer: false,
+            }
         }
         Probe::Next(r) => {
             let place = place_of(26, r);
             let next = notes::go(th, place);
-            Turn::Moves(next, Effect::Quiet)
+            Decision { what: 0, thread: next, effect: Effect::Quiet, answer: false }
         }
         Probe::Miss => {
             let next = notes::go(th, 38);
-            Turn::Moves(next, Effect::Quiet)
+            Decision { what: 0, thread: next, effect: Effect::Quiet, answer: false }
         }
     }
 }
 
 // 41 to 44: the neighbour, for the union node.
-pub fn united(cells: &[u8; 4096], sets: &[u64; 256], root: u8, used: usize, th: Thread, q: Quarter) -> Turn
-    ensures { λ r. ⌜ r ≡ step (swap united q) (store (table (now (cells .entry)) (now (sets .entry))) root used) th ⌝ }
+pub fn united(cells: &[u8; 4096], sets: &[u64; 256], root: u8, used: u16, th: Thread, q: Quarter) -> Decision
+    ensures { λ r. ⌜ turnOf r ≡ step (swap united q) (store (table (now (cells .entry)) (now (sets .entry))) root used) th ⌝ }
 {
     let m = nodes::node_at(cells, sets, th.main);
     let b = nodes::node_at(cells, sets, m.neighbour);
@@ -191,16 +212,16 @@ pub fn united(cells: &[u8; 4096], sets: &[u64; 256], root: u8, used: usize, th: 
     match seen {
         Probe::Hit(spot) => {
             let next = notes::go(th, 45);
-            Turn::Moves(next, Effect::Swing { spot: spot, to: m.union })
+            Decision { what: 0, thread: next, effect: Effect::Swing { spot: spot, to: m.union }, answer: false }
         }
         Probe::Next(r) => {
             let place = place_of(41, r);
             let next = notes::go(th, place);
-            Turn::Moves(next, Effect::Quiet)
+            Decision { what: 0, thread: next, effect: Effect::Quiet, answer: false }
         }
         Probe::Miss => {
             let next = notes::go(th, 45);
-            Turn::Moves(next, Effect::Quiet)
+            Decision { what: 0, thread: next, effect: Effect::Quiet, answer: false }
         }
     }
 }

@@ -4,9 +4,6 @@ use borrow.Author.Needs.{needs}
 use Rattle.machine.proofs.take_record.Statement.{statement}
 use Rattle.machine.proofs.take_record.Tie as tie
 
-cast-t : tie.Need-cast-t
-cast-t c = search needs
-
 refuse-requires : tie.Need-refuse-requires
 refuse-requires c κs = search needs
 
@@ -59,7 +56,6 @@ pub take-record-spec : {M : Type 1} → statement M
 take-record-spec =
     tie.close
     (tie.spec
-    cast-t
     refuse-requires
     returns
     take-step-requires

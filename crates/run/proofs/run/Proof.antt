@@ -28,19 +28,22 @@ stored-below-requires c κs = search needs
 cast-t21 : tie.Need-cast-t21
 cast-t21 c = search needs
 
+cast-t24 : tie.Need-cast-t24
+cast-t24 c = search needs
+
 same-length : tie.Need-same-length
 same-length c = search needs
 
 returns : tie.Need-returns
 returns c =
-    let g = c .before .before .before .before .before .before .before .before .before .before in
+    let g = c .before .before .before .before .before .before .before .before .before .before .before in
     let n = g .before .before .before .before in
     let t = n .before in
     let e = t .before .refusal-of .ensures .0 in
     let z = t .if1 .taken in
     let d = n .count-of .ensures in
     let h = g .carry-out .ensures in
-    (ended-report _ _ e z d h (c .before .before .before .before .set-below .ensures) (c .before .stored-below .ensures), ended-buffer _ _ e z d h)
+    (ended-report _ _ e z d h (c .before .before .before .before .before .set-below .ensures) (c .before .before .stored-below .ensures), ended-buffer _ _ e z d h)
 
 returns-2 : tie.Need-returns-2
 returns-2 c =
@@ -57,6 +60,7 @@ run-spec =
     set-below-requires
     stored-below-requires
     cast-t21
+    cast-t24
     same-length
     returns
     returns-2)

@@ -25,8 +25,8 @@ united-requires c κs = search needs
 go-requires : tie.Need-go-requires
 go-requires c κs = search needs
 
-cast-t16 : tie.Need-cast-t16
-cast-t16 c = search needs
+cast-t17 : tie.Need-cast-t17
+cast-t17 c = search needs
 
 returns-2 : tie.Need-returns-2
 returns-2 c = search close-cases
@@ -57,7 +57,7 @@ close-spec =
     union-parent-requires
     united-requires
     go-requires
-    cast-t16
+    cast-t17
     returns-2
     is-nil-requires
     go-requires-2

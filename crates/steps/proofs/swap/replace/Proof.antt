@@ -19,8 +19,8 @@ contains-requires c κs = search needs
 with-requires : tie.Need-with-requires
 with-requires c κs = search needs
 
-cast-t17 : tie.Need-cast-t17
-cast-t17 c = search needs
+cast-t19 : tie.Need-cast-t19
+cast-t19 c = search needs
 
 enum-told-3 : tie.Need-enum-told-3
 enum-told-3 c = search needs
@@ -34,8 +34,8 @@ contains-requires-2 c κs = search needs
 without-requires : tie.Need-without-requires
 without-requires c κs = search needs
 
-cast-t21 : tie.Need-cast-t21
-cast-t21 c = search needs
+cast-t24 : tie.Need-cast-t24
+cast-t24 c = search needs
 
 enum-told-4 : tie.Need-enum-told-4
 enum-told-4 c = search needs
@@ -55,11 +55,11 @@ lower-half-requires c κs = search needs
 lowest-requires : tie.Need-lowest-requires
 lowest-requires c κs = search needs
 
-add-t25 : tie.Need-add-t25
-add-t25 c = search needs
+add-t29 : tie.Need-add-t29
+add-t29 c = search needs
 
-add-t26 : tie.Need-add-t26
-add-t26 c = search needs
+add-t30 : tie.Need-add-t30
+add-t30 c = search needs
 
 enum-told-5 : tie.Need-enum-told-5
 enum-told-5 c = search needs
@@ -88,20 +88,20 @@ replace-spec =
     returns
     contains-requires
     with-requires
-    cast-t17
+    cast-t19
     enum-told-3
     returns-2
     contains-requires-2
     without-requires
-    cast-t21
+    cast-t24
     enum-told-4
     returns-3
     cast-at
     upper-half-requires
     lower-half-requires
     lowest-requires
-    add-t25
-    add-t26
+    add-t29
+    add-t30
     enum-told-5
     returns-4
     returns-5
