@@ -5,18 +5,13 @@ ghost use Rattle.nodes.specs.Cells.{table};
 ghost use Rattle.definitions.specs.Nodes.{newBase, newRoute};
 ghost use Rattle.definitions.specs.Bench.{store};
 ghost use Rattle.definitions.specs.Effects.{hang, forked, perform};
+ghost use Rattle.effects.specs.Used.{usedAfter};
 use definitions::Effect;
 use definitions::Kind;
 use definitions::Link;
 use definitions::Node;
 use definitions::Spot;
 use definitions::Stage;
-
-// The root, and how many node numbers are used.
-pub struct Top {
-    pub root: u8,
-    pub used: u16,
-}
 
 // A new base.
 pub fn put_base(
@@ -117,31 +112,41 @@ pub fn put_fork(
     put_base(cells, sets, right, Kind::Normal, Link::To(at), high, 0);
 }
 
-// The effect is carried out.
-pub fn apply(cells: &mut [u8; 4096], sets: &mut [u64; 256], top: Top, e: Effect) -> Top
-    ensures { λ r. ⌜ store (table (now (cells .exit)) (now (sets .exit))) (r .root) (r .used) ≡ perform e (store (table (now (cells .entry)) (now (sets .entry))) (top .root) (top .used)) ⌝ }
+// How many node numbers are used after the effect.
+pub fn used_after(used: u16, e: Effect) -> u16
+    ensures { λ r. ⌜ r ≡ usedAfter used e ⌝ }
 {
     match e {
-        Effect::Quiet => top,
+        Effect::Quiet => used,
+        Effect::Mark { .. } => used,
+        Effect::Settle { .. } => used,
+        Effect::Invalid { .. } => used,
+        Effect::Swing { .. } => used,
+        Effect::Base { at, .. } => at as u16 + 1,
+        Effect::Fork { at, .. } => at as u16 + 3,
+        Effect::Commit { at, .. } => at as u16 + 1,
+    }
+}
+
+// The effect is carried out; gives the root.
+pub fn apply(cells: &mut [u8; 4096], sets: &mut [u64; 256], root: u8, used: u16, e: Effect) -> u8
+    ensures { λ r. ⌜ store (table (now (cells .exit)) (now (sets .exit))) r (usedAfter used e) ≡ perform e (store (table (now (cells .entry)) (now (sets .entry))) root used) ⌝ }
+{
+    match e {
+        Effect::Quiet => root,
         Effect::Mark { route, mark } => {
             nodes::set_mark(cells, sets, route, mark);
-            top
+            root
         }
         Effect::Settle { main, stage } => {
             nodes::set_stage(cells, sets, main, stage);
-            top
+            root
         }
         Effect::Invalid { route } => {
             nodes::set_valid(cells, sets, route, false);
-            top
+            root
         }
-        Effect::Swing { spot, to } => {
-            let root = hang_at(cells, sets, top.root, top.used, spot, to);
-            Top {
-                root: root,
-                used: top.used,
-            }
-        }
+        Effect::Swing { spot, to } => hang_at(cells, sets, root, used, spot, to),
         Effect::Base {
             spot,
             at,
@@ -151,12 +156,7 @@ pub fn apply(cells: &mut [u8; 4096], sets: &mut [u64; 256], top: Top, e: Effect)
             main,
         } => {
             put_base(cells, sets, at, kind, parent, container, main);
-            let used = at as u16 + 1;
-            let root = hang_at(cells, sets, top.root, used, spot, at);
-            Top {
-                root: root,
-                used: used,
-            }
+            hang_at(cells, sets, root, used, spot, at)
         }
         Effect::Fork {
             spot,
@@ -168,12 +168,7 @@ pub fn apply(cells: &mut [u8; 4096], sets: &mut [u64; 256], top: Top, e: Effect)
             high,
         } => {
             put_fork(cells, sets, at, left, right, key, low, high);
-            let used = at as u16 + 3;
-            let root = hang_at(cells, sets, top.root, used, spot, at);
-            Top {
-                root: root,
-                used: used,
-            }
+            hang_at(cells, sets, root, used, spot, at)
         }
         Effect::Commit {
             main,
@@ -186,10 +181,7 @@ pub fn apply(cells: &mut [u8; 4096], sets: &mut [u64; 256], top: Top, e: Effect)
         } => {
             put_base(cells, sets, at, Kind::Neighbour, parent, container, main);
             nodes::commit(cells, sets, main, at, neighbour, grandparent, other);
-            Top {
-                root: top.root,
-                used: at as u16 + 1,
-            }
+            root
         }
     }
 }

@@ -43,7 +43,7 @@ room-for file room = has-room (fileRefusal file) room 4096 6 (λ z. omega arith)
 abbrev textAt : Nodes → ℕ → List ℕ
 textAt n root = subtreeText 63 n root ++ setLine (setBelow 63 n root all)
 
-text-at : {n : Nodes} {threads : ℕ → Thread} {s : Standing} {first buffer : List ℕ} (p : Progress) → Stands n threads s first buffer p → textAt n (s .top .root) ≡ listing (p .bench)
+text-at : {n : Nodes} {threads : ℕ → Thread} {s : Standing} {first buffer : List ℕ} (p : Progress) → Stands n threads s first buffer p → textAt n (s .root) ≡ listing (p .bench)
 unfolding listing treeSet
 text-at p h = ap (λ (b : Bench). textAt (b .store .nodes) (b .store .root)) (h .bench)
 
@@ -59,7 +59,7 @@ module _ (file text : List ℕ) {bad : ℕ} (e : bad ≡ listRefusal file (lengt
 
   -- all records carried out, and the text written
   module _ {n : Nodes} {s : Standing} {first buffer : List ℕ} {count at : ℕ} {text' : List ℕ} (z : bad ≡ 0) (d : count ≡ countOf file) (h : Carried file count n s first buffer)
-      (w : page text' at ≡ putAll (page text 0) (subtreeText 63 n (s .top .root) ++ setLine (setBelow 63 n (s .top .root) all))) where
+      (w : page text' at ≡ putAll (page text 0) (subtreeText 63 n (s .root) ++ setLine (setBelow 63 n (s .root) all))) where
     written : page text' at ≡ page (overlay (listing (after file count .bench)) text) (length (listing (after file count .bench)))
     written = w ∙ rw (text-at (after file count) h) (put-fits _ text (omega (arith, reach-fits file count, room-for file (length text) (sym e ∙ z))))
 

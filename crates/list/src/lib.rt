@@ -31,8 +31,7 @@ pub fn list(schedule: &[u8], text: &mut [u8]) -> Listed
         let mut none = [0u8; 1];
         let count = schedule::count_of(schedule);
         let p = run::carry_out(&mut cells, &mut sets, schedule, count, &mut none[..0]);
-        let top = p.top;
-        let at = listing::write_tree(&cells, &sets, top.root, text);
+        let at = listing::write_tree(&cells, &sets, p.root, text);
         return Listed {
             refusal: p.refusal as u64,
             length: at as u64,

@@ -1,5 +1,5 @@
 -- What each function has written, one law for each way out; p is the page before. Assumes nothing.
-use mathlib.Core.Path.{_≡_, refl, sym, ap, _∙_}
+use mathlib.Core.Path.{_≡_, refl, ap, _∙_}
 use mathlib.Core.Bool.{Bool, true, false}
 use mathlib.Core.List.{List, [], _∷_, _++_, append-assoc}
 use Prim.Native.Nat.{ℕ, zero, suc, _+_, _-_, _≤_}
@@ -15,17 +15,7 @@ use Rattle.definitions.specs.declared.Kind.{Kind}
 use Rattle.definitions.specs.declared.Kind.the-variants.{Normal, Route, Main, Neighbour}
 use Rattle.definitions.specs.declared.Node.{Node}
 use Rattle.buffer.specs.Page.{Page, page, put, putAll}
-use Rattle.buffer.proofs.Laws.{putAll-append}
-
--- ---- two writes, one after the other
-
-joined : (p : Page) (xs ys : List ℕ) {q r : Page} → q ≡ putAll p xs → r ≡ putAll q ys → r ≡ putAll p (xs ++ ys)
-joined p xs ys e f = f ∙ rw e (sym (putAll-append p xs ys))
-
--- the second one a single byte
-ended : (p : Page) (xs : List ℕ) (y : ℕ) {q r : Page} → q ≡ putAll p xs → r ≡ put q y → r ≡ putAll p (xs ++ y ∷ [])
-unfolding putAll
-ended p xs y e f = joined p xs (y ∷ []) e f
+use Rattle.buffer.proofs.Laws.{joined, ended}
 
 -- and the first one
 begun : (p : Page) (x : ℕ) (ys : List ℕ) {q r : Page} → q ≡ put p x → r ≡ putAll q ys → r ≡ putAll p (x ∷ ys)

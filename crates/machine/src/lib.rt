@@ -1,157 +1,199 @@
-// One record carried out on a bench: its refusals, a start, or one step of a thread.
+// One record of a schedule: what it asks of its thread, a start, and a step that has been decided.
 ghost use mathlib.Core.Path.{_≡_};
 ghost use Rattle.nodes.specs.Cells.{table};
-ghost use Rattle.definitions.specs.Records.{stepped, started};
-ghost use Rattle.machine.specs.State.{refusedWith, turned, Does, Takes};
+ghost use Rattle.definitions.specs.Bench.{begun, store};
+ghost use Rattle.definitions.specs.Places.{toGrandparent};
+ghost use Rattle.definitions.specs.Effects.{perform};
+ghost use Rattle.effects.specs.Used.{usedAfter};
+ghost use Rattle.steps.specs.Decision.{noted, written};
+ghost use Rattle.machine.specs.Asked.{asked, actionOf};
 use definitions::Action;
+use definitions::Effect;
+use definitions::Link;
 use definitions::Thread;
-use effects::Top;
+use steps::Note;
 
-// Whether a record adds a row, and its answer.
-pub enum Said {
-    Nothing,
-    Answer(bool),
-}
-
-// A record's refusal (0 for none) and row, and its thread and the top after it.
-pub struct Outcome {
-    pub thread: Thread,
-    pub top: Top,
-    pub refusal: u8,
-    pub said: Said,
-}
-
-// A record refused: the state is the one before it.
-pub fn refuse(top: Top, th: Thread, number: u8) -> Outcome
-    ensures { λ r. ⌜ r ≡ refusedWith top th number ⌝ }
+// What a record asks of its thread, which is at the given place: 0, a step; 1, a start; else the number that it is refused with.
+pub fn ask(x: u8, y: u8, place: u8) -> u8
+    ensures { λ r. ⌜ r ≡ asked x y place ⌝ }
 {
-    Outcome {
-        thread: th,
-        top: top,
-        refusal: number,
-        said: Said::Nothing,
+    if 3 < x / 16 {
+        return 7;
     }
-}
-
-// One step of a busy thread: its place decides, and its effect is carried out.
-pub fn move_thread(cells: &mut [u8; 4096], sets: &mut [u64; 256], top: Top, th: Thread) -> Outcome
-    ensures { λ r. ⌜ Does turned (table (now (cells .entry)) (now (sets .entry))) top th (table (now (cells .exit)) (now (sets .exit))) r ⌝ }
-{
-    let d = steps::decide(cells, sets, top.root, top.used, th);
-    let what = d.what;
-    let effect = d.effect;
-    match what {
-        0 => {
-            let after = effects::apply(cells, sets, top, effect);
-            let next = d.thread;
-            Outcome {
-                thread: next,
-                top: after,
-                refusal: 0,
-                said: Said::Nothing,
-            }
-        }
-        1 => {
-            let after = effects::apply(cells, sets, top, effect);
-            let next = definitions::idle_thread();
-            Outcome {
-                thread: next,
-                top: after,
-                refusal: 0,
-                said: Said::Answer(d.answer),
-            }
-        }
-        _ => refuse(top, th, 13),
-    }
-}
-
-// A step record with second byte y.
-pub fn take_step(
-    cells: &mut [u8; 4096],
-    sets: &mut [u64; 256],
-    top: Top,
-    th: Thread,
-    y: u8,
-) -> Outcome
-    ensures { λ r. ⌜ Does (λ b t. stepped b t y) (table (now (cells .entry)) (now (sets .entry))) top th (table (now (cells .exit)) (now (sets .exit))) r ⌝ }
-{
-    if y == 0 {
-        if th.place == 0 {
-            refuse(top, th, 12)
-        } else {
-            move_thread(cells, sets, top, th)
-        }
-    } else {
-        refuse(top, th, 10)
-    }
-}
-
-// A start record for station y.
-pub fn start(
-    cells: &[u8; 4096],
-    sets: &[u64; 256],
-    top: Top,
-    th: Thread,
-    action: Action,
-    y: u8,
-) -> Outcome
-    ensures { λ r. ⌜ Does (λ b t. started b t action y) (table (now (cells .entry)) (now (sets .entry))) top th (table (now (cells .entry)) (now (sets .entry))) r ⌝ }
-{
-    if 63 < y {
-        return refuse(top, th, 9);
-    }
-    if th.place == 0 {
-        let blank = definitions::idle_thread();
-        let grandparent = blank.grandparent;
-        let next = Thread {
-            action: action,
-            station: y,
-            place: 1,
-            route: blank.route,
-            base: blank.base,
-            parent: blank.parent,
-            left: blank.left,
-            found: blank.found,
-            neighbour: blank.neighbour,
-            main: blank.main,
-            owner: blank.owner,
-            grandparent: grandparent,
-            other: blank.other,
-        };
-        Outcome {
-            thread: next,
-            top: top,
-            refusal: 0,
-            said: Said::Nothing,
-        }
-    } else {
-        refuse(top, th, 11)
-    }
-}
-
-// A record by its two bytes; th is its thread, or any where it names none of the four.
-pub fn take_record(
-    cells: &mut [u8; 4096],
-    sets: &mut [u64; 256],
-    top: Top,
-    th: Thread,
-    x: u8,
-    y: u8,
-) -> Outcome
-    ensures { λ r. ⌜ Takes (table (now (cells .entry)) (now (sets .entry))) top th x y (table (now (cells .exit)) (now (sets .exit))) r ⌝ }
-{
-    let t = x / 16;
     let a = x % 16;
-    if 3 < t {
-        return refuse(top, th, 7);
+    if a == 0 {
+        if y == 0 {
+            if place == 0 {
+                return 12;
+            }
+            return 0;
+        }
+        return 10;
     }
+    if 5 < a {
+        return 8;
+    }
+    if 63 < y {
+        return 9;
+    }
+    if place == 0 {
+        return 1;
+    }
+    11
+}
+
+// The action of a start.
+pub fn action_of(a: u8) -> Action
+    ensures { λ r. ⌜ r ≡ actionOf a ⌝ }
+{
     match a {
-        0 => take_step(cells, sets, top, th, y),
-        1 => start(cells, sets, top, th, Action::Lookup, y),
-        2 => start(cells, sets, top, th, Action::Insert, y),
-        3 => start(cells, sets, top, th, Action::Remove, y),
-        4 => start(cells, sets, top, th, Action::Split, y),
-        5 => start(cells, sets, top, th, Action::Join, y),
-        _ => refuse(top, th, 8),
+        1 => Action::Lookup,
+        2 => Action::Insert,
+        3 => Action::Remove,
+        4 => Action::Split,
+        _ => Action::Join,
+    }
+}
+
+// A thread that has noted an operation, at 1.
+pub fn begin(a: u8, y: u8) -> Thread
+    ensures { λ r. ⌜ r ≡ begun (actionOf a) y 1 ⌝ }
+{
+    let action = action_of(a);
+    Thread {
+        action: action,
+        station: y,
+        place: 1,
+        route: 0,
+        base: 0,
+        parent: 0,
+        left: true,
+        found: 0,
+        neighbour: 0,
+        main: 0,
+        owner: false,
+        grandparent: Link::Nil,
+        other: 0,
+    }
+}
+
+// A thread with another grandparent.
+fn with_grandparent(th: Thread, g: Link) -> Thread
+    ensures { λ r. ⌜ r ≡ toGrandparent (th .place) g th ⌝ }
+{
+    let action = th.action;
+    Thread {
+        action: action,
+        station: th.station,
+        place: th.place,
+        route: th.route,
+        base: th.base,
+        parent: th.parent,
+        left: th.left,
+        found: th.found,
+        neighbour: th.neighbour,
+        main: th.main,
+        owner: th.owner,
+        grandparent: g,
+        other: th.other,
+    }
+}
+
+// The thread at its new place, with its note.
+pub fn note(th: Thread, place: u8, note: Note, value: u8) -> Thread
+    ensures { λ r. ⌜ r ≡ noted note place value th ⌝ }
+{
+    let action = th.action;
+    let grandparent = th.grandparent;
+    let mut next = Thread {
+        action: action,
+        station: th.station,
+        place: place,
+        route: th.route,
+        base: th.base,
+        parent: th.parent,
+        left: th.left,
+        found: th.found,
+        neighbour: th.neighbour,
+        main: th.main,
+        owner: th.owner,
+        grandparent: grandparent,
+        other: th.other,
+    };
+    match note {
+        Note::Nothing => next,
+        Note::Route => {
+            next.route = value;
+            next
+        }
+        Note::Base => {
+            next.base = value;
+            next
+        }
+        Note::Parent => {
+            next.parent = value;
+            next
+        }
+        Note::Left => {
+            next.left = true;
+            next
+        }
+        Note::Right => {
+            next.left = false;
+            next
+        }
+        Note::Found => {
+            next.found = value;
+            next
+        }
+        Note::Neighbour => {
+            next.neighbour = value;
+            next
+        }
+        Note::Owned => {
+            next.main = value;
+            next.owner = true;
+            next
+        }
+        Note::Helped => {
+            next.main = value;
+            next.owner = false;
+            next
+        }
+        Note::Topmost => with_grandparent(next, Link::Nil),
+        Note::Grandparent => with_grandparent(next, Link::To(value)),
+        Note::Other => {
+            next.other = value;
+            next
+        }
+    }
+}
+
+// What a step writes is carried out; gives the root.
+pub fn enact(
+    cells: &mut [u8; 4096],
+    sets: &mut [u64; 256],
+    root: u8,
+    used: u16,
+    writes: bool,
+    e: Effect,
+) -> u8
+    ensures { λ r. ⌜ store (table (now (cells .exit)) (now (sets .exit))) r (usedAfter used (written writes e)) ≡ perform (written writes e) (store (table (now (cells .entry)) (now (sets .entry))) root used) ⌝ }
+{
+    if writes {
+        effects::apply(cells, sets, root, used, e)
+    } else {
+        root
+    }
+}
+
+// The numbers used after it.
+pub fn used_then(used: u16, writes: bool, e: Effect) -> u16
+    ensures { λ r. ⌜ r ≡ usedAfter used (written writes e) ⌝ }
+{
+    if writes {
+        effects::used_after(used, e)
+    } else {
+        used
     }
 }

@@ -13,16 +13,7 @@ use Rattle.container.specs.Choice.{ite}
 use Rattle.definitions.specs.Listing.{space, newline, decimal}
 use Rattle.definitions.specs.Printed.{records-word, of-word, refusal-word, stored-word, used-word, actionWord, answerWord, firstLine, rowLines, lastLine}
 use Rattle.buffer.specs.Page.{Page, page, put, putAll}
-use Rattle.buffer.proofs.Laws.{putAll-append}
-
--- two writes, one after the other
-joined : (p : Page) (xs ys : List ℕ) {q r : Page} → q ≡ putAll p xs → r ≡ putAll q ys → r ≡ putAll p (xs ++ ys)
-joined p xs ys e f = f ∙ rw e (sym (putAll-append p xs ys))
-
--- the second one a single byte
-ended : (p : Page) (xs : List ℕ) (y : ℕ) {q r : Page} → q ≡ putAll p xs → r ≡ put q y → r ≡ putAll p (xs ++ y ∷ [])
-unfolding putAll
-ended p xs y e f = joined p xs (y ∷ []) e f
+use Rattle.buffer.proofs.Laws.{joined, ended}
 
 -- ---- the word for an action
 

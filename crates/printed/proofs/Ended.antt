@@ -18,8 +18,8 @@ use Rattle.definitions.specs.declared.Report.{Report}
 use Rattle.definitions.specs.declared.Listed.{Listed}
 use Rattle.buffer.specs.Page.{Page, putAll}
 use Rattle.answers.proofs.Reach.{reach-stored}
-use Rattle.run.proofs.Rows.{done-few}
-use Rattle.printed.proofs.Used.{used-few, refusal-few, rows-length}
+use Rattle.run.proofs.Rows.{done-few, rows-length}
+use Rattle.printed.proofs.Used.{used-few, refusal-few}
 
 -- ---- a file that is not refused
 module _ (file : List ℕ) (z : fileRefusal file ≡ 0) (few : countOf file ≤ 4096) where

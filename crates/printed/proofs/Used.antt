@@ -1,21 +1,20 @@
 -- What every run keeps at every moment: at most 256 numbers are used, for whatever takes numbers stands under the test for room; the
--- refusal of a record is at most 13; a row is four bytes. Assumes nothing.
+-- refusal of a record is at most 13. Assumes nothing.
 use mathlib.Core.Path.{_≡_, refl}
 use mathlib.Core.Bool.{Bool, true, false}
 use mathlib.Core.List.{List}
-use Prim.Native.Nat.{ℕ, zero, suc, _+_, _*_, _/_, _%_, _≤_}
+use Prim.Native.Nat.{ℕ, zero, suc, _+_, _/_, _%_, _≤_}
 use native.Mathlib.Omega.{arith}
 use borrow.Author.Tests.{leb-true}
 use lib.Dec.{eqb, leb}
-use lib.ListN.{length, length-append}
 use Rattle.container.specs.Choice.{ite}
 use Rattle.definitions.specs.Bench.{Store, Bench}
 use Rattle.definitions.specs.Places.{Place, nowhere, p1, p2, p3, p15, p16, p20, p21, p22, p23, p24, p25, p30, p31, p32, p33, p34, p35, p36, p37, p38, p40, p45, p46, p47, p48, p49, p50, p51, swap, own, found, united, placeOf}
 use Rattle.definitions.specs.Effects.{perform}
 use Rattle.definitions.specs.Steps.{room, atLeaf, reached, lostAs, lost, joinUnder, clearedAs, cleared, probe, replacedAs, replaced, ownBy, foundBy, unitedBy, helpAs, blockedBy, beside, grandMarking, unmark, invalid, cutAt, cutOn, cutRight, freeing, step}
-use Rattle.definitions.specs.Records.{Row, noRow, row, Result, refused, carried, taken, stepped, started, acted, recordStep}
+use Rattle.definitions.specs.Records.{Result, refused, carried, taken, stepped, started, acted, recordStep}
 use Rattle.definitions.specs.Schedule.{firstByte, secondByte}
-use Rattle.definitions.specs.Run.{Progress, rowBytes, rowCount, advanceBy, advance, after}
+use Rattle.definitions.specs.Run.{Progress, advanceBy, advance, after}
 use Rattle.definitions.specs.declared.Action.{Action}
 use Rattle.definitions.specs.declared.Action.the-variants.{Lookup, Insert, Remove, Split, Join}
 use Rattle.definitions.specs.declared.Kind.{Kind}
@@ -259,20 +258,14 @@ record-keeps b x y h = either _ _ _ (omega arith) (acted-keeps b h (x / 16) y (x
 record Stands (p : Progress) : Type 0 where
   used : p .bench .store .used ≤ 256
   refusal : p .refusal ≤ 13
-  rows : length (p .rows) ≡ p .finished * 4
-
-row-length : (t : ℕ) (th : Thread) (w : Row) → length (rowBytes t th w) ≡ rowCount w * 4
-row-length t th noRow = refl
-row-length t th (row a) = refl
 
 advance-stands : (p : Progress) (x y : ℕ) → Stands p → Stands (advance p x y)
 unfolding advance ite
 advance-stands p x y h = by (eqb (p .refusal) 0) (onward (recordStep (p .bench) x y) (record-keeps (p .bench) x y (h .used)))
   where
     onward : (r : Result) → Keeps r → Stands (advanceBy p (x / 16) r)
-    onward (refused k) g = record { used = h .used; refusal = g; rows = h .rows }
-    onward (carried b w) g =
-        record { used = g; refusal = omega arith; rows = omega (arith, length-append (p .rows) (rowBytes (x / 16) (p .bench .threads (x / 16)) w), row-length (x / 16) (p .bench .threads (x / 16)) w, h .rows) }
+    onward (refused k) g = record { used = h .used; refusal = g }
+    onward (carried b w) g = record { used = g; refusal = omega arith }
 
     by : (c : Bool) {q : Progress} → Stands q → Stands (ite c q p)
     by true g = g
@@ -280,7 +273,7 @@ advance-stands p x y h = by (eqb (p .refusal) 0) (onward (recordStep (p .bench) 
 
 stands : (file : List ℕ) (k : ℕ) → Stands (after file k)
 unfolding after
-stands file zero = record { used = omega arith; refusal = omega arith; rows = refl }
+stands file zero = record { used = omega arith; refusal = omega arith }
 stands file (suc k) = advance-stands (after file k) (firstByte file k) (secondByte file k) (stands file k)
 
 pub used-few : (file : List ℕ) (k : ℕ) → after file k .bench .store .used ≤ 256
@@ -288,6 +281,3 @@ used-few file k = stands file k .used
 
 pub refusal-few : (file : List ℕ) (k : ℕ) → after file k .refusal ≤ 13
 refusal-few file k = stands file k .refusal
-
-pub rows-length : (file : List ℕ) (k : ℕ) → length (after file k .rows) ≡ after file k .finished * 4
-rows-length file k = stands file k .rows

@@ -8,42 +8,38 @@ use native.Mathlib.Omega.{arith}
 use borrow.Author.Tests.{eqb-true, eqb-false, eq-eqb, ne-eqb, ltb-false}
 use lib.Dec.{eqb, ltb}
 use lib.ListN.{length, getD, set, replicate}
-use lib.Seq.{getD-set-same, getD-set-other}
+use lib.Seq.{getD-set-same, getD-set-other, set-set}
 use Rattle.container.specs.Choice.{ite, upd}
 use Rattle.buffer.specs.Page.{Page, page, putAll}
 use Rattle.buffer.proofs.Laws.{putAll-append}
-use Rattle.machine.specs.State.{benchOf, rowOf, After, settled, Takes}
-use Rattle.machine.specs.declared.Said.{Said}
-use Rattle.machine.specs.declared.Said.the-variants.{Nothing, Answer}
-use Rattle.machine.specs.declared.Outcome.{Outcome}
+use Rattle.effects.specs.Used.{usedAfter}
+use Rattle.steps.specs.declared.Decision.{Decision}
+use Rattle.steps.specs.Decision.{noted, written, turnBy, turnOf}
+use Rattle.machine.specs.Asked.{asked, actionOf, answered}
+use Rattle.machine.proofs.Laws.{asked-so}
 use Rattle.schedule.specs.Reader.{recordNumber}
 use Rattle.schedule.specs.declared.Record.{Record}
 use Rattle.schedule.specs.declared.Record.the-variants.{Pair, End}
 use Rattle.schedule.proofs.Laws.{read-in}
 use Rattle.definitions.specs.Nodes.{Nodes, emptyBase}
-use Rattle.definitions.specs.Bench.{Bench, bench, store, idle}
-use Rattle.definitions.specs.Records.{Row, Result, refused, carried, acted, recordStep, actionNumber}
+use Rattle.definitions.specs.Bench.{Bench, bench, store, begun, idle}
+use Rattle.definitions.specs.Places.{placeOf}
+use Rattle.definitions.specs.Effects.{perform}
+use Rattle.definitions.specs.Steps.{step}
+use Rattle.definitions.specs.Records.{Row, noRow, row, refused, carried, taken, acted, recordStep, actionNumber}
 use Rattle.definitions.specs.Schedule.{countOf, firstByte, secondByte, fileRefusal}
 use Rattle.definitions.specs.Run.{Progress, answerNumber, rowBytes, rowCount, advanceBy, advance, after, runRefusal}
 use Rattle.definitions.specs.declared.Thread.{Thread}
-use Rattle.run.specs.Standing.{Stands, Advances, Carried}
+use Rattle.definitions.specs.declared.Effect.{Effect}
+use Rattle.definitions.specs.declared.Turn.{Turn}
+use Rattle.definitions.specs.declared.Turn.the-variants.{Full}
+use Rattle.run.specs.Standing.{Stands, Carried}
 use Rattle.run.specs.declared.Standing.{Standing}
-use Rattle.run.specs.declared.Advanced.{Advanced}
-use Rattle.run.proofs.Rows.{numbered}
 use Rattle.run.proofs.Room.{by-file, by-room, by-none}
 
 -- ---- a row
-module _ (p : Page) (t : ℕ) (th : Thread) {said : Said} where
-  pub row-none : said ≡ Nothing → p ≡ putAll p (rowBytes t th (rowOf said))
-  unfolding putAll
-  row-none e = rw e
-
-  pub row-some : {q : Page} {a y : ℕ} (b : Bool) → said ≡ Answer b → a ≡ actionNumber (th .action) → y ≡ answerNumber b → q ≡ putAll p (t ∷ a ∷ th .station ∷ y ∷ []) → q ≡ putAll p (rowBytes t th (rowOf said))
-  row-some b e f g h = h ∙ rw (e, f, g)
-
-pub row-few : (said : Said) → rowCount (rowOf said) ≤ 1
-row-few Nothing = omega arith
-row-few (Answer a) = omega arith
+pub row-put : (p : Page) (t : ℕ) (th : Thread) (b : Bool) {q : Page} {a y : ℕ} → a ≡ actionNumber (th .action) → y ≡ answerNumber b → q ≡ putAll p (t ∷ a ∷ th .station ∷ y ∷ []) → q ≡ putAll p (rowBytes t th (row b))
+row-put p t th b f g h = h ∙ rw (f, g)
 
 -- ---- the thread table
 
@@ -52,7 +48,7 @@ abbrev pub held : List Thread → ℕ → Thread
 held l t = getD l t idle
 
 -- what the code reads within it, whatever it would read past its end
-within : (l : List Thread) (t : ℕ) (d : Thread) → t < length l → held l t ≡ getD l t d
+pub within : (l : List Thread) (t : ℕ) (d : Thread) → t < length l → held l t ≡ getD l t d
 within [] t d h = absurd (omega arith)
 within (x ∷ l) zero d h = refl
 within (x ∷ l) (suc t) d h = within l t d (omega arith)
@@ -69,7 +65,7 @@ idles zero t = refl
 idles (suc k) zero = refl
 idles (suc k) (suc t) = idles k t
 
--- ---- one record more: n' and o are what it leaves
+-- ---- one record more
 
 -- only a record of one of the four threads is carried out
 named : (b : Bench) (x y : ℕ) {b' : Bench} {w : Row} → recordStep b x y ≡ carried b' w → x / 16 ≤ 3
@@ -80,65 +76,108 @@ named b x y {b'} {w} = by (ltb 3 (x / 16)) refl
     by true e q = let z : _≡_ {A = ℕ} 0 1 = cc in absurd (omega arith)
     by false e q = ltb-false _ _ e
 
--- a standing that carries the outcome on, at a result r of the progress p
-module _ {n n' : Nodes} {threads threads' : ℕ → Thread} {s : Standing} (o : Outcome) {first buffer : List ℕ} {p : Progress} (t : ℕ) (h : Stands n threads s first buffer p) where
-  carry : {buffer' : List ℕ} {th : Thread} {at more : ℕ} (r : Result) → record { bench = benchOf n' (o .top) threads'; refusal = o .refusal; added = rowOf (o .said) } ≡ settled (p .bench) r → ((k : ℕ) → r ≡ refused k → k ≡ 0 → ⊥) → o .refusal ≡ 0
-      → ((b : Bench) (w : Row) → r ≡ carried b w → th ≡ p .bench .threads t) → more ≡ rowCount (rowOf (o .said))
-      → page buffer' at ≡ putAll (page buffer (s .at)) (rowBytes t th (rowOf (o .said))) → Stands n' threads' (record { top = o .top; refusal = 0; done = s .done + 1; finished = more + s .finished; at = at }) first buffer' (advanceBy p t r)
-  carry (refused k) e g z i m ro = absurd (g k refl (sym (ap (λ (a : After). a .refusal) e) ∙ z))
-  carry (carried b w) e g z i m ro =
-      let added : rowOf (o .said) ≡ w = ap (λ (a : After). a .added) e in
-      record {
-        bench = ap (λ (a : After). a .bench) e;
-        refusal = refl;
-        done = omega (arith, h .done);
-        finished = rw (m, added, h .finished);
-        rows = ro ∙ rw (added, i b w refl, h .rows, ← putAll-append);
-      }
+-- the thread that the code reads for the first byte x
+abbrev pub seen : List Thread → ℕ → Thread → Thread
+seen threads x end = getD threads (x / 16 % 4) end
 
-  refuse : (r : Result) → record { bench = benchOf n' (o .top) threads'; refusal = o .refusal; added = rowOf (o .said) } ≡ settled (p .bench) r → (o .refusal ≡ 0 → ⊥)
-      → Stands n' threads' (record { top = o .top; refusal = o .refusal; done = s .done; finished = s .finished; at = s .at }) first buffer (advanceBy p t r)
-  refuse (carried b w) e z = absurd (z (ap (λ (a : After). a .refusal) e))
-  refuse (refused k) e z = record { bench = ap (λ (a : After). a .bench) e; refusal = ap (λ (a : After). a .refusal) e; done = h .done; finished = h .finished; rows = h .rows }
+abbrev pub stand : ℕ → ℕ → ℕ → ℕ → ℕ → ℕ → Standing
+stand root used refusal done finished at = record { root = root; used = used; refusal = refusal; done = done; finished = finished; at = at }
 
 unrefused : (p : Progress) (x y : ℕ) → p .refusal ≡ 0 → advance p x y ≡ advanceBy p (x / 16) (recordStep (p .bench) x y)
 unfolding advance ite
 unrefused p x y z = rw (eq-eqb _ _ z)
 
-module _ {n n' : Nodes} {s : Standing} {th : Thread} {x y : ℕ} {buffer : List ℕ} (o : Outcome) (z : s .refusal ≡ 0) (e : Takes n (s .top) th x y n' o) where
-  pub advance-carried : {buffer' : List ℕ} {at more : ℕ} → o .refusal ≡ 0 → page buffer' at ≡ putAll (page buffer (s .at)) (rowBytes (x / 16) th (rowOf (o .said))) → more ≡ rowCount (rowOf (o .said))
-      → Advances n s th buffer n' (record { thread = o .thread; standing = record { top = o .top; refusal = 0; done = s .done + 1; finished = more + s .finished; at = at } }) buffer' x y
-  advance-carried i ro m = record {
-    on = λ threads t own same first p h.
-        rw (unrefused p x y (sym (h .refusal) ∙ z))
-        (carry o (x / 16) h (recordStep (p .bench) x y) (rw (h .bench) at (e .on threads t own same)) (λ k. numbered (p .bench) x y) i
-        (λ b w q. sym own ∙ (ap threads (same (named (p .bench) x y q)) ∙ ap (λ (v : Bench). v .threads (x / 16)) (h .bench))) m ro);
-  }
+-- record k of the file is x, y; t is its thread, or another where it names none of the four
+module _ (file : List ℕ) (k x y : ℕ) {n : Nodes} (threads : List Thread) {root used finished at : ℕ} {first buffer : List ℕ} {r : Record} (len : length threads ≡ 4) (inside : 5 + 2 * k ≤ length file) (e : r ≡ recordNumber file k) (f : r ≡ Pair x y) (h : Stands n (held threads) (stand root used 0 k finished at) first buffer (after file k)) where
+  one-on : after file (k + 1) ≡ advanceBy (after file k) (x / 16) (recordStep (after file k .bench) x y)
+  unfolding after
+  one-on =
+      let same : Pair x y ≡ Pair (firstByte file k) (secondByte file k) = sym f ∙ (e ∙ read-in file k inside) in
+      let left : firstByte file k ≡ x = cc in
+      let right : secondByte file k ≡ y = cc in
+      rw (add-one, left, right) (unrefused (after file k) x y (sym (h .refusal)))
 
-  pub advance-refused : (o .refusal ≡ 0 → ⊥)
-      → Advances n s th buffer n' (record { thread = o .thread; standing = record { top = o .top; refusal = o .refusal; done = s .done; finished = s .finished; at = s .at } }) buffer x y
-  advance-refused i = record {
-    on = λ threads t own same first p h.
-        rw (unrefused p x y (sym (h .refusal) ∙ z)) (refuse o (x / 16) h (recordStep (p .bench) x y) (rw (h .bench) at (e .on threads t own same)) i);
-  }
+  pub carried-on : {n' : Nodes} {root' used' finished' at' : ℕ} {buffer' : List ℕ} (th : Thread) (w : Row) → recordStep (bench (store n root used) (held threads)) x y ≡ carried (bench (store n' root' used') (upd (held threads) (x / 16 % 4) th)) w
+      → finished' ≡ rowCount w + finished → page buffer' at' ≡ putAll (page buffer at) (rowBytes (x / 16) (held threads (x / 16 % 4)) w)
+      → Stands n' (held (set threads (x / 16 % 4) th)) (stand root' used' 0 (k + 1) finished' at') first buffer' (after file (k + 1))
+  carried-on th w q m ro =
+      let p : Progress = after file k in
+      let done : recordStep (p .bench) x y ≡ carried _ w = rw (h .bench) at q in
+      let own : x / 16 % 4 ≡ x / 16 = omega (arith, named (p .bench) x y done) in
+      let at-own : held threads (x / 16 % 4) ≡ p .bench .threads (x / 16) = ap (held threads) own ∙ ap (λ (b : Bench). b .threads (x / 16)) (h .bench) in
+      rw (one-on, done)
+      (record {
+        bench = ap (bench (store _ _ _)) (put threads (x / 16 % 4) th (omega arith));
+        refusal = refl;
+        done = omega (arith, h .done);
+        finished = rw (m, h .finished);
+        rows = ro ∙ rw (at-own, h .rows, ← putAll-append);
+      })
+
+  pub refused-at : (m : ℕ) → recordStep (bench (store n root used) (held threads)) x y ≡ refused m → Stands n (held threads) (stand root used m k finished at) first buffer (after file (k + 1))
+  refused-at m q =
+      let done : recordStep (after file k .bench) x y ≡ refused m = rw (h .bench) at q in
+      rw (one-on, done) (record { bench = h .bench; refusal = refl; done = h .done; finished = h .finished; rows = h .rows })
+
+  -- what the code sees is the record's thread, whatever it would read past the table's end; a is what the record asks of it
+  module _ {a : ℕ} (end : Thread) (g : a ≡ asked x y (seen threads x end .place)) where
+    own : held threads (x / 16 % 4) ≡ seen threads x end
+    own = within threads (x / 16 % 4) end (omega arith)
+
+    asked-on : recordStep (bench (store n root used) (held threads)) x y ≡ answered a (bench (store n root used) (held threads)) (x / 16 % 4) (x % 16) y
+    asked-on = asked-so _ (x / 16 % 4) x y (λ small. omega arith) ∙ rw (own, ← g)
+
+    pub start-on : {v : Thread} → a ≡ 1 → v ≡ begun (actionOf (x % 16)) y 1 → Stands n (held (set threads (x / 16 % 4) v)) (stand root used 0 (k + 1) finished at) first buffer (after file (k + 1))
+    unfolding putAll
+    start-on {v} z q = carried-on v noRow (rw z at asked-on ∙ rw q) (omega arith) refl
+
+    refused-by : (m : ℕ) → (m ≡ 0 → ⊥) → (m ≡ 1 → ⊥) → (b : Bench) (t c : ℕ) → answered m b t c y ≡ refused m
+    refused-by zero z o b t c = absurd (z refl)
+    refused-by (suc zero) z o b t c = absurd (o refl)
+    refused-by (suc (suc m)) z o b t c = refl
+
+    pub refused-on : (a ≡ 0 → ⊥) → (a ≡ 1 → ⊥) → Stands n (held threads) (stand root used a k finished at) first buffer (after file (k + 1))
+    refused-on z o = refused-at a (asked-on ∙ refused-by a z o _ _ _)
+
+    -- it is a step, which decides d
+    module _ (z : a ≡ 0) (d : Decision) (i : turnOf (seen threads x end) d ≡ step (placeOf (seen threads x end .place)) (store n root used) (seen threads x end)) where
+      turn-by : {m : ℕ} → d .what ≡ m → turnOf (seen threads x end) d ≡ turnBy m (noted (d .note) (d .place) (d .value) (seen threads x end)) (written (d .writes) (d .effect)) (d .answer)
+      turn-by q = ap (λ (m : ℕ). turnBy m (noted (d .note) (d .place) (d .value) (seen threads x end)) (written (d .writes) (d .effect)) (d .answer)) q
+
+      taken-on : {v : Turn} → turnOf (seen threads x end) d ≡ v → recordStep (bench (store n root used) (held threads)) x y ≡ taken (bench (store n root used) (held threads)) (x / 16 % 4) v
+      taken-on q = rw z at asked-on ∙ rw (own, ← i, q)
+
+      full-by : (m : ℕ) (v : Thread) (e : Effect) (b : Bool) → 1 < m → turnBy m v e b ≡ Full
+      full-by zero v e b l = absurd (omega arith)
+      full-by (suc zero) v e b l = absurd (omega arith)
+      full-by (suc (suc m)) v e b l = refl
+
+      pub full-on : 1 < d .what → Stands n (held threads) (stand root used 13 k finished at) first buffer (after file (k + 1))
+      unfolding taken
+      full-on l = refused-at 13 (taken-on (full-by (d .what) _ _ _ l))
+
+      -- what it writes leaves n', root' and used'
+      module _ {n' : Nodes} {root' used' : ℕ} (w : store n' root' (usedAfter used (written (d .writes) (d .effect))) ≡ perform (written (d .writes) (d .effect)) (store n root used)) (u : used' ≡ usedAfter used (written (d .writes) (d .effect))) where
+        stored-on : store n' root' used' ≡ perform (written (d .writes) (d .effect)) (store n root used)
+        stored-on = rw u w
+
+        pub noted-on : {v : Thread} → d .what ≡ 0 → v ≡ noted (d .note) (d .place) (d .value) (seen threads x end) → Stands n' (held (set threads (x / 16 % 4) v)) (stand root' used' 0 (k + 1) finished at) first buffer (after file (k + 1))
+        unfolding taken putAll
+        noted-on {v} o q = carried-on v noRow (taken-on (turn-by o) ∙ rw (← stored-on, q)) (omega arith) refl
+
+        -- in two stores: the place, then the note
+        pub noted-twice : (v : Thread) {w : Thread} → d .what ≡ 0 → w ≡ noted (d .note) (d .place) (d .value) (seen threads x end) → Stands n' (held (set (set threads (x / 16 % 4) v) (x / 16 % 4) w)) (stand root' used' 0 (k + 1) finished at) first buffer (after file (k + 1))
+        noted-twice v o q = rw set-set (noted-on o q)
+
+        pub said-on : {v : Thread} {finished' at' : ℕ} {buffer' : List ℕ} → d .what ≡ 1 → v ≡ idle → finished' ≡ 1 + finished → page buffer' at' ≡ putAll (page buffer at) (rowBytes (x / 16) (seen threads x end) (row (d .answer))) → Stands n' (held (set threads (x / 16 % 4) v)) (stand root' used' 0 (k + 1) finished' at') first buffer' (after file (k + 1))
+        unfolding taken
+        said-on {v} o q m ro = carried-on v (row (d .answer)) (taken-on (turn-by o) ∙ rw (← stored-on, q)) m (ro ∙ rw own)
 
 -- ---- all records
 pub none-yet : (file first : List ℕ) {n : Nodes} {th : Thread} → n ≡ (λ _. emptyBase) → th ≡ idle
-    → Stands n (held (replicate 4 th)) (record { top = record { root = 0; used = 1 }; refusal = 0; done = 0; finished = 0; at = 0 }) first first (after file 0)
+    → Stands n (held (replicate 4 th)) (stand 0 1 0 0 0 0) first first (after file 0)
 unfolding after putAll
 none-yet file first e g = record { bench = rw (e, g) (ap (λ (f : ℕ → Thread). bench (store (λ _. emptyBase) 0 1) f) (fun-ext (idles 4))); refusal = refl; done = refl; finished = refl; rows = refl }
-
-pub one-more : (file : List ℕ) (k : ℕ) {n n' : Nodes} (threads : List Thread) (d : Thread) {s : Standing} {a : Advanced} {first buffer buffer' : List ℕ} {r : Record} (x y : ℕ) → length threads ≡ 4
-    → 5 + 2 * k ≤ length file → r ≡ recordNumber file k → r ≡ Pair x y
-    → Stands n (held threads) s first buffer (after file k) → Advances n s (getD threads (x / 16 % 4) d) buffer n' a buffer' x y
-    → Stands n' (held (set threads (x / 16 % 4) (a .thread))) (a .standing) first buffer' (after file (k + 1))
-unfolding after
-one-more file k threads d x y len l e f h g =
-    let same : Pair x y ≡ Pair (firstByte file k) (secondByte file k) = sym f ∙ (e ∙ read-in file k l) in
-    let left : firstByte file k ≡ x = cc in
-    let right : secondByte file k ≡ y = cc in
-    let inside : x / 16 % 4 < length threads = omega arith in
-    rw (add-one, left, right, put threads (x / 16 % 4) _ inside) (g .on (held threads) (x / 16 % 4) (within threads (x / 16 % 4) d inside) (λ small. omega arith) _ _ h)
 
 pub no-end : (file : List ℕ) (k : ℕ) {r : Record} → 5 + 2 * k ≤ length file → r ≡ recordNumber file k → r ≡ End → ⊥
 no-end file k l e f =
@@ -164,8 +203,12 @@ stays file k (suc j) m e z =
     let next : m ≡ suc (k + j) = omega arith in
     ap (after file) next ∙ (onward file (k + j) ∙ (ap (λ (p : Progress). advance p (firstByte file (k + j)) (secondByte file (k + j))) (stays file k j (k + j) refl z) ∙ still (after file k) _ _ z))
 
-pub ended-early : (file : List ℕ) (k count : ℕ) {n : Nodes} {threads : ℕ → Thread} {s : Standing} {first buffer : List ℕ} → k ≤ count → (s .refusal ≡ 0 → ⊥) → Stands n threads s first buffer (after file k) → after file k ≡ after file count
+ended-early : (file : List ℕ) (k count : ℕ) {n : Nodes} {threads : ℕ → Thread} {s : Standing} {first buffer : List ℕ} → k ≤ count → (s .refusal ≡ 0 → ⊥) → Stands n threads s first buffer (after file k) → after file k ≡ after file count
 ended-early file k count l z h = let sum : count ≡ k + (count - k) = omega arith in sym (stays file k (count - k) count sum (λ e. z (h .refusal ∙ e)))
+
+-- the refused record was the last
+pub stopped : (file : List ℕ) (k count : ℕ) {n : Nodes} {threads : ℕ → Thread} {s : Standing} {first buffer : List ℕ} → k < count → (s .refusal ≡ 0 → ⊥) → Stands n threads s first buffer (after file (k + 1)) → Carried file count n s first buffer
+stopped file k count l z h = all-done file (k + 1) count (ended-early file (k + 1) count (omega arith) z h) h
 
 -- ---- the refusal of a file and a row buffer
 module _ (file : List ℕ) (room : ℕ) {bad : ℕ} (e : bad ≡ fileRefusal file) where

@@ -31,15 +31,15 @@ overlaid p h f = ap (λ (q : Page). q .bytes) (h .rows ∙ put-fits (p .rows) _ 
 
 -- ---- the tree
 module _ {n : Nodes} {threads : ℕ → Thread} {s : Standing} {first buffer : List ℕ} {p : Progress} (h : Stands n threads s first buffer p) where
-  pub set-at : setBelow 63 n (s .top .root) all ≡ treeSet (p .bench)
+  pub set-at : setBelow 63 n (s .root) all ≡ treeSet (p .bench)
   unfolding treeSet
   set-at = ap (λ (b : Bench). setBelow 63 (b .store .nodes) (b .store .root) all) (h .bench)
 
-  stored-at : storedBelow 63 n (s .top .root) ≡ stored (p .bench)
+  stored-at : storedBelow 63 n (s .root) ≡ stored (p .bench)
   unfolding stored
   stored-at = ap (λ (b : Bench). storedBelow 63 (b .store .nodes) (b .store .root)) (h .bench)
 
-  used-at : s .top .used ≡ p .bench .store .used
+  used-at : s .used ≡ p .bench .store .used
   used-at = ap (λ (b : Bench). b .store .used) (h .bench)
 
 small : (x : ℕ) → x ≤ 128 → x % 2 ^ 64 ≡ x
@@ -62,11 +62,11 @@ module _ (file first : List ℕ) {bad : ℕ} (e : bad ≡ runRefusal file (lengt
 
   -- all records carried out
   module _ {n : Nodes} {s : Standing} {buffer : List ℕ} {count : ℕ} (z : bad ≡ 0) (d : count ≡ countOf file) (h : Carried file count n s first buffer) where
-    pub ended-report : {x y : ℕ} → x ≡ setBelow 63 n (s .top .root) all → y ≡ storedBelow 63 n (s .top .root) % 2 ^ 64
-        → record { refusal = s .refusal; records = s .done; rows = s .finished; set = x; stored = y; used = s .top .used } ≡ runReport file (length first)
+    pub ended-report : {x y : ℕ} → x ≡ setBelow 63 n (s .root) all → y ≡ storedBelow 63 n (s .root) % 2 ^ 64
+        → record { refusal = s .refusal; records = s .done; rows = s .finished; set = x; stored = y; used = s .used } ≡ runReport file (length first)
     unfolding runReport ite
     ended-report f g =
-        let whole : storedBelow 63 n (s .top .root) % 2 ^ 64 ≡ stored (after file count .bench) = rw (stored-at h, small _ (reach-stored file count)) in
+        let whole : storedBelow 63 n (s .root) % 2 ^ 64 ≡ stored (after file count .bench) = rw (stored-at h, small _ (reach-stored file count)) in
         rw (← e, eq-eqb _ _ z, ← d, f, g, set-at h, whole, h .refusal, h .done, h .finished, used-at h)
 
     pub ended-buffer : buffer ≡ runBuffer file first

@@ -1,5 +1,5 @@
 -- The rows of every run fit: they are half as many as the records at most, for an operation that finishes took a start and a step
--- of its own. And no record is refused with number 0. Assumes nothing.
+-- of its own. Assumes nothing.
 use mathlib.Core.Path.{_≡_, refl, ap}
 use mathlib.Core.Bool.{Bool, true, false}
 use mathlib.Core.List.{List}
@@ -50,9 +50,9 @@ replaced f th (suc (suc (suc (suc t)))) h = absurd (omega arith)
 
 -- ---- one record
 
--- a refusal has a number; what a carried record adds in rows and busy threads is paid for by the record
+-- what a carried record adds in rows and busy threads is paid for by the record
 abbrev Paid : Bench → Result → Type 0
-Paid b (refused k) = k ≡ 0 → ⊥
+Paid b (refused k) = Unit {0}
 Paid b (carried b' w) = 2 * rowCount w + busies (b' .threads) ≤ suc (busies (b .threads))
 
 pick : (b : Bench) (c : Bool) (r r' : Result) → (c ≡ true → Paid b r) → (c ≡ false → Paid b r') → Paid b (ite c r r')
@@ -63,17 +63,17 @@ pick b false r r' p q = q refl
 module _ (b : Bench) (t y : ℕ) (h : t < 4) where
   starts : (a : Action) → Paid b (started b t a y)
   unfolding started busy one
-  starts a = pick b _ _ _ (λ _ e. omega arith) (λ _. pick b _ _ _ (λ i. omega (arith, replaced (b .threads) (begun a y 1) t h, ap one i)) (λ _ e. omega arith))
+  starts a = pick b _ _ _ (λ _. tt) (λ _. pick b _ _ _ (λ i. omega (arith, replaced (b .threads) (begun a y 1) t h, ap one i)) (λ _. tt))
 
   takes : (o : Turn) → isIdle (b .threads t) ≡ false → Paid b (taken b t o)
   unfolding taken busy one
   takes (Moves th e) i = omega (arith, replaced (b .threads) th t h, at-most th, ap one i)
   takes (Finishes e a) i = omega (arith, replaced (b .threads) idle t h, ap one i)
-  takes Full i = λ e. omega arith
+  takes Full i = tt
 
   steps : Paid b (stepped b t y)
   unfolding stepped
-  steps = pick b _ _ _ (λ _. pick b _ _ _ (λ _ e. omega arith) (takes (step (placeOf (b .threads t .place)) (b .store) (b .threads t)))) (λ _ e. omega arith)
+  steps = pick b _ _ _ (λ _. pick b _ _ _ (λ _. tt) (takes (step (placeOf (b .threads t .place)) (b .store) (b .threads t)))) (λ _. tt)
 
   acts : (n : ℕ) → Paid b (acted n b t y)
   acts zero = steps
@@ -82,14 +82,11 @@ module _ (b : Bench) (t y : ℕ) (h : t < 4) where
   acts (suc (suc (suc zero))) = starts Remove
   acts (suc (suc (suc (suc zero)))) = starts Split
   acts (suc (suc (suc (suc (suc zero))))) = starts Join
-  acts (suc (suc (suc (suc (suc (suc n)))))) = λ e. omega arith
+  acts (suc (suc (suc (suc (suc (suc n)))))) = tt
 
 paid : (b : Bench) (x y : ℕ) → Paid b (recordStep b x y)
 unfolding recordStep
-paid b x y = pick b _ _ _ (λ _ e. omega arith) (λ e. acts b (x / 16) y (omega (arith, ltb-false 3 (x / 16) e)) (x % 16))
-
-pub numbered : (b : Bench) (x y : ℕ) {k : ℕ} → recordStep b x y ≡ refused k → k ≡ 0 → ⊥
-numbered b x y e = rw e at (paid b x y)
+paid b x y = pick b _ _ _ (λ _. tt) (λ e. acts b (x / 16) y (omega (arith, ltb-false 3 (x / 16) e)) (x % 16))
 
 -- ---- every run
 
@@ -125,6 +122,9 @@ fits : (file : List ℕ) (k : ℕ) → Fits (after file k) k
 unfolding after
 fits file zero = record { rows = refl; spent = omega (arith, none-busy); few = omega arith }
 fits file (suc k) = onward (after file k) k (firstByte file k) (secondByte file k) (fits file k)
+
+pub rows-length : (file : List ℕ) (k : ℕ) → length (after file k .rows) ≡ after file k .finished * 4
+rows-length file k = omega (arith, fits file k)
 
 pub rows-fit : (file : List ℕ) (k : ℕ) → length (after file k .rows) ≤ 2 * k
 rows-fit file k = omega (arith, fits file k)

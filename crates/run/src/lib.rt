@@ -1,35 +1,29 @@
 // Run: a schedule carried out on a fresh bench, with its rows written into a lent buffer.
 ghost use mathlib.Core.Path.{_≡_};
-ghost use Prim.Native.Nat.{_+_, _*_, _<_, _≤_};
+ghost use Prim.Native.Nat.{_+_, _*_, _≤_};
 ghost use lib.ListN.{length};
 ghost use Rattle.nodes.specs.Cells.{table};
 ghost use Rattle.schedule.specs.Proper.{Proper};
 ghost use Rattle.buffer.specs.Page.{page, putAll};
-ghost use Rattle.machine.specs.State.{rowOf};
 ghost use Rattle.definitions.specs.Nodes.{emptyBase};
-ghost use Rattle.definitions.specs.Records.{actionNumber};
-ghost use Rattle.definitions.specs.Run.{answerNumber, rowBytes, rowCount, runRefusal, runReport, runBuffer};
-ghost use Rattle.run.specs.Standing.{Advances, Carried};
+ghost use Rattle.definitions.specs.Records.{row, actionNumber};
+ghost use Rattle.definitions.specs.Run.{answerNumber, rowBytes, runRefusal, runReport, runBuffer};
+ghost use Rattle.run.specs.Standing.{Carried};
 use definitions::Action;
 use definitions::Report;
 use definitions::Thread;
-use effects::Top;
-use machine::Said;
 use schedule::Record;
+use steps::Note;
+use steps::search;
 
 // Where a run stands, its threads apart. `at` is where the next row goes.
 pub struct Standing {
-    pub top: Top,
+    pub root: u8,
+    pub used: u16,
     pub refusal: u8,
     pub done: usize,
     pub finished: usize,
     pub at: usize,
-}
-
-// Where a run stands after a record, and the record's thread then.
-pub struct Advanced {
-    pub thread: Thread,
-    pub standing: Standing,
 }
 
 // An action's number in a row.
@@ -52,78 +46,18 @@ pub fn answer_number(yes: bool) -> u8
     if yes { 1 } else { 0 }
 }
 
-// The row that a record adds, if it adds one; th is its thread before it.
-pub fn put_row(rows: &mut [u8], at: usize, t: u8, th: Thread, said: Said) -> usize
-    ensures { λ r. ⌜ page (now (rows .exit)) r ≡ putAll (page (now (rows .entry)) at) (rowBytes t th (rowOf said)) ⌝ }
+// The row of thread t, which was th and has its answer.
+pub fn put_row(rows: &mut [u8], at: usize, t: u8, th: Thread, yes: bool) -> usize
+    ensures { λ r. ⌜ page (now (rows .exit)) r ≡ putAll (page (now (rows .entry)) at) (rowBytes t th (row yes)) ⌝ }
 {
-    match said {
-        Said::Nothing => at,
-        Said::Answer(yes) => {
-            let action = th.action;
-            let a = action_number(action);
-            let y = answer_number(yes);
-            buffer::put_four(rows, at, t, a, th.station, y)
-        }
-    }
+    let action = th.action;
+    let a = action_number(action);
+    let y = answer_number(yes);
+    buffer::put_four(rows, at, t, a, th.station, y)
 }
 
-// Rows that a record adds.
-pub fn row_count(said: Said) -> usize
-    ensures { λ r. ⌜ r ≡ rowCount (rowOf said) ⌝ }
-{
-    match said {
-        Said::Nothing => 0,
-        Said::Answer(_) => 1,
-    }
-}
-
-// One record more, its thread being th, or any where it names none of the four.
-pub fn advance_one(
-    cells: &mut [u8; 4096],
-    sets: &mut [u64; 256],
-    p: Standing,
-    th: Thread,
-    x: u8,
-    y: u8,
-    rows: &mut [u8],
-) -> Advanced
-    requires { ⌜ (p .refusal ≡ 0) × ((p .done < 4096) × (p .finished < 4096)) ⌝ }
-    ensures { λ r. ⌜ Advances (table (now (cells .entry)) (now (sets .entry))) p th (now (rows .entry)) (table (now (cells .exit)) (now (sets .exit))) r (now (rows .exit)) x y ⌝ }
-{
-    let t = x / 16;
-    let top = p.top;
-    let o = machine::take_record(cells, sets, top, th, x, y);
-    let said = o.said;
-    let next = o.thread;
-    let after = o.top;
-    if o.refusal == 0 {
-        let at = put_row(rows, p.at, t, th, said);
-        let more = row_count(said);
-        Advanced {
-            thread: next,
-            standing: Standing {
-                top: after,
-                refusal: 0,
-                done: p.done + 1,
-                finished: more + p.finished,
-                at: at,
-            },
-        }
-    } else {
-        Advanced {
-            thread: next,
-            standing: Standing {
-                top: after,
-                refusal: o.refusal,
-                done: p.done,
-                finished: p.finished,
-                at: p.at,
-            },
-        }
-    }
-}
-
-// The first `count` records, from a fresh bench; the first one refused ends them.
+// The first `count` records, from a fresh bench; the first one refused ends them. A thread's record changes where it lies; what
+// decides a step gets a copy, made once the place is known, so that only the notes it reads are loaded.
 pub fn carry_out(
     cells: &mut [u8; 4096],
     sets: &mut [u64; 256],
@@ -136,31 +70,104 @@ pub fn carry_out(
 {
     let idle = definitions::idle_thread();
     let mut threads = [idle; 4];
-    let mut p = Standing {
-        top: Top { root: 0, used: 1 },
-        refusal: 0,
-        done: 0,
-        finished: 0,
-        at: 0,
-    };
-    let mut k = 0;
+    let mut root = 0u8;
+    let mut used = 1u16;
+    let mut finished = 0usize;
+    let mut at = 0usize;
+    let mut k = 0usize;
     while k < count {
-        if p.refusal != 0 {
-            return p;
-        }
         let record = schedule::read(schedule, k);
         let Record::Pair(x, y) = record else {
-            return p;
+            return Standing {
+                root: root,
+                used: used,
+                refusal: 0,
+                done: k,
+                finished: finished,
+                at: at,
+            };
         };
+        let next = k + 1;
         let t = (x / 16 % 4) as usize;
-        let th = threads[t];
-        let a = advance_one(cells, sets, p, th, x, y, rows);
-        let next = a.thread;
-        threads[t] = next;
-        p = a.standing;
-        k += 1;
+        let place = threads[t].place;
+        let asked = machine::ask(x, y, place);
+        match asked {
+            // a step: 1 to 3, 10 to 13, or 15 to 51 decide
+            0 => {
+                let d = if place < 10 {
+                    let th = threads[t];
+                    search::find(cells, sets, root, used, th)
+                } else if place < 14 {
+                    let th = threads[t];
+                    steps::decide_swap(cells, sets, root, used, th)
+                } else {
+                    let th = threads[t];
+                    steps::decide_join(cells, sets, root, used, th)
+                };
+                let what = d.what;
+                if 1 < what {
+                    return Standing {
+                        root: root,
+                        used: used,
+                        refusal: 13,
+                        done: k,
+                        finished: finished,
+                        at: at,
+                    };
+                }
+                let effect = d.effect;
+                root = machine::enact(cells, sets, root, used, d.writes, effect);
+                used = machine::used_then(used, d.writes, effect);
+                if what == 0 {
+                    let note = d.note;
+                    match note {
+                        Note::Nothing => {
+                            threads[t].place = d.place;
+                        }
+                        Note::Route => {
+                            threads[t].place = d.place;
+                            threads[t].route = d.value;
+                        }
+                        _ => {
+                            let th = threads[t];
+                            let noted = machine::note(th, d.place, note, d.value);
+                            threads[t] = noted;
+                        }
+                    }
+                } else {
+                    let th = threads[t];
+                    at = put_row(rows, at, x / 16, th, d.answer);
+                    finished = finished + 1;
+                    threads[t] = idle;
+                }
+            }
+            // a start
+            1 => {
+                let begun = machine::begin(x % 16, y);
+                threads[t] = begun;
+            }
+            // a refusal
+            _ => {
+                return Standing {
+                    root: root,
+                    used: used,
+                    refusal: asked,
+                    done: k,
+                    finished: finished,
+                    at: at,
+                };
+            }
+        }
+        k = next;
     }
-    p
+    Standing {
+        root: root,
+        used: used,
+        refusal: 0,
+        done: k,
+        finished: finished,
+        at: at,
+    }
 }
 
 // The refusal of a file and a row buffer, 0 for none.
@@ -189,16 +196,15 @@ pub fn run(schedule: &[u8], rows: &mut [u8]) -> Report
         let mut sets = [0u64; 256];
         let count = schedule::count_of(schedule);
         let p = carry_out(&mut cells, &mut sets, schedule, count, rows);
-        let top = p.top;
-        let set = tree::set_below(&cells, &sets, top.root, 18446744073709551615, 63);
-        let stored = tree::stored_below(&cells, &sets, top.root, 63);
+        let set = tree::set_below(&cells, &sets, p.root, 18446744073709551615, 63);
+        let stored = tree::stored_below(&cells, &sets, p.root, 63);
         return Report {
             refusal: p.refusal as u64,
             records: p.done as u64,
             rows: p.finished as u64,
             set: set,
             stored: stored,
-            used: top.used as u64,
+            used: p.used as u64,
         };
     }
     Report {

@@ -15,13 +15,13 @@ use Rattle.definitions.specs.declared.Node.{Node}
 use Rattle.definitions.specs.declared.Spot.the-variants.{Under}
 use Rattle.definitions.specs.declared.Thread.{Thread}
 use Rattle.definitions.specs.declared.Effect.{Effect}
-use Rattle.definitions.specs.declared.Effect.the-variants.{Quiet, Mark, Settle, Base, Commit}
+use Rattle.definitions.specs.declared.Effect.the-variants.{Mark, Settle, Base, Commit}
 use Rattle.definitions.specs.declared.Turn.{Turn}
 use Rattle.definitions.specs.declared.Turn.the-variants.{Moves, Finishes, Full}
 use Rattle.definitions.specs.Nodes.{Nodes, kidOf, childFor, isRoute, isPreparing, replaceable}
 use Rattle.definitions.specs.Bench.{store}
 use Rattle.definitions.specs.Places.{p36, p37, placeOf, to, toRoute, toSide, toFound, toMain, toGrandparent, toOther}
-use Rattle.definitions.specs.Steps.{beside, hooked, isNil, marking, topped, climbed, grandMarking, backOut, unionParent, closed, unmark, step}
+use Rattle.definitions.specs.Steps.{goes, says, beside, hooked, isNil, marking, topped, climbed, grandMarking, backOut, unionParent, closed, unmark, step}
 
 -- ---- room for one number more, or none
 enough : (used : ℕ) → used ≤ 255 → leb (used + 1) 256 ≡ true
@@ -38,81 +38,81 @@ pub last : {p k : ℕ} → k ≤ p → p < k + 1 → p ≡ k
 last l m = omega arith
 
 -- ---- 22, 23: b is the node read, k whether it is a route
-module _ (n : Nodes) (th : Thread) (x : ℕ) {b : Node} {k : Bool} {next : Thread} where
-  pub beside-route : b ≡ n x → k ≡ isRoute (b .kind) → k ≡ true → next ≡ toRoute 23 x th → Moves next Quiet ≡ beside n th x
+module _ (n : Nodes) (th : Thread) (x : ℕ) {b : Node} {k : Bool} {r : Turn} where
+  pub beside-route : b ≡ n x → k ≡ isRoute (b .kind) → k ≡ true → r ≡ goes (toRoute 23 x th) → r ≡ beside n th x
   unfolding beside ite
-  beside-route e i t q = rw (q, ← e, ← i, t)
+  beside-route e i t q = q ∙ rw (← e, ← i, t)
 
-  pub beside-base : b ≡ n x → k ≡ isRoute (b .kind) → k ≡ false → next ≡ toFound 24 x th → Moves next Quiet ≡ beside n th x
+  pub beside-base : b ≡ n x → k ≡ isRoute (b .kind) → k ≡ false → r ≡ goes (toFound 24 x th) → r ≡ beside n th x
   unfolding beside ite
-  beside-base e i t q = rw (q, ← e, ← i, t)
+  beside-base e i t q = q ∙ rw (← e, ← i, t)
 
 pub ruleset beside-cases = (beside-route, beside-base)
 
 -- ---- 25: p is the parent, x its child on the base's side, b the base
-module _ (n : Nodes) (used : ℕ) (th : Thread) {p : Node} {x : ℕ} where
-  pub hook-full : p ≡ n (th .parent) → x ≡ kidOf (th .left) p → x ≡ th .base → 255 < used → Full ≡ hooked n used th
+module _ (n : Nodes) (used : ℕ) (th : Thread) {p : Node} {x : ℕ} {r : Turn} where
+  pub hook-full : p ≡ n (th .parent) → x ≡ kidOf (th .left) p → x ≡ th .base → 255 < used → r ≡ Full → r ≡ hooked n used th
   unfolding ite
-  hook-full e i h l = rw (← e, ← i, eq-eqb _ _ h, short used l)
+  hook-full e i h l q = q ∙ rw (← e, ← i, eq-eqb _ _ h, short used l)
 
-  pub hook-made : {b : Node} {next : Thread} → p ≡ n (th .parent) → x ≡ kidOf (th .left) p → x ≡ th .base → used ≤ 255 → b ≡ n (th .base) → next ≡ toMain 26 used true th → Moves next (Base (Under (th .parent) (th .left)) used Main (b .parent) (b .container) 0) ≡ hooked n used th
+  pub hook-made : {b : Node} → p ≡ n (th .parent) → x ≡ kidOf (th .left) p → x ≡ th .base → used ≤ 255 → b ≡ n (th .base) → r ≡ Moves (toMain 26 used true th) (Base (Under (th .parent) (th .left)) used Main (b .parent) (b .container) 0) → r ≡ hooked n used th
   unfolding ite
-  hook-made e i h l f q = rw (q, f, ← e, ← i, eq-eqb _ _ h, enough used l)
+  hook-made e i h l f q = q ∙ rw (f, ← e, ← i, eq-eqb _ _ h, enough used l)
 
-  pub hook-lost : p ≡ n (th .parent) → x ≡ kidOf (th .left) p → (x ≡ th .base → ⊥) → Finishes Quiet false ≡ hooked n used th
+  pub hook-lost : p ≡ n (th .parent) → x ≡ kidOf (th .left) p → (x ≡ th .base → ⊥) → r ≡ says false → r ≡ hooked n used th
   unfolding ite
-  hook-lost e i h = rw (← e, ← i, ne-eqb _ _ h)
+  hook-lost e i h q = q ∙ rw (← e, ← i, ne-eqb _ _ h)
 
 pub ruleset hook-cases = (hook-full, hook-made, hook-lost)
 
--- ---- 30, 33: b is the route, k whether its mark is none
-module _ (n : Nodes) (r p q : ℕ) (th : Thread) {b : Node} {k : Bool} {next : Thread} where
-  pub mark-set : b ≡ n r → k ≡ isNil (b .mark) → k ≡ true → next ≡ to p th → Moves next (Mark r (To (th .main))) ≡ marking n r p q th
+-- ---- 30, 33: b is the route g, k whether its mark is none
+module _ (n : Nodes) (g p o : ℕ) (th : Thread) {b : Node} {k : Bool} {r : Turn} where
+  pub mark-set : b ≡ n g → k ≡ isNil (b .mark) → k ≡ true → r ≡ Moves (to p th) (Mark g (To (th .main))) → r ≡ marking n g p o th
   unfolding ite
-  mark-set e i t g = rw (g, ← e, ← i, t)
+  mark-set e i t q = q ∙ rw (← e, ← i, t)
 
-  pub mark-held : b ≡ n r → k ≡ isNil (b .mark) → k ≡ false → next ≡ to q th → Moves next Quiet ≡ marking n r p q th
+  pub mark-held : b ≡ n g → k ≡ isNil (b .mark) → k ≡ false → r ≡ goes (to o th) → r ≡ marking n g p o th
   unfolding ite
-  mark-held e i t g = rw (g, ← e, ← i, t)
+  mark-held e i t q = q ∙ rw (← e, ← i, t)
 
 pub ruleset mark-cases = (mark-set, mark-held)
 
 -- ---- 31: b is the root
-module _ (n : Nodes) (root : ℕ) (th : Thread) {next : Thread} where
-  pub top-parent : root ≡ th .parent → next ≡ toGrandparent 34 Nil th → Moves next Quiet ≡ topped n root th
+module _ (n : Nodes) (root : ℕ) (th : Thread) {r : Turn} where
+  pub top-parent : root ≡ th .parent → r ≡ goes (toGrandparent 34 Nil th) → r ≡ topped n root th
   unfolding ite
-  top-parent h q = rw (q, eq-eqb _ _ h)
+  top-parent h q = q ∙ rw (eq-eqb _ _ h)
 
-  pub top-route : {b : Node} {k : Bool} → (root ≡ th .parent → ⊥) → b ≡ n root → k ≡ isRoute (b .kind) → k ≡ true → next ≡ toRoute 32 root th → Moves next Quiet ≡ topped n root th
+  pub top-route : {b : Node} {k : Bool} → (root ≡ th .parent → ⊥) → b ≡ n root → k ≡ isRoute (b .kind) → k ≡ true → r ≡ goes (toRoute 32 root th) → r ≡ topped n root th
   unfolding ite
-  top-route h e i t q = rw (q, ne-eqb _ _ h, ← e, ← i, t)
+  top-route h e i t q = q ∙ rw (ne-eqb _ _ h, ← e, ← i, t)
 
-  pub top-base : {b : Node} {k : Bool} → (root ≡ th .parent → ⊥) → b ≡ n root → k ≡ isRoute (b .kind) → k ≡ false → next ≡ to 37 th → Moves next Quiet ≡ topped n root th
+  pub top-base : {b : Node} {k : Bool} → (root ≡ th .parent → ⊥) → b ≡ n root → k ≡ isRoute (b .kind) → k ≡ false → r ≡ goes (to 37 th) → r ≡ topped n root th
   unfolding ite
-  top-base h e i t q = rw (q, ne-eqb _ _ h, ← e, ← i, t)
+  top-base h e i t q = q ∙ rw (ne-eqb _ _ h, ← e, ← i, t)
 
 pub ruleset top-cases = (top-parent, top-route, top-base)
 
 -- ---- 32: b is the child x
-module _ (n : Nodes) (x : ℕ) (th : Thread) {next : Thread} where
-  pub climb-parent : x ≡ th .parent → next ≡ toGrandparent 33 (To (th .route)) th → Moves next Quiet ≡ climbed n x th
+module _ (n : Nodes) (x : ℕ) (th : Thread) {r : Turn} where
+  pub climb-parent : x ≡ th .parent → r ≡ goes (toGrandparent 33 (To (th .route)) th) → r ≡ climbed n x th
   unfolding ite
-  climb-parent h q = rw (q, eq-eqb _ _ h)
+  climb-parent h q = q ∙ rw (eq-eqb _ _ h)
 
-  pub climb-route : {b : Node} {k : Bool} → (x ≡ th .parent → ⊥) → b ≡ n x → k ≡ isRoute (b .kind) → k ≡ true → next ≡ toRoute 32 x th → Moves next Quiet ≡ climbed n x th
+  pub climb-route : {b : Node} {k : Bool} → (x ≡ th .parent → ⊥) → b ≡ n x → k ≡ isRoute (b .kind) → k ≡ true → r ≡ goes (toRoute 32 x th) → r ≡ climbed n x th
   unfolding ite
-  climb-route h e i t q = rw (q, ne-eqb _ _ h, ← e, ← i, t)
+  climb-route h e i t q = q ∙ rw (ne-eqb _ _ h, ← e, ← i, t)
 
-  pub climb-base : {b : Node} {k : Bool} → (x ≡ th .parent → ⊥) → b ≡ n x → k ≡ isRoute (b .kind) → k ≡ false → next ≡ to 37 th → Moves next Quiet ≡ climbed n x th
+  pub climb-base : {b : Node} {k : Bool} → (x ≡ th .parent → ⊥) → b ≡ n x → k ≡ isRoute (b .kind) → k ≡ false → r ≡ goes (to 37 th) → r ≡ climbed n x th
   unfolding ite
-  climb-base h e i t q = rw (q, ne-eqb _ _ h, ← e, ← i, t)
+  climb-base h e i t q = q ∙ rw (ne-eqb _ _ h, ← e, ← i, t)
 
 pub ruleset climb-cases = (climb-parent, climb-route, climb-base)
 
 -- ---- 33
 module _ (n : Nodes) (th : Thread) where
-  pub grand-none : {next : Thread} → th .grandparent ≡ Nil → next ≡ to 37 th → Moves next Quiet ≡ grandMarking (th .grandparent) n th
-  grand-none h q = rw (q, h)
+  pub grand-none : {r : Turn} → th .grandparent ≡ Nil → r ≡ goes (to 37 th) → r ≡ grandMarking (th .grandparent) n th
+  grand-none h q = q ∙ rw h
 
   pub grand-mark : (g : ℕ) {r : Turn} → th .grandparent ≡ To g → r ≡ marking n g 34 37 th → r ≡ grandMarking (th .grandparent) n th
   grand-mark g h q = q ∙ rw h
@@ -140,22 +140,22 @@ back-under Nil h = cc
 back-under (To g) h = refl
 
 -- m is the main, p the union node's parent and c its container
-module _ (n : Nodes) (used : ℕ) (th : Thread) {m : Node} {k : Bool} where
-  pub close-full : m ≡ n (th .main) → k ≡ isPreparing (m .stage) → k ≡ true → 255 < used → Full ≡ closed n used th
+module _ (n : Nodes) (used : ℕ) (th : Thread) {m : Node} {k : Bool} {r : Turn} where
+  pub close-full : m ≡ n (th .main) → k ≡ isPreparing (m .stage) → k ≡ true → 255 < used → r ≡ Full → r ≡ closed n used th
   unfolding ite
-  close-full e i t l = rw (← e, ← i, t, short used l)
+  close-full e i t l q = q ∙ rw (← e, ← i, t, short used l)
 
-  pub close-made : {x : Node} {p : Link} {c : ℕ} {next : Thread} → m ≡ n (th .main) → k ≡ isPreparing (m .stage) → k ≡ true → used ≤ 255 → x ≡ n (th .neighbour) → p ≡ unionParent n th → c ≡ union (m .container) (x .container) → next ≡ to 40 th → Moves next (Commit (th .main) used p c (th .neighbour) (th .grandparent) (th .other)) ≡ closed n used th
+  pub close-made : {x : Node} {p : Link} {c : ℕ} → m ≡ n (th .main) → k ≡ isPreparing (m .stage) → k ≡ true → used ≤ 255 → x ≡ n (th .neighbour) → p ≡ unionParent n th → c ≡ union (m .container) (x .container) → r ≡ Moves (to 40 th) (Commit (th .main) used p c (th .neighbour) (th .grandparent) (th .other)) → r ≡ closed n used th
   unfolding ite
-  close-made e i t l f g u q = rw (q, g, u, f, ← e, ← i, t, enough used l)
+  close-made e i t l f g u q = q ∙ rw (g, u, f, ← e, ← i, t, enough used l)
 
-  pub close-alone : {o : Bool} {next : Thread} → m ≡ n (th .main) → k ≡ isPreparing (m .stage) → k ≡ false → o ≡ isNil (th .grandparent) → o ≡ true → next ≡ to 37 th → Moves next Quiet ≡ closed n used th
+  pub close-alone : {o : Bool} → m ≡ n (th .main) → k ≡ isPreparing (m .stage) → k ≡ false → o ≡ isNil (th .grandparent) → o ≡ true → r ≡ goes (to 37 th) → r ≡ closed n used th
   unfolding ite
-  close-alone e i t j s q = let a : isNil (th .grandparent) ≡ true = cc in rw (q, ← e, ← i, t, back-alone _ a)
+  close-alone e i t j s q = let a : isNil (th .grandparent) ≡ true = cc in q ∙ rw (← e, ← i, t, back-alone _ a)
 
-  pub close-under : {o : Bool} {next : Thread} → m ≡ n (th .main) → k ≡ isPreparing (m .stage) → k ≡ false → o ≡ isNil (th .grandparent) → o ≡ false → next ≡ to 36 th → Moves next Quiet ≡ closed n used th
+  pub close-under : {o : Bool} → m ≡ n (th .main) → k ≡ isPreparing (m .stage) → k ≡ false → o ≡ isNil (th .grandparent) → o ≡ false → r ≡ goes (to 36 th) → r ≡ closed n used th
   unfolding ite
-  close-under e i t j s q = let a : isNil (th .grandparent) ≡ false = cc in rw (q, ← e, ← i, t, back-under _ a)
+  close-under e i t j s q = let a : isNil (th .grandparent) ≡ false = cc in q ∙ rw (← e, ← i, t, back-under _ a)
 
 pub ruleset close-cases = (close-full, close-made, close-alone, close-under)
 
@@ -167,21 +167,21 @@ pub ruleset unmark-cases = (unmark-one)
 
 -- ---- the places 20 to 25: p is the parent, x the child read
 module _ (n : Nodes) (root used : ℕ) (th : Thread) where
-  pub at-20-left : {p : Node} {next : Thread} → th .place ≡ 20 → p ≡ n (th .parent) → p .left ≡ th .base → next ≡ toSide 22 true th → Moves next Quiet ≡ step (placeOf (th .place)) (store n root used) th
+  pub at-20-left : {p : Node} {r : Turn} → th .place ≡ 20 → p ≡ n (th .parent) → p .left ≡ th .base → r ≡ goes (toSide 22 true th) → r ≡ step (placeOf (th .place)) (store n root used) th
   unfolding step ite
-  at-20-left h e k q = rw (q, h, ← e, eq-eqb _ _ k)
+  at-20-left h e k q = q ∙ rw (h, ← e, eq-eqb _ _ k)
 
-  pub at-20-other : {p : Node} {next : Thread} → th .place ≡ 20 → p ≡ n (th .parent) → (p .left ≡ th .base → ⊥) → next ≡ to 21 th → Moves next Quiet ≡ step (placeOf (th .place)) (store n root used) th
+  pub at-20-other : {p : Node} {r : Turn} → th .place ≡ 20 → p ≡ n (th .parent) → (p .left ≡ th .base → ⊥) → r ≡ goes (to 21 th) → r ≡ step (placeOf (th .place)) (store n root used) th
   unfolding step ite
-  at-20-other h e k q = rw (q, h, ← e, ne-eqb _ _ k)
+  at-20-other h e k q = q ∙ rw (h, ← e, ne-eqb _ _ k)
 
-  pub at-21-right : {p : Node} {next : Thread} → th .place ≡ 21 → p ≡ n (th .parent) → p .right ≡ th .base → next ≡ toSide 22 false th → Moves next Quiet ≡ step (placeOf (th .place)) (store n root used) th
+  pub at-21-right : {p : Node} {r : Turn} → th .place ≡ 21 → p ≡ n (th .parent) → p .right ≡ th .base → r ≡ goes (toSide 22 false th) → r ≡ step (placeOf (th .place)) (store n root used) th
   unfolding step ite
-  at-21-right h e k q = rw (q, h, ← e, eq-eqb _ _ k)
+  at-21-right h e k q = q ∙ rw (h, ← e, eq-eqb _ _ k)
 
-  pub at-21-gone : {p : Node} → th .place ≡ 21 → p ≡ n (th .parent) → (p .right ≡ th .base → ⊥) → Finishes Quiet false ≡ step (placeOf (th .place)) (store n root used) th
+  pub at-21-gone : {p : Node} {r : Turn} → th .place ≡ 21 → p ≡ n (th .parent) → (p .right ≡ th .base → ⊥) → r ≡ says false → r ≡ step (placeOf (th .place)) (store n root used) th
   unfolding step ite
-  at-21-gone h e k = rw (h, ← e, ne-eqb _ _ k)
+  at-21-gone h e k q = q ∙ rw (h, ← e, ne-eqb _ _ k)
 
   pub at-22 : {p : Node} {x : ℕ} {r : Turn} → th .place ≡ 22 → p ≡ n (th .parent) → x ≡ kidOf (not (th .left)) p → r ≡ beside n th x → r ≡ step (placeOf (th .place)) (store n root used) th
   unfolding step
@@ -191,13 +191,13 @@ module _ (n : Nodes) (root used : ℕ) (th : Thread) where
   unfolding step
   at-23 h e i q = q ∙ rw (h, ← e, i)
 
-  pub at-24-free : {k : Bool} {next : Thread} → th .place ≡ 24 → k ≡ replaceable n (th .found) → k ≡ true → next ≡ to 25 th → Moves next Quiet ≡ step (placeOf (th .place)) (store n root used) th
+  pub at-24-free : {k : Bool} {r : Turn} → th .place ≡ 24 → k ≡ replaceable n (th .found) → k ≡ true → r ≡ goes (to 25 th) → r ≡ step (placeOf (th .place)) (store n root used) th
   unfolding step ite
-  at-24-free h i t q = rw (q, h, ← i, t)
+  at-24-free h i t q = q ∙ rw (h, ← i, t)
 
-  pub at-24-busy : {k : Bool} → th .place ≡ 24 → k ≡ replaceable n (th .found) → k ≡ false → Finishes Quiet false ≡ step (placeOf (th .place)) (store n root used) th
+  pub at-24-busy : {k : Bool} {r : Turn} → th .place ≡ 24 → k ≡ replaceable n (th .found) → k ≡ false → r ≡ says false → r ≡ step (placeOf (th .place)) (store n root used) th
   unfolding step ite
-  at-24-busy h i t = rw (h, ← i, t)
+  at-24-busy h i t q = q ∙ rw (h, ← i, t)
 
   pub at-25 : {r : Turn} → 20 ≤ th .place → th .place < 26 → (th .place ≡ 20 → ⊥) → (th .place ≡ 21 → ⊥) → (th .place ≡ 22 → ⊥) → (th .place ≡ 23 → ⊥) → (th .place ≡ 24 → ⊥) → r ≡ hooked n used th → r ≡ step (placeOf (th .place)) (store n root used) th
   unfolding step
@@ -220,29 +220,29 @@ module _ (n : Nodes) (root used : ℕ) (th : Thread) where
   unfolding step
   at-33 h q = q ∙ rw h
 
-  pub at-34 : {p : Node} {x : ℕ} {next : Thread} → th .place ≡ 34 → p ≡ n (th .parent) → x ≡ kidOf (not (th .left)) p → next ≡ toOther 35 x th → Moves next Quiet ≡ step (placeOf (th .place)) (store n root used) th
+  pub at-34 : {p : Node} {x : ℕ} {r : Turn} → th .place ≡ 34 → p ≡ n (th .parent) → x ≡ kidOf (not (th .left)) p → r ≡ goes (toOther 35 x th) → r ≡ step (placeOf (th .place)) (store n root used) th
   unfolding step
-  at-34 h e i q = rw (q, h, ← e, i)
+  at-34 h e i q = q ∙ rw (h, ← e, i)
 
   pub at-35 : {r : Turn} → th .place ≡ 35 → r ≡ closed n used th → r ≡ step (placeOf (th .place)) (store n root used) th
   unfolding step
   at-35 h q = q ∙ rw h
 
-  pub at-36 : {o : Effect} {next : Thread} → th .place ≡ 36 → o ≡ unmark (th .grandparent) → next ≡ to 37 th → Moves next o ≡ step (placeOf (th .place)) (store n root used) th
+  pub at-36 : {o : Effect} {r : Turn} → th .place ≡ 36 → o ≡ unmark (th .grandparent) → r ≡ Moves (to 37 th) o → r ≡ step (placeOf (th .place)) (store n root used) th
   unfolding step
-  at-36 h i q = rw (q, i, h)
+  at-36 h i q = q ∙ rw (i, h)
 
-  pub at-37 : {next : Thread} → th .place ≡ 37 → next ≡ to 38 th → Moves next (Mark (th .parent) Nil) ≡ step (placeOf (th .place)) (store n root used) th
+  pub at-37 : {r : Turn} → th .place ≡ 37 → r ≡ Moves (to 38 th) (Mark (th .parent) Nil) → r ≡ step (placeOf (th .place)) (store n root used) th
   unfolding step
-  at-37 h q = rw (q, h)
+  at-37 h q = q ∙ rw h
 
-  pub at-38 : th .place ≡ 38 → Finishes (Settle (th .main) Aborted) false ≡ step (placeOf (th .place)) (store n root used) th
+  pub at-38 : {r : Turn} → th .place ≡ 38 → r ≡ Finishes (Settle (th .main) Aborted) false → r ≡ step (placeOf (th .place)) (store n root used) th
   unfolding step
-  at-38 h = rw h
+  at-38 h q = q ∙ rw h
 
-  pub at-39 : 30 ≤ th .place → th .place < 40 → (th .place ≡ 30 → ⊥) → (th .place ≡ 31 → ⊥) → (th .place ≡ 32 → ⊥) → (th .place ≡ 33 → ⊥) → (th .place ≡ 34 → ⊥) → (th .place ≡ 35 → ⊥) → (th .place ≡ 36 → ⊥) → (th .place ≡ 37 → ⊥) → (th .place ≡ 38 → ⊥) → Moves th Quiet ≡ step (placeOf (th .place)) (store n root used) th
+  pub at-39 : {r : Turn} → 30 ≤ th .place → th .place < 40 → (th .place ≡ 30 → ⊥) → (th .place ≡ 31 → ⊥) → (th .place ≡ 32 → ⊥) → (th .place ≡ 33 → ⊥) → (th .place ≡ 34 → ⊥) → (th .place ≡ 35 → ⊥) → (th .place ≡ 36 → ⊥) → (th .place ≡ 37 → ⊥) → (th .place ≡ 38 → ⊥) → r ≡ goes th → r ≡ step (placeOf (th .place)) (store n root used) th
   unfolding step
-  at-39 l m f₀ f₁ f₂ f₃ f₄ f₅ f₆ f₇ f₈ = rw (last (past 38 (past 37 (past 36 (past 35 (past 34 (past 33 (past 32 (past 31 (past 30 l f₀) f₁) f₂) f₃) f₄) f₅) f₆) f₇) f₈) m)
+  at-39 l m f₀ f₁ f₂ f₃ f₄ f₅ f₆ f₇ f₈ q = q ∙ rw (last (past 38 (past 37 (past 36 (past 35 (past 34 (past 33 (past 32 (past 31 (past 30 l f₀) f₁) f₂) f₃) f₄) f₅) f₆) f₇) f₈) m)
 
 pub ruleset approach-cases = (at-20-left, at-20-other, at-21-right, at-21-gone, at-22, at-23, at-24-free, at-24-busy, at-25)
 

@@ -16,41 +16,41 @@ use Rattle.definitions.specs.declared.Node.{Node}
 use Rattle.definitions.specs.declared.Action.{Action}
 use Rattle.definitions.specs.declared.Action.the-variants.{Lookup, Split, Join}
 use Rattle.definitions.specs.declared.Thread.{Thread}
-use Rattle.definitions.specs.declared.Effect.the-variants.{Quiet, Settle}
+use Rattle.definitions.specs.declared.Effect.the-variants.{Settle}
 use Rattle.definitions.specs.declared.Turn.{Turn}
-use Rattle.definitions.specs.declared.Turn.the-variants.{Moves, Finishes}
+use Rattle.definitions.specs.declared.Turn.the-variants.{Moves}
 use Rattle.definitions.specs.Nodes.{Nodes, childFor, isRoute, isPreparing, replaceable}
 use Rattle.definitions.specs.Bench.{store}
 use Rattle.definitions.specs.Places.{placeOf, to, toRoute, toBase, toParent}
 use Rattle.definitions.specs.Steps.{goes, says, reached, lost, lostAs, cleared, clearedAs, joinUnder, atLeaf, helpAs, blockedBy, step}
 use Rattle.steps.proofs.DecideLaws.{placed, unlisted}
 
--- ---- a node is read: n is that node, b whether it is a route, t the thread's next notes
+-- ---- a node is read: n is that node, b whether it is a route
 module _ (ns : Nodes) (th : Thread) (x : ℕ) {n : Node} {b : Bool} where
-  pub reach-route : {t : Thread} → n ≡ ns x → b ≡ isRoute (n .kind) → b ≡ true → t ≡ toRoute 2 x th → Moves t Quiet ≡ reached ns th x
+  pub reach-route : {r : Turn} → n ≡ ns x → b ≡ isRoute (n .kind) → b ≡ true → r ≡ goes (toRoute 2 x th) → r ≡ reached ns th x
   unfolding reached ite
-  reach-route e k h q = rw (← e, ← k, h, q)
+  reach-route e k h q = q ∙ rw (← e, ← k, h)
 
   reach-leaf : {a : Action} → n ≡ ns x → b ≡ isRoute (n .kind) → b ≡ false → th .action ≡ a → atLeaf a ns th x ≡ reached ns th x
   unfolding reached ite
   reach-leaf e k h a = rw (← e, ← k, h) (ap (λ (y : Action). atLeaf y ns th x) (sym a))
 
-  pub reach-lookup : {m : Bool} → n ≡ ns x → b ≡ isRoute (n .kind) → b ≡ false → th .action ≡ Lookup → m ≡ has (n .container) (th .station) → Finishes Quiet m ≡ reached ns th x
-  reach-lookup e k h a q = rw (q, e) (reach-leaf e k h a)
+  pub reach-lookup : {m : Bool} {r : Turn} → n ≡ ns x → b ≡ isRoute (n .kind) → b ≡ false → th .action ≡ Lookup → m ≡ has (n .container) (th .station) → r ≡ says m → r ≡ reached ns th x
+  reach-lookup e k h a i q = q ∙ (rw (i, e) (reach-leaf e k h a))
 
   -- the other actions go to 3
-  pub reach-base : {t : Thread} {a : Action} → n ≡ ns x → b ≡ isRoute (n .kind) → b ≡ false → th .action ≡ a → goes (toBase 3 x th) ≡ atLeaf a ns th x → t ≡ toBase 3 x th → Moves t Quiet ≡ reached ns th x
-  reach-base e k h a l q = rw q (l ∙ reach-leaf e k h a)
+  pub reach-base : {a : Action} {r : Turn} → n ≡ ns x → b ≡ isRoute (n .kind) → b ≡ false → th .action ≡ a → goes (toBase 3 x th) ≡ atLeaf a ns th x → r ≡ goes (toBase 3 x th) → r ≡ reached ns th x
+  reach-base e k h a l q = q ∙ (l ∙ reach-leaf e k h a)
 
 -- ---- a base that is not replaceable, or a swap that failed
-module _ (th : Thread) {a : Action} (e : th .action ≡ a) where
-  pub lost-again : {t : Thread} → goes (to 15 th) ≡ lostAs a th → t ≡ to 15 th → Moves t Quiet ≡ lost th
+module _ (th : Thread) {a : Action} {r : Turn} (e : th .action ≡ a) where
+  pub lost-again : goes (to 15 th) ≡ lostAs a th → r ≡ goes (to 15 th) → r ≡ lost th
   unfolding lost
-  lost-again l q = rw q (l ∙ ap (λ (y : Action). lostAs y th) (sym e))
+  lost-again l q = q ∙ (l ∙ ap (λ (y : Action). lostAs y th) (sym e))
 
-  pub lost-over : says false ≡ lostAs a th → says false ≡ lost th
+  pub lost-over : says false ≡ lostAs a th → r ≡ says false → r ≡ lost th
   unfolding lost
-  lost-over l = l ∙ ap (λ (y : Action). lostAs y th) (sym e)
+  lost-over l q = q ∙ (l ∙ ap (λ (y : Action). lostAs y th) (sym e))
 
 -- ---- 3: the base b is replaceable; z is its size, l its parent
 module _ (b : Node) (th : Thread) where
@@ -58,26 +58,26 @@ module _ (b : Node) (th : Thread) where
   unfolding cleared
   as-cleared e = ap (λ (y : Action). clearedAs y b th) (sym e)
 
-  pub clear-swap : {t : Thread} {a : Action} → th .action ≡ a → goes (to 10 th) ≡ clearedAs a b th → t ≡ to 10 th → Moves t Quiet ≡ cleared b th
-  clear-swap e l q = rw q (l ∙ as-cleared e)
+  pub clear-swap : {a : Action} {r : Turn} → th .action ≡ a → goes (to 10 th) ≡ clearedAs a b th → r ≡ goes (to 10 th) → r ≡ cleared b th
+  clear-swap e l q = q ∙ (l ∙ as-cleared e)
 
-  pub clear-lookup : th .action ≡ Lookup → says false ≡ cleared b th
-  clear-lookup e = as-cleared e
+  pub clear-lookup : {r : Turn} → th .action ≡ Lookup → r ≡ says false → r ≡ cleared b th
+  clear-lookup e q = q ∙ as-cleared e
 
-  module _ {z : ℕ} (e : th .action ≡ Split) (s : z ≡ size (b .container)) where
-    pub clear-few : z < 2 → says false ≡ cleared b th
+  module _ {z : ℕ} {r : Turn} (e : th .action ≡ Split) (s : z ≡ size (b .container)) where
+    pub clear-few : z < 2 → r ≡ says false → r ≡ cleared b th
     unfolding ite
-    clear-few h = rw (← s, lt-ltb _ _ h) at (as-cleared e)
+    clear-few h q = q ∙ (rw (← s, lt-ltb _ _ h) at (as-cleared e))
 
-    pub clear-split : {t : Thread} → 2 ≤ z → t ≡ to 10 th → Moves t Quiet ≡ cleared b th
+    pub clear-split : 2 ≤ z → r ≡ goes (to 10 th) → r ≡ cleared b th
     unfolding ite
-    clear-split h q = rw q (rw (← s, le-ltb _ _ h) at (as-cleared e))
+    clear-split h q = q ∙ (rw (← s, le-ltb _ _ h) at (as-cleared e))
 
-  pub clear-top : th .action ≡ Join → b .parent ≡ Nil → says false ≡ cleared b th
-  clear-top e l = ap (λ (y : Link). joinUnder y th) (sym l) ∙ as-cleared e
+  pub clear-top : {r : Turn} → th .action ≡ Join → b .parent ≡ Nil → r ≡ says false → r ≡ cleared b th
+  clear-top e l q = q ∙ (ap (λ (y : Link). joinUnder y th) (sym l) ∙ as-cleared e)
 
-  pub clear-join : {t : Thread} {p : ℕ} → th .action ≡ Join → b .parent ≡ To p → t ≡ toParent 20 p th → Moves t Quiet ≡ cleared b th
-  clear-join e l q = rw q (ap (λ (y : Link). joinUnder y th) (sym l) ∙ as-cleared e)
+  pub clear-join : {p : ℕ} {r : Turn} → th .action ≡ Join → b .parent ≡ To p → r ≡ goes (toParent 20 p th) → r ≡ cleared b th
+  clear-join e l q = q ∙ (ap (λ (y : Link). joinUnder y th) (sym l) ∙ as-cleared e)
 
 -- ---- 1 to 3: u is the numbers used
 module _ (ns : Nodes) (root u : ℕ) (th : Thread) where
@@ -97,12 +97,12 @@ module _ (ns : Nodes) (root u : ℕ) (th : Thread) where
   unfolding step ite
   at-3-lost h e k q = q ∙ (rw (← e, k) at (placed (store ns root u) th h))
 
-  pub before-10 : th .place < 10 → (th .place ≡ 1 → ⊥) → (th .place ≡ 2 → ⊥) → (th .place ≡ 3 → ⊥) → goes th ≡ step (placeOf (th .place)) (store ns root u) th
-  before-10 h f g k = unlisted (λ p. leb 10 p || (eqb p 1 || (eqb p 2 || eqb p 3))) refl (store ns root u) th (rw (lt-leb _ _ h, ne-eqb _ _ f, ne-eqb _ _ g, ne-eqb _ _ k))
+  pub before-10 : {r : Turn} → th .place < 10 → (th .place ≡ 1 → ⊥) → (th .place ≡ 2 → ⊥) → (th .place ≡ 3 → ⊥) → r ≡ goes th → r ≡ step (placeOf (th .place)) (store ns root u) th
+  before-10 h f g k q = q ∙ unlisted (λ p. leb 10 p || (eqb p 1 || (eqb p 2 || eqb p 3))) refl (store ns root u) th (rw (lt-leb _ _ h, ne-eqb _ _ f, ne-eqb _ _ g, ne-eqb _ _ k))
 
 -- ---- 15: what the stage s of the main m leads to
-pub help-as : (s : Stage) (m : ℕ) (th : Thread) {a : Stage} {t v : Thread} → s ≡ a → t ≡ v → goes v ≡ helpAs a m th → Moves t Quiet ≡ helpAs s m th
-help-as s m th e q l = rw (e, q) l
+pub help-as : (s : Stage) (m : ℕ) (th : Thread) {a : Stage} {v : Thread} {r : Turn} → s ≡ a → r ≡ goes v → goes v ≡ helpAs a m th → r ≡ helpAs s m th
+help-as s m th e q l = rw e (q ∙ l)
 
 -- 15: n is the base, m its main
 module _ (ns : Nodes) (root u : ℕ) (th : Thread) {n : Node} (h : th .place ≡ 15) (e : n ≡ ns (th .base)) where
@@ -110,8 +110,8 @@ module _ (ns : Nodes) (root u : ℕ) (th : Thread) {n : Node} (h : th .place ≡
   unfolding step
   as-blocked k = ap (λ (y : Kind). blockedBy y ns th) (sym k ∙ ap (λ (y : Node). y .kind) e) ∙ placed (store ns root u) th h
 
-  pub blocked-again : {k : Kind} {t : Thread} → n .kind ≡ k → goes (to 1 th) ≡ blockedBy k ns th → t ≡ to 1 th → Moves t Quiet ≡ step (placeOf (th .place)) (store ns root u) th
-  blocked-again k l q = rw q (l ∙ as-blocked k)
+  pub blocked-again : {k : Kind} {r : Turn} → n .kind ≡ k → goes (to 1 th) ≡ blockedBy k ns th → r ≡ goes (to 1 th) → r ≡ step (placeOf (th .place)) (store ns root u) th
+  blocked-again k l q = q ∙ (l ∙ as-blocked k)
 
   pub blocked-main : {r : Turn} → n .kind ≡ Main → r ≡ helpAs (n .stage) (th .base) th → r ≡ step (placeOf (th .place)) (store ns root u) th
   blocked-main k q = q ∙ (rw e (as-blocked k))
@@ -121,17 +121,17 @@ module _ (ns : Nodes) (root u : ℕ) (th : Thread) {n : Node} (h : th .place ≡
 
 -- 16: m is the main, b whether it is preparing
 module _ (ns : Nodes) (root u : ℕ) (th : Thread) where
-  module _ {m : Node} {b : Bool} {t : Thread} (h : th .place ≡ 16) (e : m ≡ ns (th .main)) (k : b ≡ isPreparing (m .stage)) (q : t ≡ to 1 th) where
-    pub at-16-kill : b ≡ true → Moves t (Settle (th .main) Aborted) ≡ step (placeOf (th .place)) (store ns root u) th
+  module _ {m : Node} {b : Bool} {r : Turn} (h : th .place ≡ 16) (e : m ≡ ns (th .main)) (k : b ≡ isPreparing (m .stage)) where
+    pub at-16-kill : b ≡ true → r ≡ Moves (to 1 th) (Settle (th .main) Aborted) → r ≡ step (placeOf (th .place)) (store ns root u) th
     unfolding step ite
-    at-16-kill i = rw q (rw (← e, ← k, i) at (placed (store ns root u) th h))
+    at-16-kill i q = q ∙ (rw (← e, ← k, i) at (placed (store ns root u) th h))
 
-    pub at-16-late : b ≡ false → Moves t Quiet ≡ step (placeOf (th .place)) (store ns root u) th
+    pub at-16-late : b ≡ false → r ≡ goes (to 1 th) → r ≡ step (placeOf (th .place)) (store ns root u) th
     unfolding step ite
-    at-16-late i = rw q (rw (← e, ← k, i) at (placed (store ns root u) th h))
+    at-16-late i q = q ∙ (rw (← e, ← k, i) at (placed (store ns root u) th h))
 
-  pub before-20 : 14 ≤ th .place → th .place < 20 → (th .place ≡ 15 → ⊥) → (th .place ≡ 16 → ⊥) → goes th ≡ step (placeOf (th .place)) (store ns root u) th
-  before-20 a h f g = unlisted (λ p. ltb p 14 || (leb 20 p || (eqb p 15 || eqb p 16))) refl (store ns root u) th (rw (le-ltb _ _ a, lt-leb _ _ h, ne-eqb _ _ f, ne-eqb _ _ g))
+  pub before-20 : {r : Turn} → 14 ≤ th .place → th .place < 20 → (th .place ≡ 15 → ⊥) → (th .place ≡ 16 → ⊥) → r ≡ goes th → r ≡ step (placeOf (th .place)) (store ns root u) th
+  before-20 a h f g q = q ∙ unlisted (λ p. ltb p 14 || (leb 20 p || (eqb p 15 || eqb p 16))) refl (store ns root u) th (rw (le-ltb _ _ a, lt-leb _ _ h, ne-eqb _ _ f, ne-eqb _ _ g))
 
 pub ruleset reach-cases = (reach-route, reach-lookup, reach-base)
 pub ruleset lost-cases = (lost-again, lost-over)

@@ -19,13 +19,13 @@ use Rattle.definitions.specs.declared.Spot.the-variants.{Root, Under}
 use Rattle.definitions.specs.declared.Probe.{Probe}
 use Rattle.definitions.specs.declared.Probe.the-variants.{Hit, Next, Miss}
 use Rattle.definitions.specs.declared.Thread.{Thread}
-use Rattle.definitions.specs.declared.Effect.the-variants.{Quiet, Swing, Base, Fork}
+use Rattle.definitions.specs.declared.Effect.the-variants.{Swing, Base, Fork}
 use Rattle.definitions.specs.declared.Turn.{Turn}
 use Rattle.definitions.specs.declared.Turn.the-variants.{Moves, Finishes, Full}
 use Rattle.definitions.specs.Nodes.{Nodes}
 use Rattle.definitions.specs.Bench.{store}
 use Rattle.definitions.specs.Places.{quarterOf, quarterNumber, swap, own, found, united, to, toNeighbour}
-use Rattle.definitions.specs.Steps.{room, probe, replaced, replacedAs, lost, ownBy, foundBy, unitedBy, step}
+use Rattle.definitions.specs.Steps.{goes, room, probe, replaced, replacedAs, lost, ownBy, foundBy, unitedBy, step}
 
 -- ---- a step by its number
 pub quarter-last : (k : ℕ) → (k ≡ 0 → ⊥) → (k ≡ 1 → ⊥) → (k ≡ 2 → ⊥) → SwapRight ≡ quarterOf k
@@ -113,30 +113,30 @@ module _ (v : Spot) (b : Node) (u : ℕ) (th : Thread) where
   unfolding replaced
   as-replaced e = ap (λ (y : Action). replacedAs y v b u th) (sym e)
 
-  pub replace-lookup : th .action ≡ Lookup → Full ≡ replaced v b u th
-  replace-lookup e = as-replaced e
+  pub replace-lookup : {r : Turn} → th .action ≡ Lookup → r ≡ Full → r ≡ replaced v b u th
+  replace-lookup e q = q ∙ as-replaced e
 
-  pub replace-join : th .action ≡ Join → Full ≡ replaced v b u th
-  replace-join e = as-replaced e
+  pub replace-join : {r : Turn} → th .action ≡ Join → r ≡ Full → r ≡ replaced v b u th
+  replace-join e q = q ∙ as-replaced e
 
-  pub insert-full : th .action ≡ Insert → 255 < u → Full ≡ replaced v b u th
-  insert-full e h = no-room 1 u _ (omega arith) ∙ as-replaced e
+  pub insert-full : {r : Turn} → th .action ≡ Insert → 255 < u → r ≡ Full → r ≡ replaced v b u th
+  insert-full e h q = q ∙ (no-room 1 u _ (omega arith) ∙ as-replaced e)
 
-  pub remove-full : th .action ≡ Remove → 255 < u → Full ≡ replaced v b u th
-  remove-full e h = no-room 1 u _ (omega arith) ∙ as-replaced e
+  pub remove-full : {r : Turn} → th .action ≡ Remove → 255 < u → r ≡ Full → r ≡ replaced v b u th
+  remove-full e h q = q ∙ (no-room 1 u _ (omega arith) ∙ as-replaced e)
 
-  pub split-full : th .action ≡ Split → 253 < u → Full ≡ replaced v b u th
-  split-full e h = no-room 3 u _ (omega arith) ∙ as-replaced e
+  pub split-full : {r : Turn} → th .action ≡ Split → 253 < u → r ≡ Full → r ≡ replaced v b u th
+  split-full e h q = q ∙ (no-room 3 u _ (omega arith) ∙ as-replaced e)
 
-  pub inserted : {m : Bool} {c : ℕ} → th .action ≡ Insert → u ≤ 255 → m ≡ has (b .container) (th .station) → c ≡ insert (b .container) (th .station) → Finishes (Base v u Normal (b .parent) c 0) (not m) ≡ replaced v b u th
-  inserted e h i j = rw (i, j) (has-room 1 u _ (omega arith) ∙ as-replaced e)
+  pub inserted : {m : Bool} {c : ℕ} {r : Turn} → th .action ≡ Insert → u ≤ 255 → m ≡ has (b .container) (th .station) → c ≡ insert (b .container) (th .station) → r ≡ Finishes (Base v u Normal (b .parent) c 0) (not m) → r ≡ replaced v b u th
+  inserted e h i j q = q ∙ (rw (i, j) (has-room 1 u _ (omega arith) ∙ as-replaced e))
 
-  pub removed : {m : Bool} {c : ℕ} → th .action ≡ Remove → u ≤ 255 → m ≡ has (b .container) (th .station) → c ≡ remove (b .container) (th .station) → Finishes (Base v u Normal (b .parent) c 0) m ≡ replaced v b u th
-  removed e h i j = rw (i, j) (has-room 1 u _ (omega arith) ∙ as-replaced e)
+  pub removed : {m : Bool} {c : ℕ} {r : Turn} → th .action ≡ Remove → u ≤ 255 → m ≡ has (b .container) (th .station) → c ≡ remove (b .container) (th .station) → r ≡ Finishes (Base v u Normal (b .parent) c 0) m → r ≡ replaced v b u th
+  removed e h i j q = q ∙ (rw (i, j) (has-room 1 u _ (omega arith) ∙ as-replaced e))
 
-  pub parted : {hi lo k : ℕ} → th .action ≡ Split → u ≤ 253 → hi ≡ upperHalf (b .container) → lo ≡ lowerHalf (b .container) → k ≡ least hi → Finishes (Fork v u (u + 1) (u + 2) k lo hi) true ≡ replaced v b u th
+  pub parted : {hi lo k : ℕ} {r : Turn} → th .action ≡ Split → u ≤ 253 → hi ≡ upperHalf (b .container) → lo ≡ lowerHalf (b .container) → k ≡ least hi → r ≡ Finishes (Fork v u (u + 1) (u + 2) k lo hi) true → r ≡ replaced v b u th
   unfolding splitKey
-  parted e h i j k = rw (k, i, j) (has-room 3 u _ (omega arith) ∙ as-replaced e)
+  parted e h i j k q = q ∙ (rw (k, i, j) (has-room 3 u _ (omega arith) ∙ as-replaced e))
 
 -- ---- 10 to 13: b is the thread's base, w what is seen
 module _ (ns : Nodes) (root u : ℕ) (th : Thread) (q : Quarter) {b : Node} {w : Probe} (e : b ≡ ns (th .base)) (s : w ≡ probe q (b .parent) ns root (th .base)) where
@@ -147,8 +147,8 @@ module _ (ns : Nodes) (root u : ℕ) (th : Thread) (q : Quarter) {b : Node} {w :
   pub own-hit : {v : Spot} {r : Turn} → w ≡ Hit v → r ≡ replaced v b u th → r ≡ step (swap own q) (store ns root u) th
   own-hit d i = i ∙ as-own d
 
-  pub own-next : {k : Quarter} {p : ℕ} {t : Thread} → w ≡ Next k → p ≡ 10 + quarterNumber k → t ≡ to p th → Moves t Quiet ≡ step (swap own q) (store ns root u) th
-  own-next d i j = rw (j, i) (as-own d)
+  pub own-next : {k : Quarter} {p : ℕ} {r : Turn} → w ≡ Next k → p ≡ 10 + quarterNumber k → r ≡ goes (to p th) → r ≡ step (swap own q) (store ns root u) th
+  own-next d i j = j ∙ (rw i (as-own d))
 
   pub own-miss : {r : Turn} → w ≡ Miss → r ≡ lost th → r ≡ step (swap own q) (store ns root u) th
   own-miss d i = i ∙ as-own d
@@ -159,17 +159,17 @@ module _ (ns : Nodes) (root u : ℕ) (th : Thread) (q : Quarter) {b : Node} {w :
   unfolding step
   as-found d = rw (← d, s, e)
 
-  pub found-full : {v : Spot} → w ≡ Hit v → 255 < u → Full ≡ step (swap found q) (store ns root u) th
-  found-full d h = no-room 1 u _ (omega arith) ∙ as-found d
+  pub found-full : {v : Spot} {r : Turn} → w ≡ Hit v → 255 < u → r ≡ Full → r ≡ step (swap found q) (store ns root u) th
+  found-full d h i = i ∙ (no-room 1 u _ (omega arith) ∙ as-found d)
 
-  pub found-hit : {v : Spot} {t : Thread} → w ≡ Hit v → u ≤ 255 → t ≡ toNeighbour 30 u th → Moves t (Base v u Neighbour (b .parent) (b .container) (th .main)) ≡ step (swap found q) (store ns root u) th
-  found-hit d h i = rw i (has-room 1 u _ (omega arith) ∙ as-found d)
+  pub found-hit : {v : Spot} {r : Turn} → w ≡ Hit v → u ≤ 255 → r ≡ Moves (toNeighbour 30 u th) (Base v u Neighbour (b .parent) (b .container) (th .main)) → r ≡ step (swap found q) (store ns root u) th
+  found-hit d h i = i ∙ (has-room 1 u _ (omega arith) ∙ as-found d)
 
-  pub found-next : {k : Quarter} {p : ℕ} {t : Thread} → w ≡ Next k → p ≡ 26 + quarterNumber k → t ≡ to p th → Moves t Quiet ≡ step (swap found q) (store ns root u) th
-  found-next d i j = rw (j, i) (as-found d)
+  pub found-next : {k : Quarter} {p : ℕ} {r : Turn} → w ≡ Next k → p ≡ 26 + quarterNumber k → r ≡ goes (to p th) → r ≡ step (swap found q) (store ns root u) th
+  found-next d i j = j ∙ (rw i (as-found d))
 
-  pub found-miss : {t : Thread} → w ≡ Miss → t ≡ to 38 th → Moves t Quiet ≡ step (swap found q) (store ns root u) th
-  found-miss d i = rw i (as-found d)
+  pub found-miss : {r : Turn} → w ≡ Miss → r ≡ goes (to 38 th) → r ≡ step (swap found q) (store ns root u) th
+  found-miss d i = i ∙ as-found d
 
 -- ---- 41 to 44: m is the main, b its neighbour
 module _ (ns : Nodes) (root u : ℕ) (th : Thread) (q : Quarter) {m b : Node} {w : Probe} (f : m ≡ ns (th .main)) (e : b ≡ ns (m .neighbour)) (s : w ≡ probe q (b .parent) ns root (m .neighbour)) where
@@ -177,14 +177,14 @@ module _ (ns : Nodes) (root u : ℕ) (th : Thread) (q : Quarter) {m b : Node} {w
   unfolding step
   as-united d = rw (← d, s, e, f)
 
-  pub united-hit : {v : Spot} {t : Thread} → w ≡ Hit v → t ≡ to 45 th → Moves t (Swing v (m .union)) ≡ step (swap united q) (store ns root u) th
-  united-hit d i = rw i (as-united d)
+  pub united-hit : {v : Spot} {r : Turn} → w ≡ Hit v → r ≡ Moves (to 45 th) (Swing v (m .union)) → r ≡ step (swap united q) (store ns root u) th
+  united-hit d i = i ∙ as-united d
 
-  pub united-next : {k : Quarter} {p : ℕ} {t : Thread} → w ≡ Next k → p ≡ 41 + quarterNumber k → t ≡ to p th → Moves t Quiet ≡ step (swap united q) (store ns root u) th
-  united-next d i j = rw (j, i) (as-united d)
+  pub united-next : {k : Quarter} {p : ℕ} {r : Turn} → w ≡ Next k → p ≡ 41 + quarterNumber k → r ≡ goes (to p th) → r ≡ step (swap united q) (store ns root u) th
+  united-next d i j = j ∙ (rw i (as-united d))
 
-  pub united-miss : {t : Thread} → w ≡ Miss → t ≡ to 45 th → Moves t Quiet ≡ step (swap united q) (store ns root u) th
-  united-miss d i = rw i (as-united d)
+  pub united-miss : {r : Turn} → w ≡ Miss → r ≡ goes (to 45 th) → r ≡ step (swap united q) (store ns root u) th
+  united-miss d i = i ∙ as-united d
 
 pub ruleset look-cases = (root-hit, root-miss, root-left, root-read, root-right, left-seen, left-unseen, left-hit, left-miss, right-seen, right-unseen, right-hit, right-miss)
 pub ruleset replace-cases = (replace-lookup, replace-join, insert-full, remove-full, split-full, inserted, removed, parted)

@@ -1,11 +1,12 @@
 // 40 to 51: a join whose stage is a node number is completed, by its owner or by a helper.
 ghost use mathlib.Core.Path.{_≡_};
-ghost use Prim.Native.Nat.{ℕ, _+_, _<_, _≤_};
+ghost use Prim.Native.Nat.{_≤_};
 ghost use Rattle.nodes.specs.Cells.{table};
 ghost use Rattle.definitions.specs.Bench.{store};
 ghost use Rattle.definitions.specs.Places.{placeOf};
 ghost use Rattle.definitions.specs.Steps.{ended, invalid, names, replacement, cutAt, cutOn, cutRight, freeing, step};
 ghost use Rattle.steps.specs.Decision.{turnOf};
+use super::Decision;
 use super::notes;
 use definitions::Effect;
 use definitions::Link;
@@ -13,33 +14,30 @@ use definitions::Node;
 use definitions::Spot;
 use definitions::Stage;
 use definitions::Thread;
-use super::Decision;
 
 // The end of a completed join: the owner finishes yes, a helper goes to 1.
 pub fn end(effect: Effect, th: Thread) -> Decision
-    ensures { λ r. ⌜ turnOf r ≡ ended effect th ⌝ }
+    ensures { λ r. ⌜ turnOf th r ≡ ended effect th ⌝ }
 {
     let owner = th.owner;
     if owner {
-        Decision { what: 1, thread: th, effect: effect, answer: true }
+        notes::say_writing(th, effect, true)
     } else {
-        let next = notes::go(th, 1);
-        Decision { what: 0, thread: next, effect: effect, answer: false }
+        notes::go_writing(th, 1, effect)
     }
 }
 
 // 40: the stage is read.
 pub fn begin(cells: &[u8; 4096], sets: &[u64; 256], root: u8, used: u16, th: Thread) -> Decision
     requires { ⌜ th .place ≡ 40 ⌝ }
-    ensures { λ r. ⌜ turnOf r ≡ step (placeOf (th .place)) (store (table (now (cells .entry)) (now (sets .entry))) root used) th ⌝ }
+    ensures { λ r. ⌜ turnOf th r ≡ step (placeOf (th .place)) (store (table (now (cells .entry)) (now (sets .entry))) root used) th ⌝ }
 {
     let m = nodes::node_at(cells, sets, th.main);
     let stage = m.stage;
     if nodes::is_done(stage) {
         end(Effect::Quiet, th)
     } else {
-        let next = notes::go(th, 41);
-        Decision { what: 0, thread: next, effect: Effect::Quiet, answer: false }
+        notes::go(th, 41)
     }
 }
 
@@ -76,31 +74,32 @@ pub fn invalidate(l: Link) -> Effect
 
 // 46: the parent is cut out at the root, or the grandparent's left is read.
 pub fn cut(cells: &[u8; 4096], sets: &[u64; 256], root: u8, m: Node, th: Thread) -> Decision
-    ensures { λ r. ⌜ turnOf r ≡ cutAt (m .grandparent) m (table (now (cells .entry)) (now (sets .entry))) root th ⌝ }
+    ensures { λ r. ⌜ turnOf th r ≡ cutAt (m .grandparent) m (table (now (cells .entry)) (now (sets .entry))) root th ⌝ }
 {
     let grandparent = m.grandparent;
     let parent = m.parent;
     match grandparent {
         Link::Nil => {
-            let next = notes::go(th, 51);
             if leads_to(parent, root) {
                 let x = replacing(m);
-                Decision { what: 0, thread: next, effect: Effect::Swing {
+                notes::go_writing(
+                    th,
+                    51,
+                    Effect::Swing {
                         spot: Spot::Root,
                         to: x,
-                    }, answer: false }
+                    },
+                )
             } else {
-                Decision { what: 0, thread: next, effect: Effect::Quiet, answer: false }
+                notes::go(th, 51)
             }
         }
         Link::To(g) => {
             let n = nodes::node_at(cells, sets, g);
             if leads_to(parent, n.left) {
-                let next = notes::go(th, 47);
-                Decision { what: 0, thread: next, effect: Effect::Quiet, answer: false }
+                notes::go(th, 47)
             } else {
-                let next = notes::go(th, 48);
-                Decision { what: 0, thread: next, effect: Effect::Quiet, answer: false }
+                notes::go(th, 48)
             }
         }
     }
@@ -108,27 +107,27 @@ pub fn cut(cells: &[u8; 4096], sets: &[u64; 256], root: u8, m: Node, th: Thread)
 
 // 47, 49: the parent is cut out on one side of the grandparent.
 pub fn cut_side(cells: &[u8; 4096], sets: &[u64; 256], left: bool, m: Node, th: Thread) -> Decision
-    ensures { λ r. ⌜ turnOf r ≡ cutOn left (m .grandparent) m (table (now (cells .entry)) (now (sets .entry))) th ⌝ }
+    ensures { λ r. ⌜ turnOf th r ≡ cutOn left (m .grandparent) m (table (now (cells .entry)) (now (sets .entry))) th ⌝ }
 {
     let grandparent = m.grandparent;
     let parent = m.parent;
     match grandparent {
-        Link::Nil => {
-            let next = notes::go(th, 46);
-            Decision { what: 0, thread: next, effect: Effect::Quiet, answer: false }
-        }
+        Link::Nil => { notes::go(th, 46) }
         Link::To(g) => {
             let n = nodes::node_at(cells, sets, g);
             let y = nodes::kid_of(left, n);
-            let next = notes::go(th, 50);
             if leads_to(parent, y) {
                 let x = replacing(m);
-                Decision { what: 0, thread: next, effect: Effect::Swing {
+                notes::go_writing(
+                    th,
+                    50,
+                    Effect::Swing {
                         spot: Spot::Under(g, left),
                         to: x,
-                    }, answer: false }
+                    },
+                )
             } else {
-                Decision { what: 0, thread: next, effect: Effect::Quiet, answer: false }
+                notes::go(th, 50)
             }
         }
     }
@@ -136,23 +135,18 @@ pub fn cut_side(cells: &[u8; 4096], sets: &[u64; 256], left: bool, m: Node, th: 
 
 // 48: the grandparent's right is read.
 pub fn read_right(cells: &[u8; 4096], sets: &[u64; 256], m: Node, th: Thread) -> Decision
-    ensures { λ r. ⌜ turnOf r ≡ cutRight (m .grandparent) m (table (now (cells .entry)) (now (sets .entry))) th ⌝ }
+    ensures { λ r. ⌜ turnOf th r ≡ cutRight (m .grandparent) m (table (now (cells .entry)) (now (sets .entry))) th ⌝ }
 {
     let grandparent = m.grandparent;
     let parent = m.parent;
     match grandparent {
-        Link::Nil => {
-            let next = notes::go(th, 46);
-            Decision { what: 0, thread: next, effect: Effect::Quiet, answer: false }
-        }
+        Link::Nil => { notes::go(th, 46) }
         Link::To(g) => {
             let n = nodes::node_at(cells, sets, g);
             if leads_to(parent, n.right) {
-                let next = notes::go(th, 49);
-                Decision { what: 0, thread: next, effect: Effect::Quiet, answer: false }
+                notes::go(th, 49)
             } else {
-                let next = notes::go(th, 50);
-                Decision { what: 0, thread: next, effect: Effect::Quiet, answer: false }
+                notes::go(th, 50)
             }
         }
     }
@@ -160,21 +154,24 @@ pub fn read_right(cells: &[u8; 4096], sets: &[u64; 256], m: Node, th: Thread) ->
 
 // 50: the grandparent's mark goes from this main to none.
 pub fn free(cells: &[u8; 4096], sets: &[u64; 256], grandparent: Link, th: Thread) -> Decision
-    ensures { λ r. ⌜ turnOf r ≡ freeing grandparent (table (now (cells .entry)) (now (sets .entry))) th ⌝ }
+    ensures { λ r. ⌜ turnOf th r ≡ freeing grandparent (table (now (cells .entry)) (now (sets .entry))) th ⌝ }
 {
-    let next = notes::go(th, 51);
     match grandparent {
-        Link::Nil => Decision { what: 0, thread: next, effect: Effect::Quiet, answer: false },
+        Link::Nil => notes::go(th, 51),
         Link::To(g) => {
             let n = nodes::node_at(cells, sets, g);
             let mark = n.mark;
             if leads_to(mark, th.main) {
-                Decision { what: 0, thread: next, effect: Effect::Mark {
+                notes::go_writing(
+                    th,
+                    51,
+                    Effect::Mark {
                         route: g,
                         mark: Link::Nil,
-                    }, answer: false }
+                    },
+                )
             } else {
-                Decision { what: 0, thread: next, effect: Effect::Quiet, answer: false }
+                notes::go(th, 51)
             }
         }
     }
@@ -183,7 +180,7 @@ pub fn free(cells: &[u8; 4096], sets: &[u64; 256], grandparent: Link, th: Thread
 // 45 to 51.
 pub fn finish(cells: &[u8; 4096], sets: &[u64; 256], root: u8, used: u16, th: Thread) -> Decision
     requires { ⌜ 45 ≤ th .place ⌝ }
-    ensures { λ r. ⌜ turnOf r ≡ step (placeOf (th .place)) (store (table (now (cells .entry)) (now (sets .entry))) root used) th ⌝ }
+    ensures { λ r. ⌜ turnOf th r ≡ step (placeOf (th .place)) (store (table (now (cells .entry)) (now (sets .entry))) root used) th ⌝ }
 {
     let m = nodes::node_at(cells, sets, th.main);
     let place = th.place;
@@ -191,8 +188,7 @@ pub fn finish(cells: &[u8; 4096], sets: &[u64; 256], root: u8, used: u16, th: Th
         45 => {
             let parent = m.parent;
             let effect = invalidate(parent);
-            let next = notes::go(th, 46);
-            Decision { what: 0, thread: next, effect: effect, answer: false }
+            notes::go_writing(th, 46, effect)
         }
         46 => cut(cells, sets, root, m, th),
         47 => cut_side(cells, sets, true, m, th),
@@ -209,6 +205,6 @@ pub fn finish(cells: &[u8; 4096], sets: &[u64; 256], root: u8, used: u16, th: Th
             },
             th,
         ),
-        _ => Decision { what: 0, thread: th, effect: Effect::Quiet, answer: false },
+        _ => notes::stay(th),
     }
 }

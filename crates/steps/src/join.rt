@@ -1,87 +1,85 @@
 // 20 to 38: a join, until its stage is a node number or it stands down.
 ghost use mathlib.Core.Path.{_≡_};
-ghost use Prim.Native.Nat.{ℕ, _+_, _<_, _≤_};
+ghost use Prim.Native.Nat.{_<_, _≤_};
 ghost use Rattle.nodes.specs.Cells.{table};
 ghost use Rattle.definitions.specs.Bench.{store};
 ghost use Rattle.definitions.specs.Places.{placeOf};
-ghost use Rattle.definitions.specs.Steps.{beside, hooked, isNil, marking, topped, climbed, backOut, unionParent, closed, unmark, grandMarking, step};
+ghost use Rattle.definitions.specs.Steps.{beside, hooked, isNil, marking, topped, climbed, unionParent, closed, unmark, grandMarking, step};
 ghost use Rattle.steps.specs.Decision.{turnOf};
+use super::Decision;
 use super::notes;
 use definitions::Effect;
 use definitions::Kind;
 use definitions::Link;
-use definitions::Node;
 use definitions::Spot;
 use definitions::Stage;
 use definitions::Thread;
-use super::Decision;
 
 // 22, 23: node x is read on the way to the base beside.
 pub fn step_beside(cells: &[u8; 4096], sets: &[u64; 256], th: Thread, x: u8) -> Decision
-    ensures { λ r. ⌜ turnOf r ≡ beside (table (now (cells .entry)) (now (sets .entry))) th x ⌝ }
+    ensures { λ r. ⌜ turnOf th r ≡ beside (table (now (cells .entry)) (now (sets .entry))) th x ⌝ }
 {
     let n = nodes::node_at(cells, sets, x);
     let kind = n.kind;
     if nodes::is_route(kind) {
-        let next = notes::go_route(th, 23, x);
-        Decision { what: 0, thread: next, effect: Effect::Quiet, answer: false }
+        notes::go_route(th, 23, x)
     } else {
-        let next = notes::go_found(th, 24, x);
-        Decision { what: 0, thread: next, effect: Effect::Quiet, answer: false }
+        notes::go_found(th, 24, x)
     }
 }
 
 // 25: the base under the parent becomes a main.
 pub fn hook(cells: &[u8; 4096], sets: &[u64; 256], used: u16, th: Thread) -> Decision
-    ensures { λ r. ⌜ turnOf r ≡ hooked (table (now (cells .entry)) (now (sets .entry))) used th ⌝ }
+    ensures { λ r. ⌜ turnOf th r ≡ hooked (table (now (cells .entry)) (now (sets .entry))) used th ⌝ }
 {
     let p = nodes::node_at(cells, sets, th.parent);
     let x = nodes::kid_of(th.left, p);
     if x == th.base {
         if 255 < used {
-            return Decision { what: 2, thread: th, effect: Effect::Quiet, answer: false };
+            return notes::full(th);
         }
         let at = used as u8;
         let b = nodes::node_at(cells, sets, th.base);
         let parent = b.parent;
-        let next = notes::go_main(th, 26, at, true);
         let spot = Spot::Under(th.parent, th.left);
-        return Decision { what: 0, thread: next, effect: Effect::Base {
+        return notes::take_main(
+            th,
+            26,
+            at,
+            Effect::Base {
                 spot: spot,
                 at: at,
                 kind: Kind::Main,
                 parent: parent,
                 container: b.container,
                 main: 0,
-            }, answer: false };
+            },
+        );
     }
-    Decision { what: 1, thread: th, effect: Effect::Quiet, answer: false }
+    notes::say(th, false)
 }
 
 // 20 to 25.
 pub fn approach(cells: &[u8; 4096], sets: &[u64; 256], root: u8, used: u16, th: Thread) -> Decision
     requires { ⌜ (20 ≤ th .place) × (th .place < 26) ⌝ }
-    ensures { λ r. ⌜ turnOf r ≡ step (placeOf (th .place)) (store (table (now (cells .entry)) (now (sets .entry))) root used) th ⌝ }
+    ensures { λ r. ⌜ turnOf th r ≡ step (placeOf (th .place)) (store (table (now (cells .entry)) (now (sets .entry))) root used) th ⌝ }
 {
     let place = th.place;
     match place {
         20 => {
             let p = nodes::node_at(cells, sets, th.parent);
             if p.left == th.base {
-                let next = notes::go_side(th, 22, true);
-                Decision { what: 0, thread: next, effect: Effect::Quiet, answer: false }
+                notes::go_left(th, 22)
             } else {
-                let next = notes::go(th, 21);
-                Decision { what: 0, thread: next, effect: Effect::Quiet, answer: false }
+                notes::go(th, 21)
             }
         }
         21 => {
             let p = nodes::node_at(cells, sets, th.parent);
             if p.right == th.base {
-                let next = notes::go_side(th, 22, false);
-                Decision { what: 0, thread: next, effect: Effect::Quiet, answer: false }
+                notes::go_right(th, 22)
             } else {
-                Decision { what: 1, thread: th, effect: Effect::Quiet, answer: false }
+                notes::say(th, false)
             }
         }
         22 => {
@@ -96,10 +94,9 @@ pub fn approach(cells: &[u8; 4096], sets: &[u64; 256], root: u8, used: u16, th: 
         }
         24 => {
             if nodes::is_replaceable(cells, sets, th.found) {
-                let next = notes::go(th, 25);
-                Decision { what: 0, thread: next, effect: Effect::Quiet, answer: false }
+                notes::go(th, 25)
             } else {
-                Decision { what: 1, thread: th, effect: Effect::Quiet, answer: false }
+                notes::say(th, false)
             }
         }
         _ => hook(cells, sets, used, th),
@@ -125,70 +122,63 @@ pub fn mark(
     failed: u8,
     th: Thread,
 ) -> Decision
-    ensures { λ r. ⌜ turnOf r ≡ marking (table (now (cells .entry)) (now (sets .entry))) g succeeded failed th ⌝ }
+    ensures { λ r. ⌜ turnOf th r ≡ marking (table (now (cells .entry)) (now (sets .entry))) g succeeded failed th ⌝ }
 {
     let n = nodes::node_at(cells, sets, g);
     let held = n.mark;
     if is_nil(held) {
-        let next = notes::go(th, succeeded);
-        Decision { what: 0, thread: next, effect: Effect::Mark {
+        notes::go_writing(
+            th,
+            succeeded,
+            Effect::Mark {
                 route: g,
                 mark: Link::To(th.main),
-            }, answer: false }
+            },
+        )
     } else {
-        let next = notes::go(th, failed);
-        Decision { what: 0, thread: next, effect: Effect::Quiet, answer: false }
+        notes::go(th, failed)
     }
 }
 
 // 31: the root is read.
 pub fn from_top(cells: &[u8; 4096], sets: &[u64; 256], root: u8, th: Thread) -> Decision
-    ensures { λ r. ⌜ turnOf r ≡ topped (table (now (cells .entry)) (now (sets .entry))) root th ⌝ }
+    ensures { λ r. ⌜ turnOf th r ≡ topped (table (now (cells .entry)) (now (sets .entry))) root th ⌝ }
 {
     if root == th.parent {
-        let next = notes::go_grandparent(th, 34, Link::Nil);
-        return Decision { what: 0, thread: next, effect: Effect::Quiet, answer: false };
+        return notes::go_topmost(th, 34);
     }
     let n = nodes::node_at(cells, sets, root);
     let kind = n.kind;
     if nodes::is_route(kind) {
-        let next = notes::go_route(th, 32, root);
-        Decision { what: 0, thread: next, effect: Effect::Quiet, answer: false }
+        notes::go_route(th, 32, root)
     } else {
-        let next = notes::go(th, 37);
-        Decision { what: 0, thread: next, effect: Effect::Quiet, answer: false }
+        notes::go(th, 37)
     }
 }
 
 // 32: node x is read on the way to the parent.
 pub fn climb(cells: &[u8; 4096], sets: &[u64; 256], x: u8, th: Thread) -> Decision
-    ensures { λ r. ⌜ turnOf r ≡ climbed (table (now (cells .entry)) (now (sets .entry))) x th ⌝ }
+    ensures { λ r. ⌜ turnOf th r ≡ climbed (table (now (cells .entry)) (now (sets .entry))) x th ⌝ }
 {
     if x == th.parent {
-        let next = notes::go_grandparent(th, 33, Link::To(th.route));
-        return Decision { what: 0, thread: next, effect: Effect::Quiet, answer: false };
+        return notes::go_grandparent(th, 33, th.route);
     }
     let n = nodes::node_at(cells, sets, x);
     let kind = n.kind;
     if nodes::is_route(kind) {
-        let next = notes::go_route(th, 32, x);
-        Decision { what: 0, thread: next, effect: Effect::Quiet, answer: false }
+        notes::go_route(th, 32, x)
     } else {
-        let next = notes::go(th, 37);
-        Decision { what: 0, thread: next, effect: Effect::Quiet, answer: false }
+        notes::go(th, 37)
     }
 }
 
 // 33: the grandparent's mark.
 pub fn mark_grandparent(cells: &[u8; 4096], sets: &[u64; 256], th: Thread) -> Decision
-    ensures { λ r. ⌜ turnOf r ≡ grandMarking (th .grandparent) (table (now (cells .entry)) (now (sets .entry))) th ⌝ }
+    ensures { λ r. ⌜ turnOf th r ≡ grandMarking (th .grandparent) (table (now (cells .entry)) (now (sets .entry))) th ⌝ }
 {
     let link = th.grandparent;
     match link {
-        Link::Nil => {
-            let next = notes::go(th, 37);
-            Decision { what: 0, thread: next, effect: Effect::Quiet, answer: false }
-        }
+        Link::Nil => { notes::go(th, 37) }
         Link::To(g) => mark(cells, sets, g, 34, 37, th),
     }
 }
@@ -207,20 +197,22 @@ pub fn union_parent(cells: &[u8; 4096], sets: &[u64; 256], th: Thread) -> Link
 
 // 35: the stage goes from preparing to a new neighbour.
 pub fn close(cells: &[u8; 4096], sets: &[u64; 256], used: u16, th: Thread) -> Decision
-    ensures { λ r. ⌜ turnOf r ≡ closed (table (now (cells .entry)) (now (sets .entry))) used th ⌝ }
+    ensures { λ r. ⌜ turnOf th r ≡ closed (table (now (cells .entry)) (now (sets .entry))) used th ⌝ }
 {
     let m = nodes::node_at(cells, sets, th.main);
     let stage = m.stage;
     let grandparent = th.grandparent;
     if nodes::is_preparing(stage) {
         if 255 < used {
-            return Decision { what: 2, thread: th, effect: Effect::Quiet, answer: false };
+            return notes::full(th);
         }
         let n = nodes::node_at(cells, sets, th.neighbour);
         let parent = union_parent(cells, sets, th);
         let c = container::united(m.container, n.container);
-        let next = notes::go(th, 40);
-        return Decision { what: 0, thread: next, effect: Effect::Commit {
+        return notes::go_writing(
+            th,
+            40,
+            Effect::Commit {
                 main: th.main,
                 at: used as u8,
                 parent: parent,
@@ -228,14 +220,13 @@ pub fn close(cells: &[u8; 4096], sets: &[u64; 256], used: u16, th: Thread) -> De
                 neighbour: th.neighbour,
                 grandparent: grandparent,
                 other: th.other,
-            }, answer: false };
+            },
+        );
     }
     if is_nil(grandparent) {
-        let next = notes::go(th, 37);
-        Decision { what: 0, thread: next, effect: Effect::Quiet, answer: false }
+        notes::go(th, 37)
     } else {
-        let next = notes::go(th, 36);
-        Decision { what: 0, thread: next, effect: Effect::Quiet, answer: false }
+        notes::go(th, 36)
     }
 }
 
@@ -255,7 +246,7 @@ pub fn unmarked(l: Link) -> Effect
 // 30 to 38.
 pub fn prepare(cells: &[u8; 4096], sets: &[u64; 256], root: u8, used: u16, th: Thread) -> Decision
     requires { ⌜ (30 ≤ th .place) × (th .place < 40) ⌝ }
-    ensures { λ r. ⌜ turnOf r ≡ step (placeOf (th .place)) (store (table (now (cells .entry)) (now (sets .entry))) root used) th ⌝ }
+    ensures { λ r. ⌜ turnOf th r ≡ step (placeOf (th .place)) (store (table (now (cells .entry)) (now (sets .entry))) root used) th ⌝ }
 {
     let place = th.place;
     match place {
@@ -271,27 +262,32 @@ pub fn prepare(cells: &[u8; 4096], sets: &[u64; 256], root: u8, used: u16, th: T
         34 => {
             let p = nodes::node_at(cells, sets, th.parent);
             let x = nodes::kid_of(!th.left, p);
-            let next = notes::go_other(th, 35, x);
-            Decision { what: 0, thread: next, effect: Effect::Quiet, answer: false }
+            notes::go_other(th, 35, x)
         }
         35 => close(cells, sets, used, th),
         36 => {
             let link = th.grandparent;
             let effect = unmarked(link);
-            let next = notes::go(th, 37);
-            Decision { what: 0, thread: next, effect: effect, answer: false }
+            notes::go_writing(th, 37, effect)
         }
         37 => {
-            let next = notes::go(th, 38);
-            Decision { what: 0, thread: next, effect: Effect::Mark {
+            notes::go_writing(
+                th,
+                38,
+                Effect::Mark {
                     route: th.parent,
                     mark: Link::Nil,
-                }, answer: false }
+                },
+            )
         }
-        38 => Decision { what: 1, thread: th, effect: Effect::Settle {
+        38 => notes::say_writing(
+            th,
+            Effect::Settle {
                 main: th.main,
                 stage: Stage::Aborted,
-            }, answer: false },
-        _ => Decision { what: 0, thread: th, effect: Effect::Quiet, answer: false },
+            },
+            false,
+        ),
+        _ => notes::stay(th),
     }
 }

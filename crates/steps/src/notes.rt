@@ -1,225 +1,287 @@
-// A thread that goes on to a place, with one note more. Each is written field by field: a copy of the whole record, changed afterwards,
-// costs more.
+// What a step of a thread decides: the place it goes to and the note it makes there, or the end of its operation. The thread itself
+// is not handed back: its record is changed where it lies.
 ghost use mathlib.Core.Path.{_≡_};
+ghost use mathlib.Core.Bool.{true, false};
+ghost use Rattle.definitions.specs.declared.Link.the-variants.{Nil, To};
+ghost use Rattle.definitions.specs.declared.Turn.the-variants.{Moves, Finishes, Full};
 ghost use Rattle.definitions.specs.Places.{to, toRoute, toBase, toParent, toSide, toFound, toNeighbour, toMain, toGrandparent, toOther};
-use definitions::Link;
+ghost use Rattle.definitions.specs.Steps.{goes, says};
+ghost use Rattle.steps.specs.Decision.{turnOf};
+use super::Decision;
+use super::Note;
+use definitions::Effect;
 use definitions::Thread;
 
-pub fn go(th: Thread, place: u8) -> Thread
-    ensures { λ r. ⌜ r ≡ to place th ⌝ }
+// ---- nothing is written
+
+// The thread stays as it is.
+pub fn stay(th: Thread) -> Decision
+    ensures { λ r. ⌜ turnOf th r ≡ goes th ⌝ }
 {
-    let action = th.action;
-    let grandparent = th.grandparent;
-    Thread {
-        action: action,
-        station: th.station,
-        place: place,
-        route: th.route,
-        base: th.base,
-        parent: th.parent,
-        left: th.left,
-        found: th.found,
-        neighbour: th.neighbour,
-        main: th.main,
-        owner: th.owner,
-        grandparent: grandparent,
-        other: th.other,
+    Decision {
+        what: 0,
+        place: th.place,
+        effect: Effect::Quiet,
+        note: Note::Nothing,
+        value: 0,
+        writes: false,
+        answer: false,
     }
 }
 
-pub fn go_route(th: Thread, place: u8, x: u8) -> Thread
-    ensures { λ r. ⌜ r ≡ toRoute place x th ⌝ }
+// To a place.
+pub fn go(th: Thread, place: u8) -> Decision
+    ensures { λ r. ⌜ turnOf th r ≡ goes (to place th) ⌝ }
 {
-    let action = th.action;
-    let grandparent = th.grandparent;
-    Thread {
-        action: action,
-        station: th.station,
+    Decision {
+        what: 0,
         place: place,
-        route: x,
-        base: th.base,
-        parent: th.parent,
-        left: th.left,
-        found: th.found,
-        neighbour: th.neighbour,
-        main: th.main,
-        owner: th.owner,
-        grandparent: grandparent,
-        other: th.other,
+        effect: Effect::Quiet,
+        note: Note::Nothing,
+        value: 0,
+        writes: false,
+        answer: false,
     }
 }
 
-pub fn go_base(th: Thread, place: u8, x: u8) -> Thread
-    ensures { λ r. ⌜ r ≡ toBase place x th ⌝ }
+// With the route reached.
+pub fn go_route(th: Thread, place: u8, x: u8) -> Decision
+    ensures { λ r. ⌜ turnOf th r ≡ goes (toRoute place x th) ⌝ }
 {
-    let action = th.action;
-    let grandparent = th.grandparent;
-    Thread {
-        action: action,
-        station: th.station,
+    Decision {
+        what: 0,
         place: place,
-        route: th.route,
-        base: x,
-        parent: th.parent,
-        left: th.left,
-        found: th.found,
-        neighbour: th.neighbour,
-        main: th.main,
-        owner: th.owner,
-        grandparent: grandparent,
-        other: th.other,
+        effect: Effect::Quiet,
+        note: Note::Route,
+        value: x,
+        writes: false,
+        answer: false,
     }
 }
 
-pub fn go_parent(th: Thread, place: u8, x: u8) -> Thread
-    ensures { λ r. ⌜ r ≡ toParent place x th ⌝ }
+// With the base reached.
+pub fn go_base(th: Thread, place: u8, x: u8) -> Decision
+    ensures { λ r. ⌜ turnOf th r ≡ goes (toBase place x th) ⌝ }
 {
-    let action = th.action;
-    let grandparent = th.grandparent;
-    Thread {
-        action: action,
-        station: th.station,
+    Decision {
+        what: 0,
         place: place,
-        route: th.route,
-        base: th.base,
-        parent: x,
-        left: th.left,
-        found: th.found,
-        neighbour: th.neighbour,
-        main: th.main,
-        owner: th.owner,
-        grandparent: grandparent,
-        other: th.other,
+        effect: Effect::Quiet,
+        note: Note::Base,
+        value: x,
+        writes: false,
+        answer: false,
     }
 }
 
-pub fn go_side(th: Thread, place: u8, left: bool) -> Thread
-    ensures { λ r. ⌜ r ≡ toSide place left th ⌝ }
+// With the base's parent.
+pub fn go_parent(th: Thread, place: u8, x: u8) -> Decision
+    ensures { λ r. ⌜ turnOf th r ≡ goes (toParent place x th) ⌝ }
 {
-    let action = th.action;
-    let grandparent = th.grandparent;
-    Thread {
-        action: action,
-        station: th.station,
+    Decision {
+        what: 0,
         place: place,
-        route: th.route,
-        base: th.base,
-        parent: th.parent,
-        left: left,
-        found: th.found,
-        neighbour: th.neighbour,
-        main: th.main,
-        owner: th.owner,
-        grandparent: grandparent,
-        other: th.other,
+        effect: Effect::Quiet,
+        note: Note::Parent,
+        value: x,
+        writes: false,
+        answer: false,
     }
 }
 
-pub fn go_found(th: Thread, place: u8, x: u8) -> Thread
-    ensures { λ r. ⌜ r ≡ toFound place x th ⌝ }
+// The base is a left child.
+pub fn go_left(th: Thread, place: u8) -> Decision
+    ensures { λ r. ⌜ turnOf th r ≡ goes (toSide place true th) ⌝ }
 {
-    let action = th.action;
-    let grandparent = th.grandparent;
-    Thread {
-        action: action,
-        station: th.station,
+    Decision {
+        what: 0,
         place: place,
-        route: th.route,
-        base: th.base,
-        parent: th.parent,
-        left: th.left,
-        found: x,
-        neighbour: th.neighbour,
-        main: th.main,
-        owner: th.owner,
-        grandparent: grandparent,
-        other: th.other,
+        effect: Effect::Quiet,
+        note: Note::Left,
+        value: 0,
+        writes: false,
+        answer: false,
     }
 }
 
-pub fn go_neighbour(th: Thread, place: u8, x: u8) -> Thread
-    ensures { λ r. ⌜ r ≡ toNeighbour place x th ⌝ }
+// The base is a right child.
+pub fn go_right(th: Thread, place: u8) -> Decision
+    ensures { λ r. ⌜ turnOf th r ≡ goes (toSide place false th) ⌝ }
 {
-    let action = th.action;
-    let grandparent = th.grandparent;
-    Thread {
-        action: action,
-        station: th.station,
+    Decision {
+        what: 0,
         place: place,
-        route: th.route,
-        base: th.base,
-        parent: th.parent,
-        left: th.left,
-        found: th.found,
-        neighbour: x,
-        main: th.main,
-        owner: th.owner,
-        grandparent: grandparent,
-        other: th.other,
+        effect: Effect::Quiet,
+        note: Note::Right,
+        value: 0,
+        writes: false,
+        answer: false,
     }
 }
 
-pub fn go_main(th: Thread, place: u8, m: u8, owner: bool) -> Thread
-    ensures { λ r. ⌜ r ≡ toMain place m owner th ⌝ }
+// With the base found.
+pub fn go_found(th: Thread, place: u8, x: u8) -> Decision
+    ensures { λ r. ⌜ turnOf th r ≡ goes (toFound place x th) ⌝ }
 {
-    let action = th.action;
-    let grandparent = th.grandparent;
-    Thread {
-        action: action,
-        station: th.station,
+    Decision {
+        what: 0,
         place: place,
-        route: th.route,
-        base: th.base,
-        parent: th.parent,
-        left: th.left,
-        found: th.found,
-        neighbour: th.neighbour,
-        main: m,
-        owner: owner,
-        grandparent: grandparent,
-        other: th.other,
+        effect: Effect::Quiet,
+        note: Note::Found,
+        value: x,
+        writes: false,
+        answer: false,
     }
 }
 
-pub fn go_grandparent(th: Thread, place: u8, g: Link) -> Thread
-    ensures { λ r. ⌜ r ≡ toGrandparent place g th ⌝ }
+// With another thread's main.
+pub fn go_helping(th: Thread, place: u8, x: u8) -> Decision
+    ensures { λ r. ⌜ turnOf th r ≡ goes (toMain place x false th) ⌝ }
 {
-    let action = th.action;
-    Thread {
-        action: action,
-        station: th.station,
+    Decision {
+        what: 0,
         place: place,
-        route: th.route,
-        base: th.base,
-        parent: th.parent,
-        left: th.left,
-        found: th.found,
-        neighbour: th.neighbour,
-        main: th.main,
-        owner: th.owner,
-        grandparent: g,
-        other: th.other,
+        effect: Effect::Quiet,
+        note: Note::Helped,
+        value: x,
+        writes: false,
+        answer: false,
     }
 }
 
-pub fn go_other(th: Thread, place: u8, x: u8) -> Thread
-    ensures { λ r. ⌜ r ≡ toOther place x th ⌝ }
+// There is no grandparent.
+pub fn go_topmost(th: Thread, place: u8) -> Decision
+    ensures { λ r. ⌜ turnOf th r ≡ goes (toGrandparent place Nil th) ⌝ }
 {
-    let action = th.action;
-    let grandparent = th.grandparent;
-    Thread {
-        action: action,
-        station: th.station,
+    Decision {
+        what: 0,
         place: place,
-        route: th.route,
-        base: th.base,
-        parent: th.parent,
-        left: th.left,
-        found: th.found,
-        neighbour: th.neighbour,
-        main: th.main,
-        owner: th.owner,
-        grandparent: grandparent,
-        other: x,
+        effect: Effect::Quiet,
+        note: Note::Topmost,
+        value: 0,
+        writes: false,
+        answer: false,
+    }
+}
+
+// With the grandparent.
+pub fn go_grandparent(th: Thread, place: u8, x: u8) -> Decision
+    ensures { λ r. ⌜ turnOf th r ≡ goes (toGrandparent place (To x) th) ⌝ }
+{
+    Decision {
+        what: 0,
+        place: place,
+        effect: Effect::Quiet,
+        note: Note::Grandparent,
+        value: x,
+        writes: false,
+        answer: false,
+    }
+}
+
+// With the parent's other child.
+pub fn go_other(th: Thread, place: u8, x: u8) -> Decision
+    ensures { λ r. ⌜ turnOf th r ≡ goes (toOther place x th) ⌝ }
+{
+    Decision {
+        what: 0,
+        place: place,
+        effect: Effect::Quiet,
+        note: Note::Other,
+        value: x,
+        writes: false,
+        answer: false,
+    }
+}
+
+// The operation finishes.
+pub fn say(th: Thread, answer: bool) -> Decision
+    ensures { λ r. ⌜ turnOf th r ≡ says answer ⌝ }
+{
+    Decision {
+        what: 1,
+        place: 0,
+        effect: Effect::Quiet,
+        note: Note::Nothing,
+        value: 0,
+        writes: false,
+        answer: answer,
+    }
+}
+
+// Numbers have run out.
+pub fn full(th: Thread) -> Decision
+    ensures { λ r. ⌜ turnOf th r ≡ Full ⌝ }
+{
+    Decision {
+        what: 2,
+        place: 0,
+        effect: Effect::Quiet,
+        note: Note::Nothing,
+        value: 0,
+        writes: false,
+        answer: false,
+    }
+}
+
+// ---- the effect is written
+
+// To a place.
+pub fn go_writing(th: Thread, place: u8, effect: Effect) -> Decision
+    ensures { λ r. ⌜ turnOf th r ≡ Moves (to place th) effect ⌝ }
+{
+    Decision {
+        what: 0,
+        place: place,
+        effect: effect,
+        note: Note::Nothing,
+        value: 0,
+        writes: true,
+        answer: false,
+    }
+}
+
+// With the thread's own main.
+pub fn take_main(th: Thread, place: u8, x: u8, effect: Effect) -> Decision
+    ensures { λ r. ⌜ turnOf th r ≡ Moves (toMain place x true th) effect ⌝ }
+{
+    Decision {
+        what: 0,
+        place: place,
+        effect: effect,
+        note: Note::Owned,
+        value: x,
+        writes: true,
+        answer: false,
+    }
+}
+
+// With the neighbour.
+pub fn take_neighbour(th: Thread, place: u8, x: u8, effect: Effect) -> Decision
+    ensures { λ r. ⌜ turnOf th r ≡ Moves (toNeighbour place x th) effect ⌝ }
+{
+    Decision {
+        what: 0,
+        place: place,
+        effect: effect,
+        note: Note::Neighbour,
+        value: x,
+        writes: true,
+        answer: false,
+    }
+}
+
+// The operation finishes.
+pub fn say_writing(th: Thread, effect: Effect, answer: bool) -> Decision
+    ensures { λ r. ⌜ turnOf th r ≡ Finishes effect answer ⌝ }
+{
+    Decision {
+        what: 1,
+        place: 0,
+        effect: effect,
+        note: Note::Nothing,
+        value: 0,
+        writes: true,
+        answer: answer,
     }
 }

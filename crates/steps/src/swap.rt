@@ -1,11 +1,12 @@
 // The four-step swap and its three kinds: 10 to 13, 26 to 29, 41 to 44.
 ghost use mathlib.Core.Path.{_≡_};
-ghost use Prim.Native.Nat.{ℕ, _+_, _<_, _≤_};
+ghost use Prim.Native.Nat.{_+_, _<_};
 ghost use Rattle.nodes.specs.Cells.{table};
 ghost use Rattle.definitions.specs.Bench.{store};
 ghost use Rattle.definitions.specs.Places.{quarterOf, quarterNumber, swap, own, found, united};
 ghost use Rattle.definitions.specs.Steps.{probe, replaced, step};
 ghost use Rattle.steps.specs.Decision.{turnOf};
+use super::Decision;
 use super::notes;
 use super::search;
 use definitions::Action;
@@ -17,7 +18,6 @@ use definitions::Probe;
 use definitions::Quarter;
 use definitions::Spot;
 use definitions::Thread;
-use super::Decision;
 
 // The step by its number from 0.
 pub fn quarter(k: u8) -> Quarter
@@ -45,7 +45,14 @@ pub fn place_of(first: u8, q: Quarter) -> u8
 }
 
 // One of the four steps for the base x: where it hangs, the next step, or failure.
-pub fn look(cells: &[u8; 4096], sets: &[u64; 256], root: u8, parent: Link, x: u8, q: Quarter) -> Probe
+pub fn look(
+    cells: &[u8; 4096],
+    sets: &[u64; 256],
+    root: u8,
+    parent: Link,
+    x: u8,
+    q: Quarter,
+) -> Probe
     ensures { λ r. ⌜ r ≡ probe q parent (table (now (cells .entry)) (now (sets .entry))) root x ⌝ }
 {
     match parent {
@@ -99,60 +106,86 @@ pub fn look(cells: &[u8; 4096], sets: &[u64; 256], root: u8, parent: Link, x: u8
 
 // The comparison of an update's or a split's swap succeeded.
 pub fn replace(spot: Spot, b: Node, used: u16, th: Thread) -> Decision
-    ensures { λ r. ⌜ turnOf r ≡ replaced spot b used th ⌝ }
+    ensures { λ r. ⌜ turnOf th r ≡ replaced spot b used th ⌝ }
 {
     let action = th.action;
     let parent = b.parent;
     match action {
-        Action::Lookup => Decision { what: 2, thread: th, effect: Effect::Quiet, answer: false },
+        Action::Lookup => notes::full(th),
         Action::Insert => {
             if 255 < used {
-                return Decision { what: 2, thread: th, effect: Effect::Quiet, answer: false };
+                return notes::full(th);
             }
             let held = container::contains(b.container, th.station);
             let c = container::with(b.container, th.station);
-            Decision {
-                what: 1,
-                thread: th,
-                effect: Effect::Base { spot: spot, at: used as u8, kind: Kind::Normal, parent: parent, container: c, main: 0 },
-                answer: !held,
-            }
+            notes::say_writing(
+                th,
+                Effect::Base {
+                    spot: spot,
+                    at: used as u8,
+                    kind: Kind::Normal,
+                    parent: parent,
+                    container: c,
+                    main: 0,
+                },
+                !held,
+            )
         }
         Action::Remove => {
             if 255 < used {
-                return Decision { what: 2, thread: th, effect: Effect::Quiet, answer: false };
+                return notes::full(th);
             }
             let held = container::contains(b.container, th.station);
             let c = container::without(b.container, th.station);
-            Decision {
-                what: 1,
-                thread: th,
-                effect: Effect::Base { spot: spot, at: used as u8, kind: Kind::Normal, parent: parent, container: c, main: 0 },
-                answer: held,
-            }
+            notes::say_writing(
+                th,
+                Effect::Base {
+                    spot: spot,
+                    at: used as u8,
+                    kind: Kind::Normal,
+                    parent: parent,
+                    container: c,
+                    main: 0,
+                },
+                held,
+            )
         }
         Action::Split => {
             if 253 < used {
-                return Decision { what: 2, thread: th, effect: Effect::Quiet, answer: false };
+                return notes::full(th);
             }
             let at = used as u8;
             let high = container::upper_half(b.container);
             let low = container::lower_half(b.container);
             let key = container::lowest(high);
-            Decision {
-                what: 1,
-                thread: th,
-                effect: Effect::Fork { spot: spot, at: at, left: at + 1, right: at + 2, key: key, low: low, high: high },
-                answer: true,
-            }
+            notes::say_writing(
+                th,
+                Effect::Fork {
+                    spot: spot,
+                    at: at,
+                    left: at + 1,
+                    right: at + 2,
+                    key: key,
+                    low: low,
+                    high: high,
+                },
+                true,
+            )
         }
-        Action::Join => Decision { what: 2, thread: th, effect: Effect::Quiet, answer: false },
+        Action::Join => notes::full(th),
     }
 }
 
 // 10 to 13: the thread's own base.
-pub fn own(cells: &[u8; 4096], sets: &[u64; 256], root: u8, used: u16, th: Thread, q: Quarter) -> Decision
-    ensures { λ r. ⌜ turnOf r ≡ step (swap own q) (store (table (now (cells .entry)) (now (sets .entry))) root used) th ⌝ }
+pub fn own(
+    cells: &[u8; 4096],
+    sets: &[u64; 256],
+    root: u8,
+    used: u16,
+    th: Thread,
+    q: Quarter,
+) -> Decision
+    ensures { λ r. ⌜ turnOf th r ≡ step (swap own q) (store (table (now (cells .entry)) (now (sets .entry))) root used) th ⌝ }
 {
     let b = nodes::node_at(cells, sets, th.base);
     let parent = b.parent;
@@ -161,16 +194,22 @@ pub fn own(cells: &[u8; 4096], sets: &[u64; 256], root: u8, used: u16, th: Threa
         Probe::Hit(spot) => replace(spot, b, used, th),
         Probe::Next(r) => {
             let place = place_of(10, r);
-            let next = notes::go(th, place);
-            Decision { what: 0, thread: next, effect: Effect::Quiet, answer: false }
+            notes::go(th, place)
         }
         Probe::Miss => search::lose(th),
     }
 }
 
 // 26 to 29: the base found, for a new neighbour.
-pub fn found(cells: &[u8; 4096], sets: &[u64; 256], root: u8, used: u16, th: Thread, q: Quarter) -> Decision
-    ensures { λ r. ⌜ turnOf r ≡ step (swap found q) (store (table (now (cells .entry)) (now (sets .entry))) root used) th ⌝ }
+pub fn found(
+    cells: &[u8; 4096],
+    sets: &[u64; 256],
+    root: u8,
+    used: u16,
+    th: Thread,
+    q: Quarter,
+) -> Decision
+    ensures { λ r. ⌜ turnOf th r ≡ step (swap found q) (store (table (now (cells .entry)) (now (sets .entry))) root used) th ⌝ }
 {
     let b = nodes::node_at(cells, sets, th.found);
     let parent = b.parent;
@@ -178,32 +217,41 @@ pub fn found(cells: &[u8; 4096], sets: &[u64; 256], root: u8, used: u16, th: Thr
     match seen {
         Probe::Hit(spot) => {
             if 255 < used {
-                return Decision { what: 2, thread: th, effect: Effect::Quiet, answer: false };
+                return notes::full(th);
             }
             let at = used as u8;
-            let next = notes::go_neighbour(th, 30, at);
-            Decision {
-                what: 0,
-                thread: next,
-                effect: Effect::Base { spot: spot, at: at, kind: Kind::Neighbour, parent: parent, container: b.container, main: th.main },
-                answer: false,
-            }
+            notes::take_neighbour(
+                th,
+                30,
+                at,
+                Effect::Base {
+                    spot: spot,
+                    at: at,
+                    kind: Kind::Neighbour,
+                    parent: parent,
+                    container: b.container,
+                    main: th.main,
+                },
+            )
         }
         Probe::Next(r) => {
             let place = place_of(26, r);
-            let next = notes::go(th, place);
-            Decision { what: 0, thread: next, effect: Effect::Quiet, answer: false }
+            notes::go(th, place)
         }
-        Probe::Miss => {
-            let next = notes::go(th, 38);
-            Decision { what: 0, thread: next, effect: Effect::Quiet, answer: false }
-        }
+        Probe::Miss => { notes::go(th, 38) }
     }
 }
 
 // 41 to 44: the neighbour, for the union node.
-pub fn united(cells: &[u8; 4096], sets: &[u64; 256], root: u8, used: u16, th: Thread, q: Quarter) -> Decision
-    ensures { λ r. ⌜ turnOf r ≡ step (swap united q) (store (table (now (cells .entry)) (now (sets .entry))) root used) th ⌝ }
+pub fn united(
+    cells: &[u8; 4096],
+    sets: &[u64; 256],
+    root: u8,
+    used: u16,
+    th: Thread,
+    q: Quarter,
+) -> Decision
+    ensures { λ r. ⌜ turnOf th r ≡ step (swap united q) (store (table (now (cells .entry)) (now (sets .entry))) root used) th ⌝ }
 {
     let m = nodes::node_at(cells, sets, th.main);
     let b = nodes::node_at(cells, sets, m.neighbour);
@@ -211,17 +259,19 @@ pub fn united(cells: &[u8; 4096], sets: &[u64; 256], root: u8, used: u16, th: Th
     let seen = look(cells, sets, root, parent, m.neighbour, q);
     match seen {
         Probe::Hit(spot) => {
-            let next = notes::go(th, 45);
-            Decision { what: 0, thread: next, effect: Effect::Swing { spot: spot, to: m.union }, answer: false }
+            notes::go_writing(
+                th,
+                45,
+                Effect::Swing {
+                    spot: spot,
+                    to: m.union,
+                },
+            )
         }
         Probe::Next(r) => {
             let place = place_of(41, r);
-            let next = notes::go(th, place);
-            Decision { what: 0, thread: next, effect: Effect::Quiet, answer: false }
+            notes::go(th, place)
         }
-        Probe::Miss => {
-            let next = notes::go(th, 45);
-            Decision { what: 0, thread: next, effect: Effect::Quiet, answer: false }
-        }
+        Probe::Miss => { notes::go(th, 45) }
     }
 }

@@ -37,12 +37,6 @@ enum-known-e-5 c = search needs
 put-base-requires : tie.Need-put-base-requires
 put-base-requires c κs = search needs
 
-cast-used : tie.Need-cast-used
-cast-used c = search needs
-
-add-used : tie.Need-add-used
-add-used c = search needs
-
 hang-at-requires-2 : tie.Need-hang-at-requires-2
 hang-at-requires-2 c κs = search needs
 
@@ -51,12 +45,6 @@ enum-known-e-6 c = search needs
 
 put-fork-requires : tie.Need-put-fork-requires
 put-fork-requires c κs = search needs
-
-cast-used-2 : tie.Need-cast-used-2
-cast-used-2 c = search needs
-
-add-used-2 : tie.Need-add-used-2
-add-used-2 c = search needs
 
 hang-at-requires-3 : tie.Need-hang-at-requires-3
 hang-at-requires-3 c κs = search needs
@@ -69,12 +57,6 @@ put-base-requires-2 c κs = search needs
 
 commit-requires : tie.Need-commit-requires
 commit-requires c κs = search needs
-
-cast-t67 : tie.Need-cast-t67
-cast-t67 c = search needs
-
-add-t68 : tie.Need-add-t68
-add-t68 c = search needs
 
 returns : tie.Need-returns
 returns c = search apply-cases
@@ -115,19 +97,13 @@ apply-spec =
     hang-at-requires
     enum-known-e-5
     put-base-requires
-    cast-used
-    add-used
     hang-at-requires-2
     enum-known-e-6
     put-fork-requires
-    cast-used-2
-    add-used-2
     hang-at-requires-3
     enum-known-e-7
     put-base-requires-2
     commit-requires
-    cast-t67
-    add-t68
     returns
     returns-2
     returns-3

@@ -28,15 +28,15 @@ carry-out-requires c κs =
 write-tree-requires : tie.Need-write-tree-requires
 write-tree-requires c κs = search needs
 
-cast-t21 : tie.Need-cast-t21
-cast-t21 c = search needs
+cast-t20 : tie.Need-cast-t20
+cast-t20 c = search needs
 
 same-length : tie.Need-same-length
 same-length c = search needs
 
 returns : tie.Need-returns
 returns c =
-    let g = c .before .before .before .before .before .before .before .before .before in
+    let g = c .before .before .before .before .before .before .before .before in
     let n = g .before .before .before .before in
     let t = n .before in
     let e = t .before .refusal-of .ensures .0 in
@@ -61,7 +61,7 @@ list-spec =
     slice-aggregate-carry-out
     carry-out-requires
     write-tree-requires
-    cast-t21
+    cast-t20
     same-length
     returns
     returns-2)

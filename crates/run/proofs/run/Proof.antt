@@ -25,18 +25,18 @@ set-below-requires c κs = search needs
 stored-below-requires : tie.Need-stored-below-requires
 stored-below-requires c κs = search needs
 
-cast-t21 : tie.Need-cast-t21
-cast-t21 c = search needs
+cast-t20 : tie.Need-cast-t20
+cast-t20 c = search needs
 
-cast-t24 : tie.Need-cast-t24
-cast-t24 c = search needs
+cast-t23 : tie.Need-cast-t23
+cast-t23 c = search needs
 
 same-length : tie.Need-same-length
 same-length c = search needs
 
 returns : tie.Need-returns
 returns c =
-    let g = c .before .before .before .before .before .before .before .before .before .before .before in
+    let g = c .before .before .before .before .before .before .before .before .before .before in
     let n = g .before .before .before .before in
     let t = n .before in
     let e = t .before .refusal-of .ensures .0 in
@@ -59,8 +59,8 @@ run-spec =
     carry-out-requires
     set-below-requires
     stored-below-requires
-    cast-t21
-    cast-t24
+    cast-t20
+    cast-t23
     same-length
     returns
     returns-2)

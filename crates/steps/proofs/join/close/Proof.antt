@@ -10,6 +10,9 @@ node-at-requires c κs = search needs
 is-preparing-requires : tie.Need-is-preparing-requires
 is-preparing-requires c κs = search needs
 
+full-requires : tie.Need-full-requires
+full-requires c κs = search needs
+
 returns : tie.Need-returns
 returns c = search close-cases
 
@@ -22,11 +25,11 @@ union-parent-requires c κs = search needs
 united-requires : tie.Need-united-requires
 united-requires c κs = search needs
 
-go-requires : tie.Need-go-requires
-go-requires c κs = search needs
+cast-t13 : tie.Need-cast-t13
+cast-t13 c = search needs
 
-cast-t17 : tie.Need-cast-t17
-cast-t17 c = search needs
+go-writing-requires : tie.Need-go-writing-requires
+go-writing-requires c κs = search needs
 
 returns-2 : tie.Need-returns-2
 returns-2 c = search close-cases
@@ -34,11 +37,11 @@ returns-2 c = search close-cases
 is-nil-requires : tie.Need-is-nil-requires
 is-nil-requires c κs = search needs
 
+go-requires : tie.Need-go-requires
+go-requires c κs = search needs
+
 go-requires-2 : tie.Need-go-requires-2
 go-requires-2 c κs = search needs
-
-go-requires-3 : tie.Need-go-requires-3
-go-requires-3 c κs = search needs
 
 returns-3 : tie.Need-returns-3
 returns-3 c = search close-cases
@@ -52,15 +55,16 @@ close-spec =
     (tie.spec
     node-at-requires
     is-preparing-requires
+    full-requires
     returns
     node-at-requires-2
     union-parent-requires
     united-requires
-    go-requires
-    cast-t17
+    cast-t13
+    go-writing-requires
     returns-2
     is-nil-requires
+    go-requires
     go-requires-2
-    go-requires-3
     returns-3
     returns-4)

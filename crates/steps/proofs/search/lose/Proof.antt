@@ -10,6 +10,9 @@ go-requires c κs = search needs
 enum-told : tie.Need-enum-told
 enum-told c = search needs
 
+say-requires : tie.Need-say-requires
+say-requires c κs = search needs
+
 enum-told-2 : tie.Need-enum-told-2
 enum-told-2 c = search needs
 
@@ -19,8 +22,14 @@ enum-told-3 c = search needs
 enum-told-4 : tie.Need-enum-told-4
 enum-told-4 c = search needs
 
+say-requires-2 : tie.Need-say-requires-2
+say-requires-2 c κs = search needs
+
 enum-told-5 : tie.Need-enum-told-5
 enum-told-5 c = search needs
+
+say-requires-3 : tie.Need-say-requires-3
+say-requires-3 c κs = search needs
 
 returns : tie.Need-returns
 returns c = search lost-cases
@@ -43,10 +52,13 @@ lose-spec =
     (tie.spec
     go-requires
     enum-told
+    say-requires
     enum-told-2
     enum-told-3
     enum-told-4
+    say-requires-2
     enum-told-5
+    say-requires-3
     returns
     returns-2
     returns-3

@@ -25,6 +25,9 @@ enum-told c = search needs
 contains-requires : tie.Need-contains-requires
 contains-requires c κs = search needs
 
+say-requires : tie.Need-say-requires
+say-requires c κs = search needs
+
 enum-told-2 : tie.Need-enum-told-2
 enum-told-2 c = search needs
 
@@ -63,6 +66,7 @@ reach-spec =
     go-base-requires
     enum-told
     contains-requires
+    say-requires
     enum-told-2
     enum-told-3
     enum-told-4

@@ -7,8 +7,14 @@ use Rattle.steps.proofs.swap.replace.Tie as tie
 enum-told : tie.Need-enum-told
 enum-told c = search needs
 
+full-requires : tie.Need-full-requires
+full-requires c κs = search needs
+
 enum-told-2 : tie.Need-enum-told-2
 enum-told-2 c = search needs
+
+full-requires-2 : tie.Need-full-requires-2
+full-requires-2 c κs = search needs
 
 returns : tie.Need-returns
 returns c = search replace-cases
@@ -19,11 +25,17 @@ contains-requires c κs = search needs
 with-requires : tie.Need-with-requires
 with-requires c κs = search needs
 
-cast-t19 : tie.Need-cast-t19
-cast-t19 c = search needs
+cast-t17 : tie.Need-cast-t17
+cast-t17 c = search needs
+
+say-writing-requires : tie.Need-say-writing-requires
+say-writing-requires c κs = search needs
 
 enum-told-3 : tie.Need-enum-told-3
 enum-told-3 c = search needs
+
+full-requires-3 : tie.Need-full-requires-3
+full-requires-3 c κs = search needs
 
 returns-2 : tie.Need-returns-2
 returns-2 c = search replace-cases
@@ -34,11 +46,17 @@ contains-requires-2 c κs = search needs
 without-requires : tie.Need-without-requires
 without-requires c κs = search needs
 
-cast-t24 : tie.Need-cast-t24
-cast-t24 c = search needs
+cast-t21 : tie.Need-cast-t21
+cast-t21 c = search needs
+
+say-writing-requires-2 : tie.Need-say-writing-requires-2
+say-writing-requires-2 c κs = search needs
 
 enum-told-4 : tie.Need-enum-told-4
 enum-told-4 c = search needs
+
+full-requires-4 : tie.Need-full-requires-4
+full-requires-4 c κs = search needs
 
 returns-3 : tie.Need-returns-3
 returns-3 c = search replace-cases
@@ -55,14 +73,20 @@ lower-half-requires c κs = search needs
 lowest-requires : tie.Need-lowest-requires
 lowest-requires c κs = search needs
 
-add-t29 : tie.Need-add-t29
-add-t29 c = search needs
+add-t25 : tie.Need-add-t25
+add-t25 c = search needs
 
-add-t30 : tie.Need-add-t30
-add-t30 c = search needs
+add-t26 : tie.Need-add-t26
+add-t26 c = search needs
+
+say-writing-requires-3 : tie.Need-say-writing-requires-3
+say-writing-requires-3 c κs = search needs
 
 enum-told-5 : tie.Need-enum-told-5
 enum-told-5 c = search needs
+
+full-requires-5 : tie.Need-full-requires-5
+full-requires-5 c κs = search needs
 
 returns-4 : tie.Need-returns-4
 returns-4 c = search replace-cases
@@ -84,25 +108,33 @@ replace-spec =
     tie.close
     (tie.spec
     enum-told
+    full-requires
     enum-told-2
+    full-requires-2
     returns
     contains-requires
     with-requires
-    cast-t19
+    cast-t17
+    say-writing-requires
     enum-told-3
+    full-requires-3
     returns-2
     contains-requires-2
     without-requires
-    cast-t24
+    cast-t21
+    say-writing-requires-2
     enum-told-4
+    full-requires-4
     returns-3
     cast-at
     upper-half-requires
     lower-half-requires
     lowest-requires
-    add-t29
-    add-t30
+    add-t25
+    add-t26
+    say-writing-requires-3
     enum-told-5
+    full-requires-5
     returns-4
     returns-5
     returns-6
