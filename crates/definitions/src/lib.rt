@@ -99,13 +99,47 @@ pub enum Probe {
 // What a step writes to shared memory. `at`, `left` and `right` are the numbers of new nodes.
 pub enum Effect {
     Quiet,
-    Mark { route: u8, mark: Link },
-    Settle { main: u8, stage: Stage },
-    Invalid { route: u8 },
-    Swing { spot: Spot, to: u8 },
-    Base { spot: Spot, at: u8, kind: Kind, parent: Link, container: u64, main: u8 },
-    Fork { spot: Spot, at: u8, left: u8, right: u8, key: u8, low: u64, high: u64 },
-    Commit { main: u8, at: u8, parent: Link, container: u64, neighbour: u8, grandparent: Link, other: u8 },
+    Mark {
+        route: u8,
+        mark: Link,
+    },
+    Settle {
+        main: u8,
+        stage: Stage,
+    },
+    Invalid {
+        route: u8,
+    },
+    Swing {
+        spot: Spot,
+        to: u8,
+    },
+    Base {
+        spot: Spot,
+        at: u8,
+        kind: Kind,
+        parent: Link,
+        container: u64,
+        main: u8,
+    },
+    Fork {
+        spot: Spot,
+        at: u8,
+        left: u8,
+        right: u8,
+        key: u8,
+        low: u64,
+        high: u64,
+    },
+    Commit {
+        main: u8,
+        at: u8,
+        parent: Link,
+        container: u64,
+        neighbour: u8,
+        grandparent: Link,
+        other: u8,
+    },
 }
 
 // What a step decides: the thread goes on, it finishes with an answer, or numbers have run out.

@@ -101,7 +101,14 @@ pub fn put_base(out: &mut [u8], at: usize, n: Node, levels: u8) -> usize
 }
 
 // The lines of node x and what is below it.
-pub fn subtree(cells: &[u8; 4096], sets: &[u64; 256], x: u8, levels: u8, out: &mut [u8], at: usize) -> usize
+pub fn subtree(
+    cells: &[u8; 4096],
+    sets: &[u64; 256],
+    x: u8,
+    levels: u8,
+    out: &mut [u8],
+    at: usize,
+) -> usize
     requires { ⌜ levels ≤ 63 ⌝ }
     ensures { λ r. ⌜ page (now (out .exit)) r ≡ putAll (page (now (out .entry)) at) (subtreeText levels (table (now (cells .entry)) (now (sets .entry))) x) ⌝ }
 {
@@ -117,7 +124,14 @@ pub fn subtree(cells: &[u8; 4096], sets: &[u64; 256], x: u8, levels: u8, out: &m
 }
 
 // The lines of route n and of both its subtrees.
-pub fn route_walk(cells: &[u8; 4096], sets: &[u64; 256], n: Node, levels: u8, out: &mut [u8], at: usize) -> usize
+pub fn route_walk(
+    cells: &[u8; 4096],
+    sets: &[u64; 256],
+    n: Node,
+    levels: u8,
+    out: &mut [u8],
+    at: usize,
+) -> usize
     requires { ⌜ (0 < levels) × (levels ≤ 63) ⌝ }
     ensures { λ r. ⌜ page (now (out .exit)) r ≡ putAll (page (now (out .entry)) at) (routeLine levels n ++ (subtreeText (levels - 1) (table (now (cells .entry)) (now (sets .entry))) (n .left) ++ subtreeText (levels - 1) (table (now (cells .entry)) (now (sets .entry))) (n .right))) ⌝ }
 {

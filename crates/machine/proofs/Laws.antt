@@ -95,11 +95,11 @@ pub used-kept : (used : ℕ) (e : Effect) {writes : Bool} → writes ≡ false �
 used-kept used e h = rw h
 
 pub ruleset used-cases = (used-writes, used-kept)
+
 pub ruleset enact-cases = (enact-writes, enact-quiet)
 
 -- ---- the bench does what the record asks
 module _ (b : Bench) (t y : ℕ) where
-
   steps-so : stepped b t y ≡ answered (askedBy 0 y (b .threads t .place)) b t 0 y
   unfolding stepped askedBy ite
   steps-so = by (eqb y 0) (eqb (b .threads t .place) 0)

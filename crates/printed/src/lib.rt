@@ -4,6 +4,7 @@ ghost use mathlib.Core.List.{[], _∷_, _++_};
 ghost use Prim.Native.Nat.{_*_, _%_, _≤_};
 ghost use lib.ListN.{length, take};
 ghost use Rattle.buffer.specs.Page.{page, putAll};
+ghost use Rattle.definitions.specs.Run.{overlay};
 ghost use Rattle.definitions.specs.Listing.{space, newline, decimal};
 ghost use Rattle.definitions.specs.Printed.{records-word, of-word, refusal-word, stored-word, used-word, actionWord, answerWord, firstLine, rowLines, lastLine, printed};
 use buffer::put_byte;
@@ -218,6 +219,7 @@ pub fn put_lines(
 // The printed run of a schedule; gives its length.
 pub fn print_run(schedule: &[u8], out: &mut [u8]) -> usize
     ensures { λ r. ⌜ page (now (out .exit)) r ≡ putAll (page (now (out .entry)) 0) (printed (now (schedule .entry))) ⌝ }
+    ensures { λ r. ⌜ (65536 ≤ length (now (out .entry)) → (r ≡ length (printed (now (schedule .entry)))) × (now (out .exit) ≡ overlay (printed (now (schedule .entry))) (now (out .entry)))) ⌝ }
 {
     let bad = schedule::file_refusal(schedule);
     if bad == 0 {

@@ -134,8 +134,13 @@ module _ (ns : Nodes) (root u : ℕ) (th : Thread) where
   before-20 a h f g q = q ∙ unlisted (λ p. ltb p 14 || (leb 20 p || (eqb p 15 || eqb p 16))) refl (store ns root u) th (rw (le-ltb _ _ a, lt-leb _ _ h, ne-eqb _ _ f, ne-eqb _ _ g))
 
 pub ruleset reach-cases = (reach-route, reach-lookup, reach-base)
+
 pub ruleset lost-cases = (lost-again, lost-over)
+
 pub ruleset clear-cases = (clear-swap, clear-lookup, clear-few, clear-split, clear-top, clear-join)
+
 pub ruleset find-cases = (at-1, at-2, at-3, at-3-lost, before-10)
+
 pub ruleset inspect-cases = (blocked-again, blocked-main, blocked-neighbour)
+
 pub ruleset blocked-cases = (at-16-kill, at-16-late, before-20)

@@ -187,7 +187,11 @@ module _ (ns : Nodes) (root u : ℕ) (th : Thread) (q : Quarter) {m b : Node} {w
   united-miss d i = i ∙ as-united d
 
 pub ruleset look-cases = (root-hit, root-miss, root-left, root-read, root-right, left-seen, left-unseen, left-hit, left-miss, right-seen, right-unseen, right-hit, right-miss)
+
 pub ruleset replace-cases = (replace-lookup, replace-join, insert-full, remove-full, split-full, inserted, removed, parted)
+
 pub ruleset own-cases = (own-hit, own-next, own-miss)
+
 pub ruleset found-cases = (found-full, found-hit, found-next, found-miss)
+
 pub ruleset united-cases = (united-hit, united-next, united-miss)

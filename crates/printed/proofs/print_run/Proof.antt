@@ -1,6 +1,8 @@
 -- `printed::print_run` meets its contract. Assumes nothing.
+use mathlib.Core.Path.{_∙_}
 use borrow.Author.Needs.{needs}
 use Rattle.printed.proofs.Ended.{lines-fit, lines-printed, line-printed}
+use Rattle.printed.proofs.Fits.{stands-whole}
 use Rattle.printed.proofs.print_run.Statement.{statement}
 use Rattle.printed.proofs.print_run.Tie as tie
 
@@ -46,7 +48,8 @@ returns c =
     let n = c .before .before .before .before .before .before .before .before .before .before .before .before .count-of .ensures in
     let r = c .before .before .before .before .before .before .before .before .before .before .run .ensures in
     let l = c .before .before .before .before .before .before .before .list .ensures in
-    lines-printed _ (f .0) _ _ z (f .1 z .few) (search needs) (search needs) (r .0) (r .1) (l .0) (l .1) _ n (c .before .before .put-lines .ensures)
+    let w = lines-printed _ (f .0) _ _ z (f .1 z .few) (search needs) (search needs) (r .0) (r .1) (l .0) (l .1) _ n (c .before .before .put-lines .ensures) in
+    (w, stands-whole _ _ (λ e. f .1 (f .0 ∙ e) .few) w)
 
 put-first-requires : tie.Need-put-first-requires
 put-first-requires c κs = search needs
@@ -55,7 +58,10 @@ same-length-2 : tie.Need-same-length-2
 same-length-2 c = search needs
 
 returns-2 : tie.Need-returns-2
-returns-2 c = search line-printed
+returns-2 c =
+    let f = c .before .before .before .before .before .file-refusal .ensures in
+    let w = line-printed _ (f .0) _ (c .before .before .before .before .if1 .left) (c .before .before .put-first .ensures) in
+    (w, stands-whole _ _ (λ e. f .1 (f .0 ∙ e) .few) w)
 
 pub print-run-spec : {M : Type 1} → statement M
 print-run-spec =

@@ -1,6 +1,6 @@
 -- `run::carry_out` meets its contract. Assumes nothing.
 use Prim.Native.Nat.{_≤_, _-_, _/_, _%_}
-use mathlib.Core.Path.{_≡_, refl, ap, _∙_}
+use mathlib.Core.Path.{_≡_, refl, sym, ap, _∙_}
 use mathlib.Core.Logic.{⊎-elim}
 use native.Mathlib.Omega.{arith}
 use lib.ListN.{length, length-set}
@@ -17,7 +17,7 @@ use Rattle.definitions.specs.Steps.{step}
 use Rattle.definitions.specs.Run.{after}
 use Rattle.run.specs.Standing.{Stands}
 use Rattle.run.proofs.Rows.{finished-few}
-use Rattle.run.proofs.Cases.{held, seen, stand, noted-on, noted-twice, said-on, full-on, start-on, refused-on, none-yet, no-end, all-done, stopped}
+use Rattle.run.proofs.Turn.{Asking, held, seen, stand, noted-on, noted-twice, said-on, full-on, start-on, refused-on, none-yet, no-end, all-done, stopped}
 use Rattle.run.proofs.Ended.{same-room}
 use borrow.Author.Needs.{needs}
 use Rattle.run.proofs.carry_out.Statement.{statement}
@@ -34,6 +34,24 @@ abbrev μ-loop : tie.MeasureT-loop
 -- what the code would read past the thread table's end
 abbrev past : Thread
 past = record { action = Lookup; station = 0; place = 0; route = 0; base = 0; parent = 0; left = false; found = 0; neighbour = 0; main = 0; owner = false; grandparent = Nil; other = 0 }
+
+-- a record has been read and asks something
+asking : (c : tie.After-ask Inv-loop μ-loop) →
+    let m = c .before .before in
+    let l = m .before .before .before .before in
+    let s = l .before .before .before .before in
+    Asking (s .args .schedule .now) (l .loop .k) (m .record .given .0 .0) (m .record .given .0 .1 .0) (table (l .loop .cells) (l .loop .sets)) (l .loop .threads) (l .loop .root) (l .loop .used) (l .loop .finished) (l .loop .at) (s .args .rows .now) (l .loop .rows) (c .ask .result) past
+asking c =
+    let m = c .before .before in
+    let r = m .before .before in
+    let l = r .before .before in
+    record {
+      four = l .loop .inv .1 .0;
+      inside = omega (arith, r .before .loop-test .taken, l .before .before .before .before .pre);
+      same = sym (m .record .given .1) ∙ r .read .ensures;
+      stands = l .loop .inv .1 .1;
+      asks = c .ask .ensures;
+    }
 
 -- the three parts of the places decide alike
 decided : (c : tie.Joined1 Inv-loop μ-loop) →
@@ -113,13 +131,8 @@ returns-2 : tie.Need-returns-2 Inv-loop μ-loop
 returns-2 c =
     let j = c .before in
     let a = j .before .before in
-    let m = a .before .before in
-    let r = m .before .before in
-    let i = r .before in
-    let l = i .before in
-    let v = l .loop .inv in
-    let s = l .before .before .before .before in
-    stopped _ _ _ (i .loop-test .taken) (λ z. omega arith) (full-on _ _ _ _ (l .loop .threads) (v .1 .0) (omega (arith, i .loop-test .taken, s .pre)) (r .read .ensures) (m .record .given .1) (v .1 .1) past (a .ask .ensures) (j .before .match2 .keys1) (j .if1 .d) (decided j) (c .if3 .taken))
+    let i = a .before .before .before .before .before in
+    stopped _ _ _ (i .loop-test .taken) (λ z. omega arith) (full-on (asking a) (j .before .match2 .keys1) (j .if1 .d) (decided j) (c .if3 .taken))
 
 enact-requires : tie.Need-enact-requires Inv-loop μ-loop
 enact-requires c κs = search needs
@@ -203,13 +216,8 @@ same-length-3 c = same-room _ (c .before .before .before .before .before .before
 returns-3 : tie.Need-returns-3 Inv-loop μ-loop
 returns-3 c =
     let a = c .before in
-    let m = a .before .before in
-    let r = m .before .before in
-    let i = r .before in
-    let l = i .before in
-    let v = l .loop .inv in
-    let s = l .before .before .before .before in
-    stopped _ _ _ (i .loop-test .taken) (c .match2 .rest .0 .1) (refused-on _ _ _ _ (l .loop .threads) (v .1 .0) (omega (arith, i .loop-test .taken, s .pre)) (r .read .ensures) (m .record .given .1) (v .1 .1) past (a .ask .ensures) (c .match2 .rest .0 .1) (c .match2 .rest .1))
+    let i = a .before .before .before .before .before in
+    stopped _ _ _ (i .loop-test .taken) (c .match2 .rest .0 .1) (refused-on (asking a) (c .match2 .rest .0 .1) (c .match2 .rest .1))
 
 loop-less : tie.Need-loop-less Inv-loop μ-loop
 loop-less c = search needs
@@ -219,13 +227,14 @@ loop-again c =
     let u = c .before .before .before .before in
     let j = u .before .before .before .before .before in
     let a = j .before .before in
-    let m = a .before .before in
-    let r = m .before .before in
-    let i = r .before in
-    let l = i .before in
-    let v = l .loop .inv in
-    let s = l .before .before .before .before in
-    (omega (arith, i .loop-test .taken), (length-set (l .loop .threads) _ _ ∙ v .1 .0, noted-on _ _ _ _ (l .loop .threads) (v .1 .0) (omega (arith, i .loop-test .taken, s .pre)) (r .read .ensures) (m .record .given .1) (v .1 .1) past (a .ask .ensures) (j .before .match2 .keys1) (j .if1 .d) (decided j) (u .before .enact .ensures) (u .used-then .ensures) (c .before .before .before .if4 .taken) (rw (c .before .enum-told2 .given .1))))
+    let i = a .before .before .before .before .before in (
+      omega (arith, i .loop-test .taken),
+      (
+        length-set (i .before .loop .threads) _ _ ∙ asking a .four,
+        noted-on (asking a) (j .before .match2 .keys1) (j .if1 .d) (decided j) (u .before .enact .ensures) (u .used-then .ensures)
+            (c .before .before .before .if4 .taken) (rw (c .before .enum-told2 .given .1)),
+      ),
+    )
 
 loop-less-2 : tie.Need-loop-less-2 Inv-loop μ-loop
 loop-less-2 c = search needs
@@ -235,16 +244,18 @@ loop-again-2 c =
     let u = c .before .before .before .before .before in
     let j = u .before .before .before .before .before in
     let a = j .before .before in
-    let m = a .before .before in
-    let r = m .before .before in
-    let i = r .before in
-    let l = i .before in
-    let v = l .loop .inv in
-    let s = l .before .before .before .before in
-    let x = m .record .given .0 .0 in
-    let first = to (j .if1 .d .place) (seen (l .loop .threads) x past) in
-    let kept = getD-set-same (l .loop .threads) (x / 16 % 4) first past (omega (arith, v .1 .0)) in
-    (omega (arith, i .loop-test .taken), (rw (length-set, length-set) (v .1 .0), noted-twice _ _ _ _ (l .loop .threads) (v .1 .0) (omega (arith, i .loop-test .taken, s .pre)) (r .read .ensures) (m .record .given .1) (v .1 .1) past (a .ask .ensures) (j .before .match2 .keys1) (j .if1 .d) (decided j) (u .before .enact .ensures) (u .used-then .ensures) first (c .before .before .before .before .if4 .taken) (rw (c .before .before .enum-told3 .given .1) (ap (λ (q : Thread). toRoute (q .place) (j .if1 .d .value) q) kept))))
+    let i = a .before .before .before .before .before in
+    let threads = i .before .loop .threads in
+    let x = a .before .before .record .given .0 .0 in
+    let first = to (j .if1 .d .place) (seen threads x past) in
+    let kept = getD-set-same threads (x / 16 % 4) first past (omega (arith, asking a .four)) in (
+      omega (arith, i .loop-test .taken),
+      (
+        rw (length-set, length-set) (asking a .four),
+        noted-twice (asking a) (j .before .match2 .keys1) (j .if1 .d) (decided j) (u .before .enact .ensures) (u .used-then .ensures)
+            first (c .before .before .before .before .if4 .taken) (rw (c .before .before .enum-told3 .given .1) (ap (λ (q : Thread). toRoute (q .place) (j .if1 .d .value) q) kept)),
+      ),
+    )
 
 loop-less-3 : tie.Need-loop-less-3 Inv-loop μ-loop
 loop-less-3 c = search needs
@@ -254,13 +265,14 @@ loop-again-3 c =
     let u = c .before .before .before .before in
     let j = u .before .before .before .before .before in
     let a = j .before .before in
-    let m = a .before .before in
-    let r = m .before .before in
-    let i = r .before in
-    let l = i .before in
-    let v = l .loop .inv in
-    let s = l .before .before .before .before in
-    (omega (arith, i .loop-test .taken), (length-set (l .loop .threads) _ _ ∙ v .1 .0, noted-on _ _ _ _ (l .loop .threads) (v .1 .0) (omega (arith, i .loop-test .taken, s .pre)) (r .read .ensures) (m .record .given .1) (v .1 .1) past (a .ask .ensures) (j .before .match2 .keys1) (j .if1 .d) (decided j) (u .before .enact .ensures) (u .used-then .ensures) (c .before .before .before .if4 .taken) (c .note .ensures)))
+    let i = a .before .before .before .before .before in (
+      omega (arith, i .loop-test .taken),
+      (
+        length-set (i .before .loop .threads) _ _ ∙ asking a .four,
+        noted-on (asking a) (j .before .match2 .keys1) (j .if1 .d) (decided j) (u .before .enact .ensures) (u .used-then .ensures)
+            (c .before .before .before .if4 .taken) (c .note .ensures),
+      ),
+    )
 
 loop-less-4 : tie.Need-loop-less-4 Inv-loop μ-loop
 loop-less-4 c = search needs
@@ -270,13 +282,14 @@ loop-again-4 c =
     let u = c .before .before .before .before .before .before in
     let j = u .before .before .before .before .before in
     let a = j .before .before in
-    let m = a .before .before in
-    let r = m .before .before in
-    let i = r .before in
-    let l = i .before in
-    let v = l .loop .inv in
-    let s = l .before .before .before .before in
-    (omega (arith, i .loop-test .taken), (length-set (l .loop .threads) _ _ ∙ v .1 .0, said-on _ _ _ _ (l .loop .threads) (v .1 .0) (omega (arith, i .loop-test .taken, s .pre)) (r .read .ensures) (m .record .given .1) (v .1 .1) past (a .ask .ensures) (j .before .match2 .keys1) (j .if1 .d) (decided j) (u .before .enact .ensures) (u .used-then .ensures) (omega (arith, c .before .before .before .before .before .if4 .left, u .before .before .before .before .if3 .left)) (l .before .idle-thread .ensures) (omega arith) (c .before .before .put-row .ensures)))
+    let i = a .before .before .before .before .before in (
+      omega (arith, i .loop-test .taken),
+      (
+        length-set (i .before .loop .threads) _ _ ∙ asking a .four,
+        said-on (asking a) (j .before .match2 .keys1) (j .if1 .d) (decided j) (u .before .enact .ensures) (u .used-then .ensures)
+            (omega (arith, c .before .before .before .before .before .if4 .left, u .before .before .before .before .if3 .left)) (i .before .before .idle-thread .ensures) (omega arith) (c .before .before .put-row .ensures),
+      ),
+    )
 
 loop-less-5 : tie.Need-loop-less-5 Inv-loop μ-loop
 loop-less-5 c = search needs
@@ -284,13 +297,13 @@ loop-less-5 c = search needs
 loop-again-5 : tie.Need-loop-again-5 Inv-loop μ-loop
 loop-again-5 c =
     let a = c .before .before in
-    let m = a .before .before in
-    let r = m .before .before in
-    let i = r .before in
-    let l = i .before in
-    let v = l .loop .inv in
-    let s = l .before .before .before .before in
-    (omega (arith, i .loop-test .taken), (length-set (l .loop .threads) _ _ ∙ v .1 .0, start-on _ _ _ _ (l .loop .threads) (v .1 .0) (omega (arith, i .loop-test .taken, s .pre)) (r .read .ensures) (m .record .given .1) (v .1 .1) past (a .ask .ensures) (c .before .match2 .keys2) (c .begin .ensures)))
+    let i = a .before .before .before .before .before in (
+      omega (arith, i .loop-test .taken),
+      (
+        length-set (i .before .loop .threads) _ _ ∙ asking a .four,
+        start-on (asking a) (c .before .match2 .keys2) (c .begin .ensures),
+      ),
+    )
 
 same-length-4 : tie.Need-same-length-4 Inv-loop μ-loop
 same-length-4 c = same-room _ (c .before .loop .inv .1 .1)
