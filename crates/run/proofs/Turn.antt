@@ -100,6 +100,7 @@ module _ {file : List ℕ} {k x y : ℕ} {n : Nodes} {threads : List Thread} {ro
       let right : secondByte file k ≡ y = cc in
       rw (add-one, left, right) (unrefused (after file k) x y (sym (q .stands .refusal)))
 
+  -- it is carried out, and leaves its thread th, the table n', the root and the numbers used; or it is refused
   carried-on : {n' : Nodes} {root' used' finished' at' : ℕ} {buffer' : List ℕ} (th : Thread) (w : Row) → recordStep (bench (store n root used) (held threads)) x y ≡ carried (bench (store n' root' used') (upd (held threads) (x / 16 % 4) th)) w
       → finished' ≡ rowCount w + finished → page buffer' at' ≡ putAll (page buffer at) (rowBytes (x / 16) (held threads (x / 16 % 4)) w)
       → Stands n' (held (set threads (x / 16 % 4) th)) (stand root' used' 0 (k + 1) finished' at') first buffer' (after file (k + 1))
@@ -122,16 +123,19 @@ module _ {file : List ℕ} {k x y : ℕ} {n : Nodes} {threads : List Thread} {ro
       let done : recordStep (after file k .bench) x y ≡ refused m = rw (q .stands .bench) at e in
       rw (one-on, done) (record { bench = q .stands .bench; refusal = refl; done = q .stands .done; finished = q .stands .finished; rows = q .stands .rows })
 
+  -- what it asks decides
   own : held threads (x / 16 % 4) ≡ seen threads x end
   own = within threads (x / 16 % 4) end (omega (arith, q .four))
 
   asked-on : recordStep (bench (store n root used) (held threads)) x y ≡ answered a (bench (store n root used) (held threads)) (x / 16 % 4) (x % 16) y
   asked-on = asked-so _ (x / 16 % 4) x y (λ small. omega arith) ∙ rw (own, ← q .asks)
 
+  -- a start
   pub start-on : {v : Thread} → a ≡ 1 → v ≡ begun (actionOf (x % 16)) y 1 → Stands n (held (set threads (x / 16 % 4) v)) (stand root used 0 (k + 1) finished at) first buffer (after file (k + 1))
   unfolding putAll
   start-on {v} z e = carried-on v noRow (rw z at asked-on ∙ rw e) (omega arith) refl
 
+  -- a refusal
   refused-by : (m : ℕ) → (m ≡ 0 → ⊥) → (m ≡ 1 → ⊥) → (b : Bench) (t c : ℕ) → answered m b t c y ≡ refused m
   refused-by zero z o b t c = absurd (z refl)
   refused-by (suc zero) z o b t c = absurd (o refl)
@@ -140,7 +144,7 @@ module _ {file : List ℕ} {k x y : ℕ} {n : Nodes} {threads : List Thread} {ro
   pub refused-on : (a ≡ 0 → ⊥) → (a ≡ 1 → ⊥) → Stands n (held threads) (stand root used a k finished at) first buffer (after file (k + 1))
   refused-on z o = refused-at a (asked-on ∙ refused-by a z o _ _ _)
 
-  -- it is a step, which decides d
+  -- a step, which decides d
   module _ (z : a ≡ 0) (d : Decision) (i : turnOf (seen threads x end) d ≡ step (placeOf (seen threads x end .place)) (store n root used) (seen threads x end)) where
     turn-by : {m : ℕ} → d .what ≡ m → turnOf (seen threads x end) d ≡ turnBy m (noted (d .note) (d .place) (d .value) (seen threads x end)) (written (d .writes) (d .effect)) (d .answer)
     turn-by e = ap (λ (m : ℕ). turnBy m (noted (d .note) (d .place) (d .value) (seen threads x end)) (written (d .writes) (d .effect)) (d .answer)) e
@@ -148,6 +152,7 @@ module _ {file : List ℕ} {k x y : ℕ} {n : Nodes} {threads : List Thread} {ro
     taken-on : {v : Turn} → turnOf (seen threads x end) d ≡ v → recordStep (bench (store n root used) (held threads)) x y ≡ taken (bench (store n root used) (held threads)) (x / 16 % 4) v
     taken-on e = rw z at asked-on ∙ rw (own, ← i, e)
 
+    -- numbers have run out
     full-by : (m : ℕ) (v : Thread) (e : Effect) (b : Bool) → 1 < m → turnBy m v e b ≡ Full
     full-by zero v e b l = absurd (omega arith)
     full-by (suc zero) v e b l = absurd (omega arith)
@@ -157,7 +162,7 @@ module _ {file : List ℕ} {k x y : ℕ} {n : Nodes} {threads : List Thread} {ro
     unfolding taken
     full-on l = refused-at 13 (taken-on (full-by (d .what) _ _ _ l))
 
-    -- what it writes leaves n', root' and used'
+    -- it goes on or finishes; what it writes leaves n', root' and used'
     module _ {n' : Nodes} {root' used' : ℕ} (w : store n' root' (usedAfter used (written (d .writes) (d .effect))) ≡ perform (written (d .writes) (d .effect)) (store n root used)) (u : used' ≡ usedAfter used (written (d .writes) (d .effect))) where
       stored-on : store n' root' used' ≡ perform (written (d .writes) (d .effect)) (store n root used)
       stored-on = rw u w

@@ -77,6 +77,7 @@ pub fn carry_out(
     let mut k = 0usize;
     while k < count {
         let record = schedule::read(schedule, k);
+        // a proper file has as many records as its header says
         let Record::Pair(x, y) = record else {
             return Standing {
                 root: root,

@@ -1,5 +1,5 @@
 // What a step of a thread decides: the place it goes to and the note it makes there, or the end of its operation. The thread itself
-// is not handed back: its record is changed where it lies.
+// is not handed back: its record is changed where it lies. `th` is for the contracts, which say what becomes of it.
 ghost use mathlib.Core.Path.{_≡_};
 ghost use mathlib.Core.Bool.{true, false};
 ghost use Rattle.definitions.specs.declared.Link.the-variants.{Nil, To};
