@@ -74,8 +74,8 @@ action-last (suc (suc (suc zero))) f g h i = absurd (h refl)
 action-last (suc (suc (suc (suc zero)))) f g h i = absurd (i refl)
 action-last (suc (suc (suc (suc (suc a))))) f g h i = refl
 
-pub begin-so : (a y : ℕ) {e : Action} → e ≡ actionOf a → begun e y 1 ≡ begun (actionOf a) y 1
-begin-so a y q = rw q
+pub begin-so : (a y : ℕ) {e : Action} {r : Thread} → e ≡ actionOf a → r ≡ begun e y 1 → r ≡ begun (actionOf a) y 1
+begin-so a y q h = h ∙ rw q
 
 -- ---- a decided step: its note, and what it writes
 pub noted-as : (n : Note) (p v : ℕ) (th : Thread) {a : Note} {r : Thread} → n ≡ a → r ≡ noted a p v th → r ≡ noted n p v th

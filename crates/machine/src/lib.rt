@@ -60,21 +60,7 @@ pub fn begin(a: u8, y: u8) -> Thread
     ensures { λ r. ⌜ r ≡ begun (actionOf a) y 1 ⌝ }
 {
     let action = action_of(a);
-    Thread {
-        action: action,
-        station: y,
-        place: 1,
-        route: 0,
-        base: 0,
-        parent: 0,
-        left: true,
-        found: 0,
-        neighbour: 0,
-        main: 0,
-        owner: false,
-        grandparent: Link::Nil,
-        other: 0,
-    }
+    definitions::thread_at(action, y, 1)
 }
 
 // A thread with another grandparent.

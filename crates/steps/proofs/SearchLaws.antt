@@ -43,14 +43,9 @@ module _ (ns : Nodes) (th : Thread) (x : ℕ) {n : Node} {b : Bool} where
   reach-base e k h a l q = q ∙ (l ∙ reach-leaf e k h a)
 
 -- ---- a base that is not replaceable, or a swap that failed
-module _ (th : Thread) {a : Action} {r : Turn} (e : th .action ≡ a) where
-  pub lost-again : goes (to 15 th) ≡ lostAs a th → r ≡ goes (to 15 th) → r ≡ lost th
-  unfolding lost
-  lost-again l q = q ∙ (l ∙ ap (λ (y : Action). lostAs y th) (sym e))
-
-  pub lost-over : says false ≡ lostAs a th → r ≡ says false → r ≡ lost th
-  unfolding lost
-  lost-over l q = q ∙ (l ∙ ap (λ (y : Action). lostAs y th) (sym e))
+pub lost-as : (th : Thread) {a : Action} {r v : Turn} → th .action ≡ a → r ≡ v → v ≡ lostAs a th → r ≡ lost th
+unfolding lost
+lost-as th e q l = q ∙ (l ∙ ap (λ (y : Action). lostAs y th) (sym e))
 
 -- ---- 3: the base b is replaceable; z is its size, l its parent
 module _ (b : Node) (th : Thread) where
@@ -134,8 +129,6 @@ module _ (ns : Nodes) (root u : ℕ) (th : Thread) where
   before-20 a h f g q = q ∙ unlisted (λ p. ltb p 14 || (leb 20 p || (eqb p 15 || eqb p 16))) refl (store ns root u) th (rw (le-ltb _ _ a, lt-leb _ _ h, ne-eqb _ _ f, ne-eqb _ _ g))
 
 pub ruleset reach-cases = (reach-route, reach-lookup, reach-base)
-
-pub ruleset lost-cases = (lost-again, lost-over)
 
 pub ruleset clear-cases = (clear-swap, clear-lookup, clear-few, clear-split, clear-top, clear-join)
 
