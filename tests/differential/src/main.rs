@@ -1,11 +1,14 @@
 //! Compares the library with the reference and prints what was covered.
 //!
-//! `differential [--files N] [--records N] [--seed S] [--trace]`: the systematic files, then random ones
-//! until there are N files and N records carried out. `--trace` names each file before it is run.
+//! `differential [--files N] [--records N] [--seed S] [--trace] [--write PATH]`: the systematic files, then
+//! random ones until there are N files and N records carried out. `--trace` names each file before it is run;
+//! `--write` puts them all into one file, each after its length in four bytes, the low one first.
 
 use differential::compare::Comparer;
 use differential::rng::Rng;
 use differential::{answers, coverage, random, systematic};
+use std::fs::File;
+use std::io::{BufWriter, Write};
 use std::path::Path;
 use std::process::ExitCode;
 
@@ -18,6 +21,7 @@ struct Options {
     records: u64,
     seed: u64,
     trace: bool,
+    write: Option<String>,
 }
 
 fn options() -> Result<Options, String> {
@@ -26,9 +30,14 @@ fn options() -> Result<Options, String> {
         records: 0,
         seed: DEFAULT_SEED,
         trace: false,
+        write: None,
     };
     let mut words = std::env::args().skip(1);
     while let Some(word) = words.next() {
+        if word == "--write" {
+            options.write = Some(words.next().ok_or("--write needs a path")?);
+            continue;
+        }
         let mut number = || {
             let value = words.next().ok_or(format!("{word} needs a number"))?;
             value.parse().map_err(|_| format!("{value} is no number"))
@@ -48,6 +57,7 @@ struct Session {
     comparer: Comparer,
     rng: Rng,
     trace: bool,
+    written: Option<BufWriter<File>>,
     passed: u64,
     failed: u64,
 }
@@ -60,6 +70,11 @@ impl Session {
         }
         if self.trace {
             println!("file {number} ({name}), {} bytes", file.len());
+        }
+        if let Some(out) = &mut self.written {
+            let length = (file.len() as u32).to_le_bytes();
+            let put = out.write_all(&length).and_then(|()| out.write_all(file));
+            put.expect("the files cannot be written");
         }
         let rule = answers::check(file.get(3..).unwrap_or(&[]));
         match rule.and_then(|()| self.comparer.file(file, &mut self.rng)) {
@@ -95,6 +110,9 @@ fn main() -> ExitCode {
         comparer: Comparer::new(random::LONGEST_FILE),
         rng: Rng::new(!options.seed),
         trace: options.trace,
+        written: options
+            .write
+            .map(|path| BufWriter::new(File::create(path).expect("no such path"))),
         passed: 0,
         failed: 0,
     };
