@@ -35,7 +35,7 @@ enum {
     NUXALDER_RUN_RECORDS = 1, /* records done */
     NUXALDER_RUN_ROWS = 2,    /* rows written, four bytes each */
     NUXALDER_RUN_SET = 3,     /* bit s is set where station s is in the tree */
-    NUXALDER_RUN_STORED = 4,  /* stored count: container sizes over the reachable bases */
+    NUXALDER_RUN_STORED = 4,  /* stored count: stations inside their base's range, as many as the set has */
     NUXALDER_RUN_USED = 5     /* node numbers used */
 };
 

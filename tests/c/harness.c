@@ -171,7 +171,11 @@ static void examples(void)
     call_both(&p);
     expect_run("printed run", 0, 12, 3, bit(3) | bit(9), 2, 6);
     expect_list("printed run", 0, "0 route 9\n1 normal 3\n1 normal 9\nset 3 9\n");
-    plan_alone(&p, 0, JOIN, 3, 20);
+    plan_alone(&p, 0, JOIN, 3, 18);
+    call_both(&p);
+    expect_run("join, halfway", 0, 31, 3, bit(3) | bit(9), 2, 9);
+    expect_list("join, halfway", 0, "0 route 9\n1 main 3\n1 neighbour 3 9\nset 3 9\n");
+    plan_steps(&p, 0, 2);
     call_both(&p);
     expect_run("join, one step short", 0, 33, 3, bit(3) | bit(9), 2, 9);
     plan_steps(&p, 0, 1);

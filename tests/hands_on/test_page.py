@@ -31,7 +31,7 @@ READ = """(() => {
     nodes: [...document.querySelectorAll("#canvas .node")].map((g) => {
       const box = g.querySelector(".shape").getBBox();
       return { line: [g.dataset.depth, texts(g, ".word")[0], ...texts(g, ".value, .station")].join(" "),
-        inside: texts(g, ".station:not(.outside):not(.none)").map(Number), stations: texts(g, ".station:not(.none)").length,
+        inside: texts(g, ".station:not(.outside):not(.none)").map(Number),
         box: [box.x, box.y, box.x + box.width, box.y + box.height] }; }),
     slider: Number(document.getElementById("slider").value),
   };
@@ -65,7 +65,7 @@ def compare(checks, page, name, file, turn):
     checks.equal(f"{what}: drawing", [node["line"] for node in shown["nodes"]], expected.listing[:-1])
     inside = sorted(station for node in shown["nodes"] for station in node["inside"])
     checks.equal(f"{what}: stations not struck out", " ".join(map(str, inside)) or "-", expected.set)
-    checks.equal(f"{what}: stations drawn", str(sum(node["stations"] for node in shown["nodes"])), expected.stored)
+    checks.equal(f"{what}: stations stored", str(len(inside)), expected.stored)
     checks.equal(
         f"{what}: set and counts",
         [shown[key] for key in ("set", "cells", "stored", "used")],

@@ -1,7 +1,7 @@
 -- Where a run has ended: what the code then holds is what 01 says of the file and the row buffer. Assumes nothing.
 use mathlib.Core.Path.{_≡_, sym, ap, _∙_}
 use mathlib.Core.List.{List}
-use Prim.Native.Nat.{ℕ, _*_, _%_, _^_, _≤_}
+use Prim.Native.Nat.{ℕ, _*_, _≤_}
 use native.Mathlib.Omega.{arith}
 use borrow.Author.Tests.{eq-eqb, ne-eqb}
 use lib.ListN.{length}
@@ -9,7 +9,6 @@ use Rattle.container.specs.Choice.{ite}
 use Rattle.container.specs.Container.{all}
 use Rattle.buffer.specs.Page.{Page}
 use Rattle.buffer.proofs.Laws.{put-fits, putAll-length}
-use Rattle.answers.proofs.Reach.{reach-stored}
 use Rattle.definitions.specs.Nodes.{Nodes}
 use Rattle.definitions.specs.Bench.{Bench}
 use Rattle.definitions.specs.Tree.{setBelow, treeSet, storedBelow, stored}
@@ -35,15 +34,12 @@ module _ {n : Nodes} {threads : ℕ → Thread} {s : Standing} {first buffer : L
   unfolding treeSet
   set-at = ap (λ (b : Bench). setBelow 63 (b .store .nodes) (b .store .root) all) (h .bench)
 
-  stored-at : storedBelow 63 n (s .root) ≡ stored (p .bench)
+  stored-at : storedBelow 63 n (s .root) all ≡ stored (p .bench)
   unfolding stored
-  stored-at = ap (λ (b : Bench). storedBelow 63 (b .store .nodes) (b .store .root)) (h .bench)
+  stored-at = ap (λ (b : Bench). storedBelow 63 (b .store .nodes) (b .store .root) all) (h .bench)
 
   used-at : s .used ≡ p .bench .store .used
   used-at = ap (λ (b : Bench). b .store .used) (h .bench)
-
-small : (x : ℕ) → x ≤ 128 → x % 2 ^ 64 ≡ x
-small x h = omega arith
 
 -- ---- room for the rows
 room-for : (file : List ℕ) (room : ℕ) → runRefusal file room ≡ 0 → 2 * countOf file ≤ room
@@ -62,12 +58,10 @@ module _ (file first : List ℕ) {bad : ℕ} (e : bad ≡ runRefusal file (lengt
 
   -- all records carried out
   module _ {n : Nodes} {s : Standing} {buffer : List ℕ} {count : ℕ} (z : bad ≡ 0) (d : count ≡ countOf file) (h : Carried file count n s first buffer) where
-    pub ended-report : {x y : ℕ} → x ≡ setBelow 63 n (s .root) all → y ≡ storedBelow 63 n (s .root) % 2 ^ 64
+    pub ended-report : {x y : ℕ} → x ≡ setBelow 63 n (s .root) all → y ≡ storedBelow 63 n (s .root) all
         → record { refusal = s .refusal; records = s .done; rows = s .finished; set = x; stored = y; used = s .used } ≡ runReport file (length first)
     unfolding runReport ite
-    ended-report f g =
-        let whole : storedBelow 63 n (s .root) % 2 ^ 64 ≡ stored (after file count .bench) = rw (stored-at h, small _ (reach-stored file count)) in
-        rw (← e, eq-eqb _ _ z, ← d, f, g, set-at h, whole, h .refusal, h .done, h .finished, used-at h)
+    ended-report f g = rw (← e, eq-eqb _ _ z, ← d, f, g, set-at h, stored-at h, h .refusal, h .done, h .finished, used-at h)
 
     pub ended-buffer : buffer ≡ runBuffer file first
     unfolding runBuffer ite

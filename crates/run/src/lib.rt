@@ -198,7 +198,7 @@ pub fn run(schedule: &[u8], rows: &mut [u8]) -> Report
         let count = schedule::count_of(schedule);
         let p = carry_out(&mut cells, &mut sets, schedule, count, rows);
         let set = tree::set_below(&cells, &sets, p.root, 18446744073709551615, 63);
-        let stored = tree::stored_below(&cells, &sets, p.root, 63);
+        let stored = tree::stored_below(&cells, &sets, p.root, 18446744073709551615, 63);
         return Report {
             refusal: p.refusal as u64,
             records: p.done as u64,

@@ -1,6 +1,5 @@
 // The tree's set and the stored count, by a walk down with levels left.
 ghost use mathlib.Core.Path.{_≡_};
-ghost use Prim.Native.Nat.{_^_, _%_};
 ghost use Rattle.nodes.specs.Cells.{table};
 ghost use Rattle.definitions.specs.Tree.{setBelow, storedBelow};
 
@@ -23,19 +22,22 @@ pub fn set_below(cells: &[u8; 4096], sets: &[u64; 256], x: u8, range: u64, level
     container::common(n.container, range)
 }
 
-// The container sizes below node x, added up in a word of 64 bits.
-pub fn stored_below(cells: &[u8; 4096], sets: &[u64; 256], x: u8, levels: u8) -> u64
-    ensures { λ r. ⌜ r ≡ storedBelow levels (table (now (cells .entry)) (now (sets .entry))) x % 2 ^ 64 ⌝ }
+// How many stations are below node x, whose range is given: in each base's container, inside the base's range.
+pub fn stored_below(cells: &[u8; 4096], sets: &[u64; 256], x: u8, range: u64, levels: u8) -> u64
+    ensures { λ r. ⌜ r ≡ storedBelow levels (table (now (cells .entry)) (now (sets .entry))) x range ⌝ }
 {
     let n = nodes::node_at(cells, sets, x);
     let kind = n.kind;
+    let inside = container::common(n.container, range);
     if levels == 0 {
-        return container::count(n.container) as u64;
+        return container::count(inside) as u64;
     }
     if nodes::is_route(kind) {
-        let a = stored_below(cells, sets, n.left, levels - 1);
-        let b = stored_below(cells, sets, n.right, levels - 1);
-        return std::num::wrapping_add_u64(a, b);
+        let low = container::lower(range, n.key);
+        let high = container::upper(range, n.key);
+        let a = stored_below(cells, sets, n.left, low, levels - 1);
+        let b = stored_below(cells, sets, n.right, high, levels - 1);
+        return a + b;
     }
-    container::count(n.container) as u64
+    container::count(inside) as u64
 }

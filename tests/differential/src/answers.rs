@@ -1,4 +1,5 @@
-//! The paper's answers rule, checked of the reference: the plain set against rows and tree at every moment.
+//! The paper's answers rule, checked of the reference: the plain set against rows and tree at every moment; and the
+//! stored rule: the stored count is the size of the plain set.
 
 use reference::{Bench, Row, INSERT, LOOKUP, REMOVE, STEP, THREADS};
 
@@ -91,6 +92,13 @@ pub fn check(records: &[u8]) -> Result<(), String> {
                 "record {index}: the tree has {:#x}, the plain set {:#x}",
                 bench.set(),
                 plain.set
+            ));
+        }
+        if bench.stored() != u64::from(plain.set.count_ones()) {
+            return Err(format!(
+                "record {index}: stored {}, and {} stations are in",
+                bench.stored(),
+                plain.set.count_ones()
             ));
         }
         if result.is_err() {

@@ -1,0 +1,14 @@
+pub mod Written
+pub mod From0000
+pub mod From0006
+pub mod From0009
+pub mod From0012
+pub mod From0018
+pub mod From0021
+pub mod From0027
+pub mod From0030
+pub mod From0036
+pub mod From0040
+pub mod From0046
+pub mod From0051
+pub mod From0057
