@@ -1,19 +1,21 @@
-/* A libFuzzer target: each input as a schedule file, as it is and with its header put right, through the
- * library and the reference. Any difference in a field or a byte, and any byte touched outside the memory
+/* A libFuzzer target: each input as a schedule file, as it is and with its header put right, and its two halves
+ * as two files to merge, as they are and with headers and threads put right, through the library and the reference. Any difference in a field or a byte, and any byte touched outside the memory
  * lent, ends the program. The reference is built with coverage counters, so that inputs grow towards places
  * not seen yet. */
 #define _DEFAULT_SOURCE
 #include "guard.h"
 #include "nuxalder.h"
 
-enum { MOST_RECORDS = 4096, MEMORY = 3 * GUARD_PAGE };
+enum { MOST_RECORDS = 4096, MEMORY = 3 * GUARD_PAGE, BUFFER_MEMORY = MEMORY + GUARD_PAGE };
 
 typedef void operation(const uint8_t *, size_t, uint8_t *, size_t, uint64_t *);
 
 /* The reference behind the same interface, under names of its own. */
 extern operation reference_run, reference_list;
 
-static struct guard file_memory, our_memory, their_memory;
+extern void reference_merge(const uint8_t *, size_t, const uint8_t *, size_t, uint8_t *, size_t, uint64_t *);
+
+static struct guard file_memory, second_memory, our_memory, their_memory;
 
 static void compare(const char *name, operation *ours, operation *theirs, size_t fields, const uint8_t *file,
                     size_t length, size_t room, int at_start)
@@ -26,7 +28,7 @@ static void compare(const char *name, operation *ours, operation *theirs, size_t
     ours(lent, length, guard_lend(our_memory, room, at_start), room, our);
     theirs(lent, length, guard_lend(their_memory, room, at_start), room, their);
     if (memcmp(our, their, fields * sizeof our[0]) != 0 || memcmp(lent, file, length) != 0 ||
-        memcmp(our_memory.bytes, their_memory.bytes, MEMORY) != 0) {
+        memcmp(our_memory.bytes, their_memory.bytes, BUFFER_MEMORY) != 0) {
         fprintf(stderr, "%s differs from the reference with a buffer of %zu bytes\n", name, room);
         abort();
     }
@@ -46,17 +48,66 @@ static void compare_all(const uint8_t *file, size_t length)
     }
 }
 
+static void compare_merge(const uint8_t *first, size_t length, const uint8_t *second, size_t second_length,
+                          size_t room, int at_start)
+{
+    uint64_t our[NUXALDER_MERGE_FIELDS] = {0}, their[NUXALDER_MERGE_FIELDS] = {0};
+    uint8_t *one = guard_lend(file_memory, length, at_start);
+    uint8_t *other = guard_lend(second_memory, second_length, at_start);
+    memcpy(one, first, length);
+    memcpy(other, second, second_length);
+    guard_fill(our_memory);
+    guard_fill(their_memory);
+    nuxalder_merge(one, length, other, second_length, guard_lend(our_memory, room, at_start), room, our);
+    reference_merge(one, length, other, second_length, guard_lend(their_memory, room, at_start), room, their);
+    if (memcmp(our, their, sizeof our) != 0 || memcmp(one, first, length) != 0 ||
+        memcmp(other, second, second_length) != 0 || memcmp(our_memory.bytes, their_memory.bytes, BUFFER_MEMORY) != 0) {
+        fprintf(stderr, "Merge differs from the reference with a buffer of %zu bytes\n", room);
+        abort();
+    }
+}
+
+/* A file of `count` records from these bytes, for threads `lowest` and the next. */
+static size_t file_for(uint8_t *file, const uint8_t *bytes, size_t count, unsigned lowest)
+{
+    file[0] = 1;
+    file[1] = (uint8_t)(count >> 8);
+    file[2] = (uint8_t)count;
+    memcpy(file + 3, bytes, 2 * count);
+    for (size_t k = 0; k < count; k++)
+        file[3 + 2 * k] = (uint8_t)((file[3 + 2 * k] & 0x1F) | lowest << 4);
+    return 3 + 2 * count;
+}
+
+/* Two parts of the input as two files, with buffers just long enough, one byte short and longer. */
+static void compare_merges(const uint8_t *data, size_t size)
+{
+    static uint8_t first[MEMORY], second[MEMORY];
+    size_t cut = size == 0 ? 0 : (size_t)data[size / 2] * size / 255;
+    size_t count = cut / 2, other = (size - cut) / 2;
+    size_t length = file_for(first, data, count > MOST_RECORDS ? MOST_RECORDS : count, 0);
+    size_t second_length = file_for(second, data + cut, other > MOST_RECORDS ? MOST_RECORDS : other, 2);
+    size_t need = 2 * (length < second_length ? length : second_length) - 3;
+    const size_t rooms[] = {need, need - 1, need + 17};
+    for (int i = 0; i < 3; i++) {
+        compare_merge(data, cut, data + cut, size - cut, rooms[i], i & 1);
+        compare_merge(first, length, second, second_length, rooms[i], i & 1);
+    }
+}
+
 int LLVMFuzzerTestOneInput(const uint8_t *data, size_t size)
 {
     static uint8_t repaired[3 + 2 * MOST_RECORDS];
     if (file_memory.bytes == NULL) {
         file_memory = guard_new(MEMORY);
-        our_memory = guard_new(MEMORY);
-        their_memory = guard_new(MEMORY);
+        second_memory = guard_new(MEMORY);
+        our_memory = guard_new(BUFFER_MEMORY);
+        their_memory = guard_new(BUFFER_MEMORY);
     }
     if (size > MEMORY)
         return -1;
     compare_all(data, size);
+    compare_merges(data, size);
     if (size >= 3) {
         size_t count = (size - 3) / 2 > MOST_RECORDS ? MOST_RECORDS : (size - 3) / 2;
         memcpy(repaired, data, 3 + 2 * count);

@@ -1,6 +1,6 @@
 /* Nuxalder: a turn-by-turn bench for a lock-free contention adapting search tree.
  *
- * Both functions take a schedule file as bytes, carry it out on a fresh bench and hand back numbers in
+ * Run and List take a schedule file as bytes, carry it out on a fresh bench and hand back numbers in
  * `report` and bytes in a buffer that the caller lends. They keep no state between calls, allocate nothing,
  * read no byte outside the schedule and write no byte outside the buffer and the report. The lent memory
  * must not overlap, and no pointer is null, also where its length is 0.
@@ -18,6 +18,10 @@
  *    5  a row buffer under 2 * count bytes   11  a start of a busy thread
  *    6  a text buffer under 4,096 bytes      12  a step of an idle thread
  *                                            13  a swap that needs more node numbers than are left
+ *
+ * Merge alone, in this order: 1 to 4 for a fault of the first file, then 1 to 4 for one of the second (2: any
+ * version but 1), 17 for a thread that is not its file's, 3 for counts that total over 4,096, 18 for an output
+ * buffer under 3 + 4 * the smaller count bytes.
  */
 #ifndef NUXALDER_H
 #define NUXALDER_H
@@ -45,8 +49,17 @@ enum {
     NUXALDER_LIST_LENGTH = 1   /* bytes of text written */
 };
 
+/* What nuxalder_merge writes to report[]. */
+enum {
+    NUXALDER_MERGE_REFUSAL = 0, /* refusal number, 0 for none */
+    NUXALDER_MERGE_FILE = 1,    /* the file that the part is of: 0 the first, 1 the second */
+    NUXALDER_MERGE_START = 2,   /* the byte of that file at which the part begins */
+    NUXALDER_MERGE_LENGTH = 3   /* bytes of the part */
+};
+
 #define NUXALDER_RUN_FIELDS 6
 #define NUXALDER_LIST_FIELDS 2
+#define NUXALDER_MERGE_FIELDS 4
 #define NUXALDER_LIST_BUFFER 4096 /* the text never needs more */
 
 /* Carries out the schedule. A row is four bytes: thread, action, station, answer (1 yes, 0 no), in order of
@@ -63,6 +76,29 @@ void nuxalder_run(const uint8_t *schedule, size_t schedule_length,
 void nuxalder_list(const uint8_t *schedule, size_t schedule_length,
                    uint8_t *text, size_t text_length,
                    uint64_t report[NUXALDER_LIST_FIELDS]);
+
+/* Merges two schedules of version 1, the first for threads 0 and 1 only, the second for 2 and 3 only. It runs
+ * nothing. A header that counts the records of both, and the records taken in turns, first file first, as long
+ * as both have one, go to `out`: 3 + 4 * the smaller count bytes; bytes after those are untouched. The records
+ * left over are a part of the longer file, which the report names and nothing copies: `out` with these bytes
+ * appended is the merged file, and Run accepts it. For equal counts the part is the empty end of the first
+ * file. On a refusal nothing is written to `out`, and the part is the empty start of the first file.
+ *
+ *     uint8_t merged[8195]; // room for 4,096 records
+ *     uint64_t report[NUXALDER_MERGE_FIELDS];
+ *     nuxalder_merge(first, first_length, second, second_length, merged, sizeof merged, report);
+ *     if (report[NUXALDER_MERGE_REFUSAL] == 0) {
+ *         const uint8_t *longer = report[NUXALDER_MERGE_FILE] == 0 ? first : second;
+ *         size_t all = first_length + second_length - 3, left = report[NUXALDER_MERGE_LENGTH];
+ *         memcpy(merged + (all - left), longer + report[NUXALDER_MERGE_START], left);
+ *         nuxalder_run(merged, all, rows, rows_length, run);
+ *     }
+ *
+ * examples/merge.c is a whole program. */
+void nuxalder_merge(const uint8_t *first, size_t first_length,
+                    const uint8_t *second, size_t second_length,
+                    uint8_t *out, size_t out_length,
+                    uint64_t report[NUXALDER_MERGE_FIELDS]);
 
 #ifdef __cplusplus
 }

@@ -1,7 +1,8 @@
-//! Times Run and List of the library and of the reference on the same schedules, in turn, and prints the
+//! Times Run, List and Merge of the library and of the reference on the same schedules, in turn, and prints the
 //! medians and their ratio for each size. Buffers are lent as they are, not cleared between calls.
 
 use differential::library;
+use differential::merges::whole;
 use differential::random::steady;
 use differential::rng::Rng;
 use reference::LIST_BUFFER;
@@ -9,6 +10,8 @@ use std::hint::black_box;
 use std::time::{Duration, Instant};
 
 const SIZES: [usize; 5] = [1, 16, 256, 1024, 4096];
+/// Records of two files together, as many in each.
+const MERGES: [usize; 3] = [32, 512, 4096];
 /// Schedules of each size; every sample goes over all of them.
 const FILES: usize = 32;
 /// Samples of each size and each implementation; an odd number has a median.
@@ -56,14 +59,14 @@ fn compare(name: &str, size: usize, files: &[Vec<u8>], ours: Operation, theirs: 
     let (our, their) = (median(our), median(their));
     let each = our / size as f64;
     let ratio = our / their;
-    println!("{name:4} {size:7} {our:12.0} {their:14.0} {each:18.1} {ratio:7.2}");
+    println!("{name:5} {size:7} {our:12.0} {their:14.0} {each:18.1} {ratio:7.2}");
 }
 
 fn main() {
     println!(
         "medians of {SAMPLES} samples over {FILES} schedules, buffers not cleared between calls"
     );
-    println!("     records   library ns   reference ns   library ns/record   ratio");
+    println!("      records   library ns   reference ns   library ns/record   ratio");
     let mut rng = Rng::new(SEED);
     for size in SIZES {
         let files: Vec<Vec<u8>> = (0..FILES).map(|_| steady(&mut rng, size)).collect();
@@ -85,6 +88,26 @@ fn main() {
             &files,
             &mut |file| library::list(file, &mut text).length,
             &mut |file| reference::list(file, &mut text2).length,
+        );
+    }
+    for size in MERGES {
+        // both files of a pair, one after the other
+        let pairs: Vec<Vec<u8>> = (0..FILES)
+            .map(|_| [whole(size / 2, 0, &mut rng), whole(size / 2, 2, &mut rng)].concat())
+            .collect();
+        let (mut out, mut out2) = (vec![0; 3 + 2 * size], vec![0; 3 + 2 * size]);
+        compare(
+            "Merge",
+            size,
+            &pairs,
+            &mut |pair| {
+                let (first, second) = pair.split_at(pair.len() / 2);
+                library::merge(first, second, &mut out).start
+            },
+            &mut |pair| {
+                let (first, second) = pair.split_at(pair.len() / 2);
+                reference::merge(first, second, &mut out2).start
+            },
         );
     }
 }

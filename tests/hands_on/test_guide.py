@@ -23,8 +23,9 @@ def all_of(checks):
     if not (folder / "tools").exists():
         (folder / "tools").symlink_to(ROOT / "tools")
     for command, output in blocks():
-        if command == "cat mine.txt":
-            (folder / "mine.txt").write_text(output)
+        shown = re.fullmatch(r"cat (\w+\.txt)", command)
+        if shown:
+            (folder / shown[1]).write_text(output)
         ran = subprocess.run(command, shell=True, cwd=folder, stdout=subprocess.PIPE, stderr=subprocess.STDOUT, text=True)
         checks.equal(command, ran.stdout, output)
     named = set(re.findall(r"`([a-z-]+)`", GUIDE.read_text().split("## The gallery")[1].split("##")[0]))

@@ -14,7 +14,7 @@ from pathlib import Path
 from text_form import ACTIONS
 
 ROOT = Path(__file__).resolve().parents[2]
-SOURCES = (Path(__file__).with_name("turns.c"), ROOT / "include" / "nuxalder.h")
+HEADER = ROOT / "include" / "nuxalder.h"
 PROGRAM = Path(os.environ.get("NUXALDER_BENCH") or ROOT / "target" / "bin" / "bench")
 FILE_MOST = 1 << 18
 
@@ -73,15 +73,16 @@ def library():
     return path
 
 
-def helper():
-    """The path of the helper, compiled anew where its sources or the library are newer."""
+def helper(name="turns"):
+    """The path of a helper, compiled anew where its sources or the library are newer."""
     archive = library()
-    program = ROOT / "target" / "tools" / f"turns-{zlib.crc32(os.fsencode(archive)):08x}"
-    newest = max(path.stat().st_mtime for path in (*SOURCES, archive))
+    source = Path(__file__).with_name(f"{name}.c")
+    program = ROOT / "target" / "tools" / f"{name}-{zlib.crc32(os.fsencode(archive)):08x}"
+    newest = max(path.stat().st_mtime for path in (source, HEADER, archive))
     if not program.exists() or program.stat().st_mtime < newest:
         program.parent.mkdir(parents=True, exist_ok=True)
         made = program.with_name(f"{program.name}.{os.getpid()}")
-        command = ["cc", "-O2", "-I", str(SOURCES[1].parent), str(SOURCES[0]), str(archive), "-o", str(made)]
+        command = ["cc", "-O2", "-I", str(HEADER.parent), str(source), str(archive), "-o", str(made)]
         try:
             built = subprocess.run(command, capture_output=True, text=True)
         except FileNotFoundError:

@@ -1,9 +1,10 @@
-// Run and List for a C host; include/nuxalder.h says what each number means.
+// Run, List and Merge for a C host; include/nuxalder.h says what each number means.
 ghost use mathlib.Core.Path.{_≡_};
 ghost use lib.ListN.{length};
 ghost use Rattle.definitions.specs.Run.{runReport, runBuffer};
 ghost use Rattle.definitions.specs.Listing.{listReport, listBuffer};
-ghost use Rattle.collector.specs.Fields.{runFields, listFields};
+ghost use Rattle.definitions.specs.Merge.{mergeReport, mergeBuffer};
+ghost use Rattle.collector.specs.Fields.{runFields, listFields, mergeFields};
 
 // void nuxalder_run(const uint8_t *schedule, size_t length, uint8_t *rows, size_t length, uint64_t report[6])
 #[no_mangle]
@@ -21,4 +22,29 @@ pub extern "C" fn nuxalder_list(schedule: &[u8], text: &mut [u8], report: &mut [
 {
     let r = list::list(schedule, text);
     *report = [r.refusal, r.length];
+}
+
+// void nuxalder_merge(const uint8_t *first, size_t length, const uint8_t *second, size_t length, uint8_t *out, size_t length, uint64_t report[4])
+#[no_mangle]
+pub extern "C" fn nuxalder_merge<'a>(
+    first: &'a [u8],
+    second: &'a [u8],
+    out: &mut [u8],
+    report: &mut [u64; 4],
+)
+    ensures { λ _. ⌜ (now (report .exit) ≡ mergeFields (mergeReport (now (first .entry)) (now (second .entry)) (length (now (out .entry))))) × (now (out .exit) ≡ mergeBuffer (now (first .entry)) (now (second .entry)) (now (out .entry))) ⌝ }
+{
+    let mut refusal = 0u64;
+    let part = merge::merge(first, second, out, &mut refusal);
+    let n = part.len();
+    if refusal != 0 {
+        *report = [refusal, 0, 0, 0];
+        return;
+    }
+    // a part goes to the end of its file
+    if first.len() < second.len() {
+        *report = [0, 1, (second.len() - n) as u64, n as u64];
+        return;
+    }
+    *report = [0, 0, (first.len() - n) as u64, n as u64];
 }

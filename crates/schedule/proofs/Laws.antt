@@ -1,12 +1,15 @@
 -- The cases of a file's refusal and of a record, each with the code's own facts as premises. Assumes nothing.
-use mathlib.Core.Path.{_≡_, _∙_, sym}
+use mathlib.Core.Path.{_≡_, refl, sym, _∙_}
+use mathlib.Core.Bool.{Bool, true, false}
 use mathlib.Core.List.{List}
 use Prim.Native.Nat.{ℕ, _+_, _*_, _-_, _≤_, _<_}
 use native.Mathlib.Omega.{arith}
-use borrow.Author.Tests.{eq-eqb, ne-eqb, lt-ltb, le-ltb}
+use borrow.Author.Tests.{eq-eqb, ne-eqb, lt-ltb, le-ltb, eqb-true, ltb-false}
+use lib.Dec.{eqb, ltb}
 use lib.ListN.{length, getD}
 use Rattle.container.specs.Choice.{ite}
 use Rattle.definitions.specs.Schedule.{countOf, firstByte, secondByte, fileRefusal}
+use Rattle.schedule.specs.Proper.{Proper}
 use Rattle.schedule.specs.Reader.{recordAt, recordNumber}
 use Rattle.schedule.specs.declared.Record.{Record}
 use Rattle.schedule.specs.declared.Record.the-variants.{Pair, End}
@@ -32,6 +35,18 @@ module _ (file : List ℕ) where
   pub right : 3 ≤ length file → getD file 0 0 ≡ 1 → countOf file ≤ 4096 → length file ≡ 3 + 2 * countOf file → 0 ≡ fileRefusal file
   unfolding fileRefusal ite
   right h k l m = simp (le-ltb _ _ h, eq-eqb _ _ k, le-ltb _ _ l, eq-eqb _ _ m)
+
+-- a file that is not refused
+pub proper : (file : List ℕ) → fileRefusal file ≡ 0 → Proper file
+unfolding fileRefusal ite
+proper file = by (ltb (length file) 3) (eqb (getD file 0 0) 1) (ltb 4096 (countOf file)) (eqb (length file) (3 + 2 * countOf file)) refl refl refl
+  where
+    by : (a b c d : Bool) → ltb (length file) 3 ≡ a → ltb 4096 (countOf file) ≡ c → eqb (length file) (3 + 2 * countOf file) ≡ d → _≡_ {A = ℕ} (ite a 1 (ite b (ite c 3 (ite d 0 4)) 2)) 0 → Proper file
+    by true b c d e f g z = absurd (omega arith)
+    by false false c d e f g z = absurd (omega arith)
+    by false true true d e f g z = absurd (omega arith)
+    by false true false false e f g z = absurd (omega arith)
+    by false true false true e f g z = record { header = ltb-false _ _ e; few = ltb-false _ _ f; whole = eqb-true _ _ g }
 
 -- ---- the record at a position
 module _ (file : List ℕ) (at : ℕ) where
@@ -65,3 +80,15 @@ unfolding recordNumber
 read-in file k h =
     let e : 3 + 2 * k + 1 ≡ 4 + 2 * k = omega arith in
     sym (there file (3 + 2 * k) (omega arith)) ∙ rw e
+
+-- its two bytes; it is not the end
+module _ (file : List ℕ) (k : ℕ) {r : Record} (h : 5 + 2 * k ≤ length file) (e : r ≡ recordNumber file k) where
+  pub read-pair : {x y : ℕ} → r ≡ Pair x y → (x ≡ firstByte file k) × (y ≡ secondByte file k)
+  read-pair {x} {y} f =
+      let same : Pair x y ≡ Pair (firstByte file k) (secondByte file k) = sym f ∙ (e ∙ read-in file k h) in
+      (cc, cc)
+
+  pub no-end : r ≡ End → ⊥
+  no-end f =
+      let same : Pair (firstByte file k) (secondByte file k) ≡ End = sym (read-in file k h) ∙ (sym e ∙ f) in
+      let z : _≡_ {A = ℕ} 0 1 = cc in omega arith

@@ -5,6 +5,7 @@ pub mod compare;
 pub mod coverage;
 pub mod guard;
 pub mod library;
+pub mod merges;
 pub mod plan;
 pub mod random;
 pub mod rng;

@@ -1,6 +1,6 @@
 //! The library through include/nuxalder.h.
 
-use reference::{ListReport, RunReport};
+use reference::{ListReport, MergeReport, RunReport};
 
 extern "C" {
     fn nuxalder_run(
@@ -15,6 +15,15 @@ extern "C" {
         length: usize,
         text: *mut u8,
         text_length: usize,
+        report: *mut u64,
+    );
+    fn nuxalder_merge(
+        first: *const u8,
+        first_length: usize,
+        second: *const u8,
+        second_length: usize,
+        out: *mut u8,
+        out_length: usize,
         report: *mut u64,
     );
 }
@@ -65,4 +74,32 @@ pub fn run(file: &[u8], rows: &mut [u8]) -> RunReport {
 pub fn list(file: &[u8], text: &mut [u8]) -> ListReport {
     let [refusal, length] = call::<2, 4>(nuxalder_list, file, text);
     ListReport { refusal, length }
+}
+
+#[inline]
+pub fn merge(first: &[u8], second: &[u8], out: &mut [u8]) -> MergeReport {
+    let mut words = [CANARY; 6];
+    // As above, with two files.
+    unsafe {
+        nuxalder_merge(
+            first.as_ptr(),
+            first.len(),
+            second.as_ptr(),
+            second.len(),
+            out.as_mut_ptr(),
+            out.len(),
+            words[1..].as_mut_ptr(),
+        );
+    }
+    let [before, refusal, file, start, length, after] = words;
+    assert!(
+        before == CANARY && after == CANARY,
+        "the library wrote outside its report"
+    );
+    MergeReport {
+        refusal,
+        file,
+        start,
+        length,
+    }
 }

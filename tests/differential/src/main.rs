@@ -1,10 +1,12 @@
 //! Compares the library with the reference and prints what was covered.
 //!
 //! `differential [--files N] [--records N] [--seed S] [--trace] [--write PATH]`: the systematic files, then
-//! random ones until there are N files and N records carried out. `--trace` names each file before it is run;
+//! random ones until there are N files and N records carried out; then pairs of files to merge, N of them at
+//! random. `--trace` names each file before it is run;
 //! `--write` puts them all into one file, each after its length in four bytes, the low one first.
 
 use differential::compare::Comparer;
+use differential::merges::Merger;
 use differential::rng::Rng;
 use differential::{answers, coverage, random, systematic};
 use std::fs::File;
@@ -127,7 +129,21 @@ fn main() -> ExitCode {
         session.file(name, &file);
         files += 1;
     }
-    let missing = coverage::report(&session.comparer.counter);
+    let mut merger = Merger::default();
+    let mut merges = merger.systematic(&mut rng);
+    for _ in 0..options.files {
+        merges = merges.and_then(|()| merger.random(&mut rng));
+    }
+    match merges {
+        Ok(()) => session.passed += merger.pairs,
+        Err(why) => {
+            session.failed += 1;
+            println!("FAILED: file pair {}: {why}", merger.pairs);
+        }
+    }
+    println!("{} pairs of files merged or refused", merger.pairs);
+    let mut missing = coverage::report(&session.comparer.counter);
+    missing.extend(merger.missing());
     for what in &missing {
         println!("FAILED: {what} was never reached");
     }

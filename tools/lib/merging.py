@@ -1,0 +1,49 @@
+"""Two schedules into one, by the proved library's Merge and the C helper merge.c."""
+
+import subprocess
+
+import bench
+import text_form
+
+THREADS = ("t0 and t1", "t2 and t3")
+
+
+class NotMerged(Exception):
+    """Two files that Merge refuses; says which file, and which record where it is one."""
+
+
+FILE_REFUSALS = {**bench.REFUSALS, 2: "a version other than 1; only version 1 can be merged"}
+BOTH_REFUSALS = {
+    3: "counts that total over 4,096",
+    18: "an output buffer under 3 + 4 * the smaller count bytes",
+}
+
+
+def _words(number, files, names, at_fault, record):
+    if number == 17:
+        first, second = text_form.records_of(files[at_fault - 1])[record - 1]
+        return (
+            f"{names[at_fault - 1]}: record {record}, '{text_form.record_text(first, second)}', is refused with 17: "
+            f"a thread that is not its file's; the {('first', 'second')[at_fault - 1]} file is for {THREADS[at_fault - 1]}"
+        )
+    if at_fault:
+        return f"{names[at_fault - 1]}: the file is refused with {number}: {FILE_REFUSALS[number]}"
+    counts = " and ".join(f"{name} {len(text_form.records_of(file))}" for name, file in zip(names, files))
+    return f"refused with {number}: {BOTH_REFUSALS[number]} (records: {counts})"
+
+
+def merged(files, names):
+    """The merged file of two; `names` stand in the messages of NotMerged."""
+    for file, name in zip(files, names):
+        if len(file) >= bench.FILE_MOST:
+            raise bench.BenchError(f"{name} has {len(file)} bytes, far more than any schedule")
+    command = [bench.helper("merge"), str(len(files[0]))]
+    asked = subprocess.run(command, input=files[0] + files[1], stdout=subprocess.PIPE)
+    head, _, whole = asked.stdout.partition(b"\n")
+    word, *numbers = head.decode().split()
+    if asked.returncode or word not in ("merged", "refused"):
+        raise bench.BenchError(f"the library gave no answer (helper's exit status {asked.returncode})")
+    if word == "refused":
+        number, at_fault, record = map(int, numbers)
+        raise NotMerged(_words(number, files, names, at_fault, record))
+    return whole
