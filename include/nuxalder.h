@@ -18,10 +18,17 @@
  *    5  a row buffer under 2 * count bytes   11  a start of a busy thread
  *    6  a text buffer under 4,096 bytes      12  a step of an idle thread
  *                                            13  a swap that needs more node numbers than are left
- *
  * Merge alone, in this order: 1 to 4 for a fault of the first file, then 1 to 4 for one of the second (2: any
  * version but 1), 17 for a thread that is not its file's, 3 for counts that total over 4,096, 18 for an output
  * buffer under 3 + 4 * the smaller count bytes.
+ *
+ * Answers of a lookup, an insert or a remove are 0 and 1, those of a split or a join 1 and 2 to 7:
+ *    0  no                                    4  a swap lost, or the base gone from its parent
+ *    1  yes                                   5  the neighbour is not replaceable (a join)
+ *    2  too few stations for a split,         6  a join stood down
+ *       or no parent for a join               7  joins are stopped: not given by this version
+ *    3  the base is not replaceable
+ * Where 2 and 3 both hold the answer is 2.
  */
 #ifndef NUXALDER_H
 #define NUXALDER_H
@@ -43,6 +50,18 @@ enum {
     NUXALDER_RUN_USED = 5     /* node numbers used */
 };
 
+/* The last byte of a row. */
+enum {
+    NUXALDER_NO = 0,
+    NUXALDER_YES = 1,
+    NUXALDER_LACKING = 2,           /* a split: too few stations; a join: no parent */
+    NUXALDER_BLOCKED = 3,           /* the base is not replaceable */
+    NUXALDER_LOST = 4,              /* a swap lost, or the base gone from its parent */
+    NUXALDER_NEIGHBOUR_BLOCKED = 5, /* the neighbour is not replaceable */
+    NUXALDER_STOOD_DOWN = 6,        /* a join stood down */
+    NUXALDER_STOPPED = 7            /* joins are stopped */
+};
+
 /* What nuxalder_list writes to report[]. */
 enum {
     NUXALDER_LIST_REFUSAL = 0, /* refusal number, 0 for none */
@@ -62,8 +81,8 @@ enum {
 #define NUXALDER_MERGE_FIELDS 4
 #define NUXALDER_LIST_BUFFER 4096 /* the text never needs more */
 
-/* Carries out the schedule. A row is four bytes: thread, action, station, answer (1 yes, 0 no), in order of
- * finishing; `rows` needs 2 * count bytes. On refusals 1 to 5 every other field is 0 and `rows` is untouched.
+/* Carries out the schedule. A row is four bytes: thread, action, station, answer, in order of finishing;
+ * `rows` needs 2 * count bytes. On refusals 1 to 5 every other field is 0 and `rows` is untouched.
  * On refusals 7 to 13 the run ends before the refused record, and the fields and rows are as they then stood.
  * Bytes of `rows` after the rows written are untouched. */
 void nuxalder_run(const uint8_t *schedule, size_t schedule_length,

@@ -165,7 +165,7 @@ static void examples(void)
     plan_alone(&p, 0, SPLIT, 3, 2);
     call_both(&p);
     expect_run("split of one station", 0, 7, 2, bit(3), 1, 2);
-    expect_row("split of one station", 1, 0, SPLIT, 3, 0);
+    expect_row("split of one station", 1, 0, SPLIT, 3, NUXALDER_LACKING);
 
     plan_printed_run(&p);
     call_both(&p);
@@ -193,7 +193,7 @@ static void examples(void)
     call_both(&p);
     expect_run("killed join", 0, 40, 5, bit(3) | bit(4) | bit(9), 3, 9);
     expect_row("killed join", 3, 1, INSERT, 4, 1);
-    expect_row("killed join", 4, 0, JOIN, 3, 0);
+    expect_row("killed join", 4, 0, JOIN, 3, NUXALDER_STOOD_DOWN);
 
     plan_printed_run(&p);
     plan_alone(&p, 1, LOOKUP, 3, 1);
@@ -204,6 +204,49 @@ static void examples(void)
     expect_run("lookup of an earlier moment", 0, 41, 6, bit(9), 1, 10);
     expect_row("lookup of an earlier moment", 5, 1, LOOKUP, 3, 1);
     expect_list("lookup of an earlier moment", 0, "0 normal 9\nset 9\n");
+}
+
+/* A split or join that did nothing says why; where it lacks something and its base is blocked, the first. */
+static void reasons(void)
+{
+    static struct plan p;
+
+    plan_empty(&p);
+    plan_alone(&p, 0, JOIN, 3, 2);
+    call_both(&p);
+    expect_row("join at the root", 0, 0, JOIN, 3, NUXALDER_LACKING);
+
+    plan_printed_run(&p);
+    plan_alone(&p, 0, JOIN, 3, 7);
+    plan_alone(&p, 1, JOIN, 3, 3);
+    plan_alone(&p, 1, SPLIT, 3, 3);
+    plan_alone(&p, 1, JOIN, 9, 7);
+    call_both(&p);
+    expect_row("join of a main", 3, 1, JOIN, 3, NUXALDER_BLOCKED);
+    expect_row("split of a main of one station", 4, 1, SPLIT, 3, NUXALDER_LACKING);
+    expect_row("join beside a main", 5, 1, JOIN, 9, NUXALDER_NEIGHBOUR_BLOCKED);
+
+    plan_printed_run(&p);
+    plan_alone(&p, 0, JOIN, 3, 20);
+    plan_alone(&p, 1, SPLIT, 3, 2);
+    plan_alone(&p, 1, JOIN, 3, 2);
+    call_both(&p);
+    expect_row("split of a union node", 3, 1, SPLIT, 3, NUXALDER_BLOCKED);
+    expect_row("join of a union node at the root", 4, 1, JOIN, 3, NUXALDER_LACKING);
+
+    plan_printed_run(&p);
+    plan_alone(&p, 0, INSERT, 4, 5);
+    plan_alone(&p, 0, SPLIT, 3, 4);
+    plan_alone(&p, 2, JOIN, 3, 3);
+    plan_alone(&p, 3, JOIN, 3, 6);
+    plan_alone(&p, 1, INSERT, 5, 5);
+    plan_steps(&p, 0, 1);
+    plan_steps(&p, 2, 2);
+    plan_steps(&p, 3, 1);
+    call_both(&p);
+    expect_row("split that loses at 11", 5, 0, SPLIT, 3, NUXALDER_LOST);
+    expect_row("join that finds its base gone at 21", 6, 2, JOIN, 3, NUXALDER_LOST);
+    expect_row("join that loses at 25", 7, 3, JOIN, 3, NUXALDER_LOST);
 }
 
 static void refused_records(void)
@@ -314,6 +357,7 @@ int main(void)
     rows_memory = guard_new(MEMORY);
     text_memory = guard_new(MEMORY);
     examples();
+    reasons();
     refused_records();
     longest();
     for (int at_start = 0; at_start <= 1; at_start++) {

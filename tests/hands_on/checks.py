@@ -19,6 +19,16 @@ import text_form  # noqa: E402
 
 SHOWN_MOST = 1500
 
+# Why the splits and joins of examples/reasons.txt did nothing, by the turn of their row.
+REASONS = {
+    3: "no parent",
+    27: "base not replaceable",
+    31: "too few stations",
+    39: "neighbour not replaceable",
+    49: "stood down",
+    63: "swap lost or base gone",
+}
+
 
 class Checks:
     """Counts what passed and failed, a group at a time."""

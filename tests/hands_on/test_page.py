@@ -2,13 +2,13 @@
 
 import text_form
 from browser import BrowserError, Page
-from checks import EXAMPLES, OUT, VECTORS, Expected, file_of, tool
+from checks import EXAMPLES, OUT, REASONS, VECTORS, Expected, file_of, tool
 
 OPEN_MILLISECONDS_MOST = 3000  # 4,096 records, on a machine that does other work too
 STEP_MILLISECONDS_MOST = 60
 BYTES_MOST = 1_500_000
 
-STEPPED = ["printed-run", "killed-join", "late-lookup", "lost-insert", "helped-join", "deep-join", "refused-11-busy"]
+STEPPED = ["printed-run", "killed-join", "reasons", "late-lookup", "lost-insert", "helped-join", "deep-join", "refused-11-busy"]
 REFUSED_FILES = {"refused-1-short": 1, "refused-2-version": 2, "refused-3-count": 3, "refused-4-length": 4}
 PICTURE = ("helped-join", 53)
 
@@ -22,6 +22,8 @@ READ = """(() => {
     listing: text("listing"), set: text("set"), stored: text("stored"), used: text("used"),
     cells: texts(document, "#grid .in").join(" ") || "-",
     rows: [...document.querySelectorAll("#rows li")].filter(seen).map((row) => texts(row, ".badge, span, .answer").join(" ")),
+    reason: texts(document, "#caption .why").join(" "),
+    reasons: [...document.querySelectorAll("#rows li")].filter(seen).flatMap((row) => texts(row, ".why")),
     threads: [...document.querySelectorAll(".thread")].map((t) => [texts(t, ".operation")[0], texts(t, ".note")[0]]),
     now: [...document.querySelectorAll("#records .now")].map((e) => Number(e.dataset.turn)),
     nowSeen: [...document.querySelectorAll("#records .now")].every((e) => {
@@ -142,6 +144,17 @@ def stepped(checks, page):
         finish(checks, page, name)
 
 
+def reasons(checks, page):
+    checks.group("page: why splits and joins did nothing")
+    url = show(checks, EXAMPLES / "reasons.txt")
+    for turn in range(max(REASONS) + 1):
+        page.open(f"{url}#at={turn}")
+        shown = page.evaluate(READ)
+        checks.equal(f"reason at turn {turn}", shown["reason"], REASONS.get(turn, ""))
+        checks.equal(f"reasons up to turn {turn}", shown["reasons"], [REASONS[at] for at in sorted(REASONS) if at <= turn])
+    finish(checks, page, "reasons")
+
+
 def moved(checks, page):
     checks.group("page: keys, slider, list and address on 4,096 records")
     path = EXAMPLES / "full-schedule.txt"
@@ -238,7 +251,7 @@ def all_of(checks):
     (OUT / "page").mkdir(parents=True, exist_ok=True)
     try:
         with Page(OUT / "browser") as page:
-            for test in (stepped, moved, vectors, refused_files, looks):
+            for test in (stepped, reasons, moved, vectors, refused_files, looks):
                 test(checks, page)
     except BrowserError as error:
         checks.that("the browser goes on", False, error)

@@ -8,7 +8,7 @@ from collections import Counter
 
 import bench
 import text_form
-from checks import EXAMPLES, OUT, VECTORS, Expected, cut, examples, file_of, tool
+from checks import EXAMPLES, OUT, REASONS, VECTORS, Expected, cut, examples, file_of, tool
 
 TRACE_SECONDS_MOST = 15  # for 4,096 records, on a machine that does other work too
 
@@ -17,9 +17,10 @@ FIGURES = {
     "insert": ["insert 9, own step 3, row: t0 insert 9 yes"],
     "insert-twice": ["own step 3, row: t0 insert 9 yes", "own step 3, row: t0 insert 9 no"],
     "concurrent-inserts": ["own step 3, row: t0 insert 3 yes", "own step 7, row: t1 insert 9 yes"],
-    "single-station-split": ["split 3, own step 2, row: t0 split 3 no"],
+    "single-station-split": ["split 3, own step 2, row: t0 split 3 no (too few stations)"],
     "join": ["join 3, own step 21, row: t0 join 3 yes"],
-    "killed-join": ["own step 10, row: t1 insert 4 yes", "own step 16, row: t0 join 3 no"],
+    "killed-join": ["own step 10, row: t1 insert 4 yes", "own step 16, row: t0 join 3 no (stood down)"],
+    "colliding-joins": ["own step 7, row: t1 join 9 no (neighbour not replaceable)"],
     "late-lookup": ["own step 21, row: t0 join 3 yes", "own step 2, row: t1 lookup 3 yes"],
     "lost-insert": ["own step 21, row: t0 join 3 yes", "own step 9, row: t1 insert 4 yes"],
     "helped-join": ["own step 20, row: t1 insert 10 yes", "own step 18, row: t0 join 12 yes"],
@@ -38,7 +39,7 @@ BYTES = {
     "refused-8-action": "0100010600",
 }
 
-TRACED = ["printed-run", "killed-join", "late-lookup", "helped-join", "refused-11-busy", "full-schedule"]
+TRACED = ["printed-run", "killed-join", "reasons", "late-lookup", "helped-join", "refused-11-busy", "full-schedule"]
 
 
 def runs(checks):
@@ -62,6 +63,7 @@ def vectors(checks):
     checks.group("vectors: printed runs and round trips")
     files = sorted(VECTORS.glob("*.schedule"))
     checks.that("there are vectors", len(files) >= 50, len(files))
+    reasons = []
     for path in files:
         file = path.read_bytes()
         expected = path.with_suffix(".printed").read_text()
@@ -71,6 +73,16 @@ def vectors(checks):
         if len(file) > 3 and file[0] == 1:
             checks.that(f"{path.name} is no text", not text_form.is_text(file))
         checks.that(f"the text of {path.name} is text", text_form.is_text(text.encode()))
+        for number, row in enumerate(bench.answers(file, 1, 0).whole.rows, 1):
+            if row.reason:
+                reasons.append(f"{path.stem} {number} {row.text.removesuffix(' no')} {row.answer}")
+    lines = (VECTORS / "reasons").read_text().splitlines()
+    checks.that("each reason of the vectors", reasons == [line for line in lines if not line.startswith("#")], len(reasons))
+
+
+def printed_row(line):
+    """The row of a turn's line as the program prints it, without the reason of a split or join."""
+    return line.split(", row: ")[1].split(" (")[0]
 
 
 def replay(lines):
@@ -79,7 +91,7 @@ def replay(lines):
     for line in lines:
         if re.match(r"turn \d+ ", line):
             if ", row: " in line:
-                rows.append(line.split(", row: ")[1])
+                rows.append(printed_row(line))
             states.append(None)
         elif line.startswith("           + "):
             bag[line[13:]] += 1
@@ -120,6 +132,9 @@ def traces(checks):
             counts = f"stored {expected.stored} used {expected.used}"
             checks.equal(f"{name} turn {turn}", states[turn], (Counter(expected.listing), expected.rows, counts))
             one_turn(checks, path, turn, expected, counts)
+    told = tool("trace", EXAMPLES / "reasons.txt")[1].decode().splitlines()
+    given = {int(line.split()[1]): line.split(" (")[1][:-1] for line in told if " (" in line}
+    checks.equal("the trace says every reason in words", given, REASONS)
     for name, texts in FIGURES.items():
         told = tool("trace", EXAMPLES / f"{name}.txt")[1].decode()
         checks.that(f"the figures of 01 for {name}", all(text in told for text in texts), told)
@@ -134,7 +149,7 @@ def one_turn(checks, path, turn, expected, counts):
     checks.equal(f"--at {turn} of {path.stem}", (status, err, tree, lines[-1].strip()), (0, "", expected.listing, counts))
     checks.that(f"--at {turn}: open", f"           open: {', '.join(opened) or '-'}" in lines, lines)
     if ", row: " in lines[0]:
-        checks.equal(f"--at {turn}: row", lines[0].split(", row: ")[1], expected.rows[-1])
+        checks.equal(f"--at {turn}: row", printed_row(lines[0]), expected.rows[-1])
 
 
 def errors(checks):
@@ -175,7 +190,7 @@ def rebuilds(checks):
         checks.equal("not while it is newer", bench.helper().stat().st_mtime_ns, made)
         os.utime(program, (0, 0))
         checks.that("when the library is newer", bench.helper().stat().st_mtime_ns > made)
-        checks.equal("and answers", bench.answers(cut(file_of(EXAMPLES / "insert.txt"), 4)).whole.rows, ["t0 insert 9 yes"])
+        checks.equal("and answers", bench.answers(cut(file_of(EXAMPLES / "insert.txt"), 4)).whole.rows, [bench.Row("t0 insert 9 yes", bench.YES)])
     finally:
         del os.environ["NUXALDER_LIB"]
         if before is not None:

@@ -34,9 +34,32 @@ REFUSALS = {
 }
 FILE_REFUSALS = (1, 2, 3, 4)  # those of the whole file: no record was looked at
 
+YES = 1
+# Why a split or join did nothing, by the answer in its row, as include/nuxalder.h has it.
+REASONS = {
+    2: {"split": "too few stations", "join": "no parent"},
+    3: "base not replaceable",
+    4: "swap lost or base gone",
+    5: "neighbour not replaceable",
+    6: "stood down",
+    7: "joins stopped",
+}
+
 
 class BenchError(Exception):
     """The library or the program cannot be asked."""
+
+
+@dataclass
+class Row:
+    """A finished operation: its line in the printed run, its answer and, where a split or join did nothing, why."""
+
+    text: str
+    answer: int
+    reason: str = ""
+
+    def told(self):
+        return f"{self.text} ({self.reason})" if self.reason else self.text
 
 
 @dataclass
@@ -46,7 +69,7 @@ class Turn:
     number: int
     stored: int
     used: int
-    rows: list = field(default_factory=list)  # texts of the rows that are new
+    rows: list = field(default_factory=list)  # the rows that are new
     listing: str = ""
 
 
@@ -93,8 +116,11 @@ def helper(name="turns"):
     return program
 
 
-def row_text(thread, action, station, answer):
-    return f"t{thread} {ACTIONS[action]} {station} {'yes' if answer else 'no'}"
+def row_of(thread, action, station, answer):
+    reason = REASONS.get(answer, "")
+    if isinstance(reason, dict):
+        reason = reason[ACTIONS[action]]
+    return Row(f"t{thread} {ACTIONS[action]} {station} {'yes' if answer == YES else 'no'}", answer, reason)
 
 
 def answers(file, first=0, last=None):
@@ -119,7 +145,7 @@ def answers(file, first=0, last=None):
             turn = Turn(*numbers, listing=turn.listing)
             run.turns.append(turn)
         elif word == "row":
-            turn.rows.append(row_text(*numbers))
+            turn.rows.append(row_of(*numbers))
         else:
             turn.listing = out[at : at + numbers[0]].decode()
             at += numbers[0]
@@ -133,7 +159,8 @@ def printed_by_library(file):
         return f"records 0 of 0 refusal {run.refusal}\n"
     whole = run.whole
     head = f"records {whole.number} of {int.from_bytes(file[1:3], 'big')} refusal {run.refusal}"
-    return "\n".join([head, *whole.rows, f"{whole.listing}stored {whole.stored} used {whole.used}", ""])
+    rows = [row.text for row in whole.rows]
+    return "\n".join([head, *rows, f"{whole.listing}stored {whole.stored} used {whole.used}", ""])
 
 
 def printed_by_program(file):

@@ -6,7 +6,7 @@ const run = JSON.parse(document.getElementById("data").textContent);
 const refusedFile = run.listings.length === 0;
 const lastTurn = run.done + (run.refusal && !refusedFile ? 1 : 0);
 const part = (id) => document.getElementById(id);
-const rowAt = new Map(run.rows);
+const rowAt = new Map(run.rows.map(([turn, row, reason]) => [turn, { row, reason }]));
 const changeTurns = [...new Set([...run.listings, ...run.rows].map(([turn]) => turn).concat(lastTurn))].sort((a, b) => a - b);
 let now = -1;
 let rowsShown = 0;
@@ -27,10 +27,12 @@ const threadTurns = [[], [], [], []];
 run.deeds.forEach(([thread], at) => threadTurns[thread].push([at + 1]));
 
 const badge = (thread) => `<b class="badge b${thread}">t${thread}</b>`;
-const answer = (row) => { const word = row.split(" ").pop(); return `<em class="answer ${word}">${word}</em>`; };
+const answer = ({ row }) => { const word = row.split(" ").pop(); return `<em class="answer ${word}">${word}</em>`; };
+// Why a split or join did nothing.
+const why = ({ reason }) => (reason ? `<small class="why" title="${reason}">${reason}</small>` : "");
 // "t0 insert 3" with the thread as a badge; a raw record stands as it is.
 const withBadge = (text) => (/^t[0-3] /.test(text) ? `${badge(text[1])}<span>${text.slice(3)}</span>` : `<span>${text}</span>`);
-const rowHtml = (row) => `${withBadge(row.replace(/ \w+$/, ""))}${answer(row)}`;
+const rowHtml = (given) => `${withBadge(given.row.replace(/ \w+$/, ""))}${why(given)}${answer(given)}`;
 
 // ---- The listing as a tree ----
 
@@ -278,7 +280,7 @@ function setUp() {
     const mark = rowAt.has(turn) ? answer(rowAt.get(turn)) : "";
     return `<li class="${kind.join(" ")}" data-turn="${turn}"><i>${turn}</i>${withBadge(text)}${mark}</li>`;
   }).join("");
-  part("rows").innerHTML = run.rows.map(([turn, row]) => `<li hidden data-turn="${turn}">${rowHtml(row)}<i>${turn}</i></li>`).join("");
+  part("rows").innerHTML = run.rows.map(([turn, row, reason]) => `<li hidden data-turn="${turn}">${rowHtml({ row, reason })}<i>${turn}</i></li>`).join("");
   part("grid").innerHTML = Array.from({ length: 64 }, (_, station) => `<i>${station}</i>`).join("");
   if (run.refusal) {
     const left = run.records.length - lastTurn;

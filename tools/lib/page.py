@@ -33,7 +33,7 @@ def page_data(file, name):
         "refusal": run.refusal,
         "why": story.refusal_text(run.refusal) if run.refusal else "",
         "deeds": [[deed.thread, deed.operation, deed.own_steps] for deed in deeds],
-        "rows": [[turn.number, row] for turn in run.turns for row in turn.rows],
+        "rows": [[turn.number, row.text, row.reason] for turn in run.turns for row in turn.rows],
         "listings": _changes(run.turns, lambda turn: turn.listing),
         "counts": _changes(run.turns, lambda turn: [turn.stored, turn.used]),
     }

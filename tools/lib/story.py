@@ -48,7 +48,7 @@ def _turn_head(records, deeds, turn):
     if turn.number == 0:
         return _head(0, "", "fresh bench")
     text = record_text(*records[turn.number - 1])
-    row = f", row: {turn.rows[-1]}" if turn.rows else ""
+    row = f", row: {turn.rows[-1].told()}" if turn.rows else ""
     return _head(turn.number, text, _deed_text(deeds[turn.number - 1]) + row)
 
 
@@ -103,7 +103,7 @@ def _open_operations(deeds, rows):
         last[deed.thread] = deed
         starts[deed.thread] = starts.get(deed.thread, 0) + (deed.own_steps == 0)
     for row in rows:
-        starts[int(row[1])] -= 1
+        starts[int(row.text[1])] -= 1
     return [f"t{thread} {last[thread].operation}" for thread in sorted(last) if starts[thread]]
 
 

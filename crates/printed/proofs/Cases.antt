@@ -10,8 +10,9 @@ use lib.Dec.{ltb}
 use lib.ListN.{length, take, drop, set, getD, length-drop, length-set}
 use lib.Seq.{take-suc, take-add, getD-drop, length-take-le}
 use Rattle.container.specs.Choice.{ite}
+use Rattle.definitions.specs.Answers.{no-word, answerWord}
 use Rattle.definitions.specs.Listing.{space, newline, decimal}
-use Rattle.definitions.specs.Printed.{records-word, of-word, refusal-word, stored-word, used-word, actionWord, answerWord, firstLine, rowLines, lastLine}
+use Rattle.definitions.specs.Printed.{records-word, of-word, refusal-word, stored-word, used-word, actionWord, firstLine, rowLines, lastLine}
 use Rattle.buffer.specs.Page.{Page, page, put, putAll}
 use Rattle.buffer.proofs.Laws.{joined, ended}
 
@@ -40,12 +41,21 @@ module _ (p : Page) {a : ℕ} where
 
 -- ---- the answer and the end of the line
 
-pub answer-no : (p : Page) {y : ℕ} {q r : Page} → y ≡ 0 → q ≡ putAll p (110 ∷ 111 ∷ []) → r ≡ put q 10 → r ≡ putAll p (answerWord y ++ newline ∷ [])
-answer-no p h e f = rw h (ended p (110 ∷ 111 ∷ []) 10 e f)
+pub answer-yes : (p : Page) {y : ℕ} {q : Page} → y ≡ 1 → q ≡ putAll p (121 ∷ 101 ∷ 115 ∷ 10 ∷ []) → q ≡ putAll p (answerWord y ++ newline ∷ [])
+answer-yes p h e = rw h e
 
-pub answer-yes : (p : Page) (y : ℕ) {q : Page} → (y ≡ 0 → ⊥) → q ≡ putAll p (121 ∷ 101 ∷ 115 ∷ 10 ∷ []) → q ≡ putAll p (answerWord y ++ newline ∷ [])
-answer-yes p zero h e = absurd (h refl)
-answer-yes p (suc y) h e = e
+word-no : (y : ℕ) → (y ≡ 1 → ⊥) → answerWord y ≡ no-word
+word-no zero h = refl
+word-no (suc zero) h = absurd (h refl)
+word-no (suc (suc zero)) h = refl
+word-no (suc (suc (suc zero))) h = refl
+word-no (suc (suc (suc (suc zero)))) h = refl
+word-no (suc (suc (suc (suc (suc zero))))) h = refl
+word-no (suc (suc (suc (suc (suc (suc zero)))))) h = refl
+word-no (suc (suc (suc (suc (suc (suc (suc _))))))) h = refl
+
+pub answer-no : (p : Page) (y : ℕ) {q r : Page} → (y ≡ 1 → ⊥) → q ≡ putAll p no-word → r ≡ put q 10 → r ≡ putAll p (answerWord y ++ newline ∷ [])
+answer-no p y h e f = rw (word-no y h) (ended p no-word 10 e f)
 
 -- ---- a row's line
 

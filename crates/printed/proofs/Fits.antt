@@ -12,11 +12,14 @@ use Rattle.buffer.specs.Page.{Page, page, putAll}
 use Rattle.buffer.proofs.Laws.{put-fits}
 use Rattle.answers.proofs.Reach.{reach-fits}
 use Rattle.run.proofs.Rows.{rows-fit}
+use Rattle.definitions.specs.Answers.{rendered, answerOf, answerWord}
 use Rattle.definitions.specs.Tree.{stored}
 use Rattle.definitions.specs.Schedule.{countOf, fileRefusal}
 use Rattle.definitions.specs.Run.{Progress, ended, overlay}
 use Rattle.definitions.specs.Listing.{space, newline, digit, decimal, listing}
-use Rattle.definitions.specs.Printed.{records-word, of-word, refusal-word, stored-word, used-word, actionWord, answerWord, firstLine, rowLines, lastLine, printedAt, printed}
+use Rattle.definitions.specs.Printed.{records-word, of-word, refusal-word, stored-word, used-word, actionWord, firstLine, rowLines, lastLine, printedAt, printed}
+use Rattle.definitions.specs.declared.Answer.{Answer}
+use Rattle.definitions.specs.declared.Answer.the-variants.{No, Yes, Lacking, Blocked, Lost, NeighbourBlocked, StoodDown, Stopped}
 
 -- ---- words and numbers
 one-of : (c : Bool) (xs ys : List ℕ) (n : ℕ) → length xs ≤ n → length ys ≤ n → length (ite c xs ys) ≤ n
@@ -37,9 +40,18 @@ action-few : (a : ℕ) → length (actionWord a) ≤ 6
 unfolding actionWord
 action-few a = one-of (eqb a 1) _ _ 6 (omega arith) (one-of (eqb a 2) _ _ 6 (omega arith) (one-of (eqb a 3) _ _ 6 (omega arith) (one-of (eqb a 4) _ _ 6 (omega arith) (omega arith))))
 
+word-few : (a : Answer) → length (rendered a .1) ≤ 3
+word-few No = omega arith
+word-few Yes = omega arith
+word-few Lacking = omega arith
+word-few Blocked = omega arith
+word-few Lost = omega arith
+word-few NeighbourBlocked = omega arith
+word-few StoodDown = omega arith
+word-few Stopped = omega arith
+
 answer-few : (y : ℕ) → length (answerWord y) ≤ 3
-answer-few zero = omega arith
-answer-few (suc y) = omega arith
+answer-few y = word-few (answerOf y)
 
 -- ---- lines
 first-few : (done count refusal : ℕ) → length (firstLine done count refusal) ≤ 34

@@ -11,7 +11,7 @@ use Rattle.container.specs.Choice.{ite}
 use Rattle.definitions.specs.Bench.{Store, Bench}
 use Rattle.definitions.specs.Places.{Place, nowhere, p1, p2, p3, p15, p16, p20, p21, p22, p23, p24, p25, p30, p31, p32, p33, p34, p35, p36, p37, p38, p40, p45, p46, p47, p48, p49, p50, p51, swap, own, found, united, placeOf}
 use Rattle.definitions.specs.Effects.{perform}
-use Rattle.definitions.specs.Steps.{room, atLeaf, reached, lostAs, lost, joinUnder, clearedAs, cleared, probe, replacedAs, replaced, ownBy, foundBy, unitedBy, helpAs, blockedBy, beside, grandMarking, unmark, invalid, cutAt, cutOn, cutRight, freeing, step}
+use Rattle.definitions.specs.Steps.{room, atLeaf, reached, blockedAs, blocked, lostAs, lost, joinUnder, clearedAs, cleared, probe, replacedAs, replaced, ownBy, foundBy, unitedBy, helpAs, blockedBy, beside, grandMarking, unmark, invalid, cutAt, cutOn, cutRight, freeing, step}
 use Rattle.definitions.specs.Records.{Result, refused, carried, taken, stepped, started, acted, recordStep}
 use Rattle.definitions.specs.Schedule.{firstByte, secondByte}
 use Rattle.definitions.specs.Run.{Progress, advanceBy, advance, after}
@@ -90,6 +90,17 @@ module _ (s : Store) (h : s .used ≤ 256) where
   unfolding lost
   lost-few th = lost-as-few (th .action) th
 
+  blocked-as-few : (a : Action) (th : Thread) → Few s (blockedAs a th)
+  blocked-as-few Lookup th = h
+  blocked-as-few Insert th = h
+  blocked-as-few Remove th = h
+  blocked-as-few Split th = h
+  blocked-as-few Join th = h
+
+  blocked-few : (th : Thread) → Few s (blocked th)
+  unfolding blocked
+  blocked-few th = blocked-as-few (th .action) th
+
   under-few : (l : Link) (th : Thread) → Few s (joinUnder l th)
   under-few Nil th = h
   under-few (To p) th = h
@@ -98,7 +109,7 @@ module _ (s : Store) (h : s .used ≤ 256) where
   cleared-as-few Lookup b th = h
   cleared-as-few Insert b th = h
   cleared-as-few Remove b th = h
-  cleared-as-few Split b th = pick s _ _ _ h h
+  cleared-as-few Split b th = h
   cleared-as-few Join b th = under-few (b .parent) th
 
   cleared-few : (b : Node) (th : Thread) → Few s (cleared b th)
@@ -139,11 +150,11 @@ module _ (s : Store) (h : s .used ≤ 256) where
   help-few Aborted m th = h
   help-few Done m th = h
 
-  blocked-few : (k : Kind) (th : Thread) → Few s (blockedBy k (s .nodes) th)
-  blocked-few Normal th = h
-  blocked-few Route th = h
-  blocked-few Main th = help-few (s .nodes (th .base) .stage) _ th
-  blocked-few Neighbour th = help-few (s .nodes (s .nodes (th .base) .main) .stage) _ th
+  kind-few : (k : Kind) (th : Thread) → Few s (blockedBy k (s .nodes) th)
+  kind-few Normal th = h
+  kind-few Route th = h
+  kind-few Main th = help-few (s .nodes (th .base) .stage) _ th
+  kind-few Neighbour th = help-few (s .nodes (s .nodes (th .base) .main) .stage) _ th
 
   beside-few : (th : Thread) (x : ℕ) → Few s (beside (s .nodes) th x)
   unfolding beside
@@ -184,9 +195,9 @@ module _ (s : Store) (h : s .used ≤ 256) where
   step-few nowhere th = h
   step-few p1 th = reached-few th _
   step-few p2 th = reached-few th _
-  step-few p3 th = pick s _ _ _ (cleared-few _ th) (lost-few th)
+  step-few p3 th = pick s _ _ _ h (pick s _ _ _ (cleared-few _ th) (blocked-few th))
   step-few (swap own q) th = own-few (probe q (s .nodes (th .base) .parent) (s .nodes) (s .root) (th .base)) _ th
-  step-few p15 th = blocked-few (s .nodes (th .base) .kind) th
+  step-few p15 th = kind-few (s .nodes (th .base) .kind) th
   step-few p16 th = pick s _ _ _ h h
   step-few p20 th = pick s _ _ _ h h
   step-few p21 th = pick s _ _ _ h h

@@ -5,8 +5,9 @@ ghost use Prim.Native.Nat.{_*_, _%_, _≤_};
 ghost use lib.ListN.{length, take};
 ghost use Rattle.buffer.specs.Page.{page, putAll};
 ghost use Rattle.definitions.specs.Run.{overlay};
+ghost use Rattle.definitions.specs.Answers.{answerWord};
 ghost use Rattle.definitions.specs.Listing.{space, newline, decimal};
-ghost use Rattle.definitions.specs.Printed.{records-word, of-word, refusal-word, stored-word, used-word, actionWord, answerWord, firstLine, rowLines, lastLine, printed};
+ghost use Rattle.definitions.specs.Printed.{records-word, of-word, refusal-word, stored-word, used-word, actionWord, firstLine, rowLines, lastLine, printed};
 use buffer::put_byte;
 use buffer::put_decimal;
 use buffer::put_four;
@@ -53,11 +54,11 @@ pub fn put_action(out: &mut [u8], at: usize, a: u8) -> usize
 pub fn put_answer(out: &mut [u8], at: usize, y: u8) -> usize
     ensures { λ r. ⌜ page (now (out .exit)) r ≡ putAll (page (now (out .entry)) at) (answerWord y ++ newline ∷ []) ⌝ }
 {
-    if y == 0 {
+    if y == 1 {
+        put_four(out, at, b'y', b'e', b's', b'\n')
+    } else {
         let next = put_two(out, at, b'n', b'o');
         put_byte(out, next, b'\n')
-    } else {
-        put_four(out, at, b'y', b'e', b's', b'\n')
     }
 }
 

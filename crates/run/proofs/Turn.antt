@@ -31,6 +31,7 @@ use Rattle.definitions.specs.Schedule.{firstByte, secondByte}
 use Rattle.definitions.specs.Run.{Progress, rowBytes, rowCount, advanceBy, advance, after}
 use Rattle.definitions.specs.declared.Thread.{Thread}
 use Rattle.definitions.specs.declared.Effect.{Effect}
+use Rattle.definitions.specs.declared.Answer.{Answer}
 use Rattle.definitions.specs.declared.Turn.{Turn}
 use Rattle.definitions.specs.declared.Turn.the-variants.{Full}
 use Rattle.run.specs.Standing.{Stands, Carried}
@@ -153,7 +154,7 @@ module _ {file : List ℕ} {k x y : ℕ} {n : Nodes} {threads : List Thread} {ro
     taken-on e = rw z at asked-on ∙ rw (own, ← i, e)
 
     -- numbers have run out
-    full-by : (m : ℕ) (v : Thread) (e : Effect) (b : Bool) → 1 < m → turnBy m v e b ≡ Full
+    full-by : (m : ℕ) (v : Thread) (e : Effect) (b : Answer) → 1 < m → turnBy m v e b ≡ Full
     full-by zero v e b l = absurd (omega arith)
     full-by (suc zero) v e b l = absurd (omega arith)
     full-by (suc (suc m)) v e b l = refl

@@ -6,10 +6,12 @@ ghost use Rattle.nodes.specs.Cells.{table};
 ghost use Rattle.schedule.specs.Proper.{Proper};
 ghost use Rattle.buffer.specs.Page.{page, putAll};
 ghost use Rattle.definitions.specs.Nodes.{emptyBase};
+ghost use Rattle.definitions.specs.Answers.{answerNumber};
 ghost use Rattle.definitions.specs.Records.{row, actionNumber};
-ghost use Rattle.definitions.specs.Run.{answerNumber, rowBytes, runRefusal, runReport, runBuffer};
+ghost use Rattle.definitions.specs.Run.{rowBytes, runRefusal, runReport, runBuffer};
 ghost use Rattle.run.specs.Standing.{Carried};
 use definitions::Action;
+use definitions::Answer;
 use definitions::Report;
 use definitions::Thread;
 use schedule::Record;
@@ -40,19 +42,28 @@ pub fn action_number(a: Action) -> u8
 }
 
 // An answer's number in a row.
-pub fn answer_number(yes: bool) -> u8
-    ensures { λ r. ⌜ r ≡ answerNumber yes ⌝ }
+pub fn answer_number(a: Answer) -> u8
+    ensures { λ r. ⌜ r ≡ answerNumber a ⌝ }
 {
-    if yes { 1 } else { 0 }
+    match a {
+        Answer::No => 0,
+        Answer::Yes => 1,
+        Answer::Lacking => 2,
+        Answer::Blocked => 3,
+        Answer::Lost => 4,
+        Answer::NeighbourBlocked => 5,
+        Answer::StoodDown => 6,
+        Answer::Stopped => 7,
+    }
 }
 
 // The row of thread t, which was th and has its answer.
-pub fn put_row(rows: &mut [u8], at: usize, t: u8, th: Thread, yes: bool) -> usize
-    ensures { λ r. ⌜ page (now (rows .exit)) r ≡ putAll (page (now (rows .entry)) at) (rowBytes t th (row yes)) ⌝ }
+pub fn put_row(rows: &mut [u8], at: usize, t: u8, th: Thread, answer: Answer) -> usize
+    ensures { λ r. ⌜ page (now (rows .exit)) r ≡ putAll (page (now (rows .entry)) at) (rowBytes t th (row answer)) ⌝ }
 {
     let action = th.action;
     let a = action_number(action);
-    let y = answer_number(yes);
+    let y = answer_number(answer);
     buffer::put_four(rows, at, t, a, th.station, y)
 }
 
@@ -137,7 +148,8 @@ pub fn carry_out(
                     }
                 } else {
                     let th = threads[t];
-                    at = put_row(rows, at, x / 16, th, d.answer);
+                    let answer = d.answer;
+                    at = put_row(rows, at, x / 16, th, answer);
                     finished = finished + 1;
                     threads[t] = idle;
                 }

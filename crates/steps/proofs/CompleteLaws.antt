@@ -14,6 +14,7 @@ use Rattle.definitions.specs.declared.Spot.the-variants.{Root, Under}
 use Rattle.definitions.specs.declared.Thread.{Thread}
 use Rattle.definitions.specs.declared.Effect.{Effect}
 use Rattle.definitions.specs.declared.Effect.the-variants.{Quiet, Mark, Settle, Invalid, Swing}
+use Rattle.definitions.specs.declared.Answer.the-variants.{Yes}
 use Rattle.definitions.specs.declared.Turn.{Turn}
 use Rattle.definitions.specs.declared.Turn.the-variants.{Moves, Finishes}
 use Rattle.definitions.specs.Nodes.{Nodes, kidOf, isDone}
@@ -24,7 +25,7 @@ use Rattle.steps.proofs.JoinLaws.{past}
 
 -- ---- the end
 module _ (e : Effect) (th : Thread) {r : Turn} where
-  pub end-owner : th .owner ≡ true → r ≡ Finishes e true → r ≡ ended e th
+  pub end-owner : th .owner ≡ true → r ≡ Finishes e Yes → r ≡ ended e th
   unfolding ite
   end-owner h q = q ∙ rw h
 

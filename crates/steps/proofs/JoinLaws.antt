@@ -16,6 +16,7 @@ use Rattle.definitions.specs.declared.Spot.the-variants.{Under}
 use Rattle.definitions.specs.declared.Thread.{Thread}
 use Rattle.definitions.specs.declared.Effect.{Effect}
 use Rattle.definitions.specs.declared.Effect.the-variants.{Mark, Settle, Base, Commit}
+use Rattle.definitions.specs.declared.Answer.the-variants.{Lost, NeighbourBlocked, StoodDown}
 use Rattle.definitions.specs.declared.Turn.{Turn}
 use Rattle.definitions.specs.declared.Turn.the-variants.{Moves, Finishes, Full}
 use Rattle.definitions.specs.Nodes.{Nodes, kidOf, childFor, isRoute, isPreparing, replaceable}
@@ -59,7 +60,7 @@ module _ (n : Nodes) (used : ℕ) (th : Thread) {p : Node} {x : ℕ} {r : Turn} 
   unfolding ite
   hook-made e i h l f q = q ∙ rw (f, ← e, ← i, eq-eqb _ _ h, enough used l)
 
-  pub hook-lost : p ≡ n (th .parent) → x ≡ kidOf (th .left) p → (x ≡ th .base → ⊥) → r ≡ says false → r ≡ hooked n used th
+  pub hook-lost : p ≡ n (th .parent) → x ≡ kidOf (th .left) p → (x ≡ th .base → ⊥) → r ≡ says Lost → r ≡ hooked n used th
   unfolding ite
   hook-lost e i h q = q ∙ rw (← e, ← i, ne-eqb _ _ h)
 
@@ -179,7 +180,7 @@ module _ (n : Nodes) (root used : ℕ) (th : Thread) where
   unfolding step ite
   at-21-right h e k q = q ∙ rw (h, ← e, eq-eqb _ _ k)
 
-  pub at-21-gone : {p : Node} {r : Turn} → th .place ≡ 21 → p ≡ n (th .parent) → (p .right ≡ th .base → ⊥) → r ≡ says false → r ≡ step (placeOf (th .place)) (store n root used) th
+  pub at-21-gone : {p : Node} {r : Turn} → th .place ≡ 21 → p ≡ n (th .parent) → (p .right ≡ th .base → ⊥) → r ≡ says Lost → r ≡ step (placeOf (th .place)) (store n root used) th
   unfolding step ite
   at-21-gone h e k q = q ∙ rw (h, ← e, ne-eqb _ _ k)
 
@@ -195,7 +196,7 @@ module _ (n : Nodes) (root used : ℕ) (th : Thread) where
   unfolding step ite
   at-24-free h i t q = q ∙ rw (h, ← i, t)
 
-  pub at-24-busy : {k : Bool} {r : Turn} → th .place ≡ 24 → k ≡ replaceable n (th .found) → k ≡ false → r ≡ says false → r ≡ step (placeOf (th .place)) (store n root used) th
+  pub at-24-busy : {k : Bool} {r : Turn} → th .place ≡ 24 → k ≡ replaceable n (th .found) → k ≡ false → r ≡ says NeighbourBlocked → r ≡ step (placeOf (th .place)) (store n root used) th
   unfolding step ite
   at-24-busy h i t q = q ∙ rw (h, ← i, t)
 
@@ -236,7 +237,7 @@ module _ (n : Nodes) (root used : ℕ) (th : Thread) where
   unfolding step
   at-37 h q = q ∙ rw h
 
-  pub at-38 : {r : Turn} → th .place ≡ 38 → r ≡ Finishes (Settle (th .main) Aborted) false → r ≡ step (placeOf (th .place)) (store n root used) th
+  pub at-38 : {r : Turn} → th .place ≡ 38 → r ≡ Finishes (Settle (th .main) Aborted) StoodDown → r ≡ step (placeOf (th .place)) (store n root used) th
   unfolding step
   at-38 h q = q ∙ rw h
 

@@ -3,7 +3,7 @@ use mathlib.Core.Path.{_≡_, refl, sym, ap, _∙_}
 use mathlib.Core.Bool.{Bool, true, false, _||_}
 use Prim.Native.Nat.{ℕ, _<_, _≤_}
 use lib.Dec.{eqb, ltb, leb}
-use borrow.Author.Tests.{ne-eqb, lt-ltb, le-ltb, lt-leb}
+use borrow.Author.Tests.{ne-eqb, le-ltb, lt-leb}
 use Rattle.container.specs.Choice.{ite}
 use Rattle.container.specs.Container.{has, size}
 use Rattle.definitions.specs.declared.Link.{Link}
@@ -17,12 +17,15 @@ use Rattle.definitions.specs.declared.Action.{Action}
 use Rattle.definitions.specs.declared.Action.the-variants.{Lookup, Split, Join}
 use Rattle.definitions.specs.declared.Thread.{Thread}
 use Rattle.definitions.specs.declared.Effect.the-variants.{Settle}
+use Rattle.definitions.specs.declared.Answer.{Answer}
+use Rattle.definitions.specs.declared.Answer.the-variants.{No, Lacking}
 use Rattle.definitions.specs.declared.Turn.{Turn}
 use Rattle.definitions.specs.declared.Turn.the-variants.{Moves}
 use Rattle.definitions.specs.Nodes.{Nodes, childFor, isRoute, isPreparing, replaceable}
 use Rattle.definitions.specs.Bench.{store}
 use Rattle.definitions.specs.Places.{placeOf, to, toRoute, toBase, toParent}
-use Rattle.definitions.specs.Steps.{goes, says, reached, lost, lostAs, cleared, clearedAs, joinUnder, atLeaf, helpAs, blockedBy, step}
+use Rattle.definitions.specs.Answers.{said}
+use Rattle.definitions.specs.Steps.{goes, says, reached, blocked, blockedAs, lost, lostAs, isNil, lacks, lacksAs, cleared, clearedAs, joinUnder, atLeaf, helpAs, blockedBy, step}
 use Rattle.steps.proofs.DecideLaws.{placed, unlisted}
 
 -- ---- a node is read: n is that node, b whether it is a route
@@ -35,19 +38,38 @@ module _ (ns : Nodes) (th : Thread) (x : ℕ) {n : Node} {b : Bool} where
   unfolding reached ite
   reach-leaf e k h a = rw (← e, ← k, h) (ap (λ (y : Action). atLeaf y ns th x) (sym a))
 
-  pub reach-lookup : {m : Bool} {r : Turn} → n ≡ ns x → b ≡ isRoute (n .kind) → b ≡ false → th .action ≡ Lookup → m ≡ has (n .container) (th .station) → r ≡ says m → r ≡ reached ns th x
-  reach-lookup e k h a i q = q ∙ (rw (i, e) (reach-leaf e k h a))
+  pub reach-lookup : {m : Bool} {y : Answer} {r : Turn} → n ≡ ns x → b ≡ isRoute (n .kind) → b ≡ false → th .action ≡ Lookup → m ≡ has (n .container) (th .station) → y ≡ said m → r ≡ says y → r ≡ reached ns th x
+  reach-lookup e k h a i y q = q ∙ (rw (y, i, e) (reach-leaf e k h a))
 
   -- the other actions go to 3
   pub reach-base : {a : Action} {r : Turn} → n ≡ ns x → b ≡ isRoute (n .kind) → b ≡ false → th .action ≡ a → goes (toBase 3 x th) ≡ atLeaf a ns th x → r ≡ goes (toBase 3 x th) → r ≡ reached ns th x
   reach-base e k h a l q = q ∙ (l ∙ reach-leaf e k h a)
 
--- ---- a base that is not replaceable, or a swap that failed
+-- ---- a swap that failed, or a base that is not replaceable
 pub lost-as : (th : Thread) {a : Action} {r v : Turn} → th .action ≡ a → r ≡ v → v ≡ lostAs a th → r ≡ lost th
 unfolding lost
 lost-as th e q l = q ∙ (l ∙ ap (λ (y : Action). lostAs y th) (sym e))
 
--- ---- 3: the base b is replaceable; z is its size, l its parent
+pub blocked-as : (th : Thread) {a : Action} {r v : Turn} → th .action ≡ a → r ≡ v → v ≡ blockedAs a th → r ≡ blocked th
+unfolding blocked
+blocked-as th e q l = q ∙ (l ∙ ap (λ (y : Action). blockedAs y th) (sym e))
+
+-- ---- 3: too few stations, or no parent; z is the base's size, l its parent
+module _ (b : Node) (th : Thread) where
+  as-lacks : {a : Action} → th .action ≡ a → lacksAs a b ≡ lacks b th
+  unfolding lacks
+  as-lacks e = ap (λ (y : Action). lacksAs y b) (sym e)
+
+  pub lacks-never : {a : Action} → th .action ≡ a → false ≡ lacksAs a b → false ≡ lacks b th
+  lacks-never e l = l ∙ as-lacks e
+
+  pub lacks-split : {z : ℕ} → th .action ≡ Split → z ≡ size (b .container) → ltb z 2 ≡ lacks b th
+  lacks-split e s = rw s (as-lacks e)
+
+  pub lacks-join : {l : Link} {v : Bool} → th .action ≡ Join → b .parent ≡ l → v ≡ isNil l → v ≡ lacks b th
+  lacks-join e l q = q ∙ (ap isNil (sym l) ∙ as-lacks e)
+
+-- ---- 3: the base b is replaceable; l is its parent
 module _ (b : Node) (th : Thread) where
   as-cleared : {a : Action} → th .action ≡ a → clearedAs a b th ≡ cleared b th
   unfolding cleared
@@ -56,19 +78,10 @@ module _ (b : Node) (th : Thread) where
   pub clear-swap : {a : Action} {r : Turn} → th .action ≡ a → goes (to 10 th) ≡ clearedAs a b th → r ≡ goes (to 10 th) → r ≡ cleared b th
   clear-swap e l q = q ∙ (l ∙ as-cleared e)
 
-  pub clear-lookup : {r : Turn} → th .action ≡ Lookup → r ≡ says false → r ≡ cleared b th
+  pub clear-lookup : {r : Turn} → th .action ≡ Lookup → r ≡ says No → r ≡ cleared b th
   clear-lookup e q = q ∙ as-cleared e
 
-  module _ {z : ℕ} {r : Turn} (e : th .action ≡ Split) (s : z ≡ size (b .container)) where
-    pub clear-few : z < 2 → r ≡ says false → r ≡ cleared b th
-    unfolding ite
-    clear-few h q = q ∙ (rw (← s, lt-ltb _ _ h) at (as-cleared e))
-
-    pub clear-split : 2 ≤ z → r ≡ goes (to 10 th) → r ≡ cleared b th
-    unfolding ite
-    clear-split h q = q ∙ (rw (← s, le-ltb _ _ h) at (as-cleared e))
-
-  pub clear-top : {r : Turn} → th .action ≡ Join → b .parent ≡ Nil → r ≡ says false → r ≡ cleared b th
+  pub clear-top : {r : Turn} → th .action ≡ Join → b .parent ≡ Nil → r ≡ says Lacking → r ≡ cleared b th
   clear-top e l q = q ∙ (ap (λ (y : Link). joinUnder y th) (sym l) ∙ as-cleared e)
 
   pub clear-join : {p : ℕ} {r : Turn} → th .action ≡ Join → b .parent ≡ To p → r ≡ goes (toParent 20 p th) → r ≡ cleared b th
@@ -84,13 +97,19 @@ module _ (ns : Nodes) (root u : ℕ) (th : Thread) where
   unfolding step
   at-2 h e k q = q ∙ (rw (k, e) (placed (store ns root u) th h))
 
-  pub at-3 : {r : Turn} {b : Node} {d : Bool} → th .place ≡ 3 → d ≡ replaceable ns (th .base) → d ≡ true → b ≡ ns (th .base) → r ≡ cleared b th → r ≡ step (placeOf (th .place)) (store ns root u) th
-  unfolding step ite
-  at-3 h e k i q = q ∙ (rw i (rw (← e, k) at (placed (store ns root u) th h)))
+  -- 3: b is the base, f whether it lacks something, d whether it is replaceable
+  module _ {r : Turn} {b : Node} {f : Bool} (h : th .place ≡ 3) (i : b ≡ ns (th .base)) (j : f ≡ lacks b th) where
+    pub at-3-lacking : f ≡ true → r ≡ says Lacking → r ≡ step (placeOf (th .place)) (store ns root u) th
+    unfolding step ite
+    at-3-lacking l q = q ∙ (rw (← i, ← j, l) at (placed (store ns root u) th h))
 
-  pub at-3-lost : {r : Turn} {d : Bool} → th .place ≡ 3 → d ≡ replaceable ns (th .base) → d ≡ false → r ≡ lost th → r ≡ step (placeOf (th .place)) (store ns root u) th
-  unfolding step ite
-  at-3-lost h e k q = q ∙ (rw (← e, k) at (placed (store ns root u) th h))
+    pub at-3-free : {d : Bool} → f ≡ false → d ≡ replaceable ns (th .base) → d ≡ true → r ≡ cleared b th → r ≡ step (placeOf (th .place)) (store ns root u) th
+    unfolding step ite
+    at-3-free l e k q = q ∙ (rw (← i, ← j, l, ← e, k) at (placed (store ns root u) th h))
+
+    pub at-3-blocked : {d : Bool} → f ≡ false → d ≡ replaceable ns (th .base) → d ≡ false → r ≡ blocked th → r ≡ step (placeOf (th .place)) (store ns root u) th
+    unfolding step ite
+    at-3-blocked l e k q = q ∙ (rw (← i, ← j, l, ← e, k) at (placed (store ns root u) th h))
 
   pub before-10 : {r : Turn} → th .place < 10 → (th .place ≡ 1 → ⊥) → (th .place ≡ 2 → ⊥) → (th .place ≡ 3 → ⊥) → r ≡ goes th → r ≡ step (placeOf (th .place)) (store ns root u) th
   before-10 h f g k q = q ∙ unlisted (λ p. leb 10 p || (eqb p 1 || (eqb p 2 || eqb p 3))) refl (store ns root u) th (rw (lt-leb _ _ h, ne-eqb _ _ f, ne-eqb _ _ g, ne-eqb _ _ k))
@@ -130,10 +149,12 @@ module _ (ns : Nodes) (root u : ℕ) (th : Thread) where
 
 pub ruleset reach-cases = (reach-route, reach-lookup, reach-base)
 
-pub ruleset clear-cases = (clear-swap, clear-lookup, clear-few, clear-split, clear-top, clear-join)
+pub ruleset lacking-cases = (lacks-never, lacks-split, lacks-join)
 
-pub ruleset find-cases = (at-1, at-2, at-3, at-3-lost, before-10)
+pub ruleset clear-cases = (clear-swap, clear-lookup, clear-top, clear-join)
+
+pub ruleset find-cases = (at-1, at-2, at-3-lacking, at-3-free, at-3-blocked, before-10)
 
 pub ruleset inspect-cases = (blocked-again, blocked-main, blocked-neighbour)
 
-pub ruleset blocked-cases = (at-16-kill, at-16-late, before-20)
+pub ruleset unblock-cases = (at-16-kill, at-16-late, before-20)

@@ -20,11 +20,14 @@ use Rattle.definitions.specs.declared.Probe.{Probe}
 use Rattle.definitions.specs.declared.Probe.the-variants.{Hit, Next, Miss}
 use Rattle.definitions.specs.declared.Thread.{Thread}
 use Rattle.definitions.specs.declared.Effect.the-variants.{Swing, Base, Fork}
+use Rattle.definitions.specs.declared.Answer.{Answer}
+use Rattle.definitions.specs.declared.Answer.the-variants.{Yes}
 use Rattle.definitions.specs.declared.Turn.{Turn}
 use Rattle.definitions.specs.declared.Turn.the-variants.{Moves, Finishes, Full}
 use Rattle.definitions.specs.Nodes.{Nodes}
 use Rattle.definitions.specs.Bench.{store}
 use Rattle.definitions.specs.Places.{quarterOf, quarterNumber, swap, own, found, united, to, toNeighbour}
+use Rattle.definitions.specs.Answers.{said}
 use Rattle.definitions.specs.Steps.{goes, room, probe, replaced, replacedAs, lost, ownBy, foundBy, unitedBy, step}
 
 -- ---- a step by its number
@@ -128,13 +131,13 @@ module _ (v : Spot) (b : Node) (u : ℕ) (th : Thread) where
   pub split-full : {r : Turn} → th .action ≡ Split → 253 < u → r ≡ Full → r ≡ replaced v b u th
   split-full e h q = q ∙ (no-room 3 u _ (omega arith) ∙ as-replaced e)
 
-  pub inserted : {m : Bool} {c : ℕ} {r : Turn} → th .action ≡ Insert → u ≤ 255 → m ≡ has (b .container) (th .station) → c ≡ insert (b .container) (th .station) → r ≡ Finishes (Base v u Normal (b .parent) c 0) (not m) → r ≡ replaced v b u th
-  inserted e h i j q = q ∙ (rw (i, j) (has-room 1 u _ (omega arith) ∙ as-replaced e))
+  pub inserted : {m : Bool} {y : Answer} {c : ℕ} {r : Turn} → th .action ≡ Insert → u ≤ 255 → m ≡ has (b .container) (th .station) → y ≡ said (not m) → c ≡ insert (b .container) (th .station) → r ≡ Finishes (Base v u Normal (b .parent) c 0) y → r ≡ replaced v b u th
+  inserted e h i y j q = q ∙ (rw (y, i, j) (has-room 1 u _ (omega arith) ∙ as-replaced e))
 
-  pub removed : {m : Bool} {c : ℕ} {r : Turn} → th .action ≡ Remove → u ≤ 255 → m ≡ has (b .container) (th .station) → c ≡ remove (b .container) (th .station) → r ≡ Finishes (Base v u Normal (b .parent) c 0) m → r ≡ replaced v b u th
-  removed e h i j q = q ∙ (rw (i, j) (has-room 1 u _ (omega arith) ∙ as-replaced e))
+  pub removed : {m : Bool} {y : Answer} {c : ℕ} {r : Turn} → th .action ≡ Remove → u ≤ 255 → m ≡ has (b .container) (th .station) → y ≡ said m → c ≡ remove (b .container) (th .station) → r ≡ Finishes (Base v u Normal (b .parent) c 0) y → r ≡ replaced v b u th
+  removed e h i y j q = q ∙ (rw (y, i, j) (has-room 1 u _ (omega arith) ∙ as-replaced e))
 
-  pub parted : {hi lo k : ℕ} {r : Turn} → th .action ≡ Split → u ≤ 253 → hi ≡ upperHalf (b .container) → lo ≡ lowerHalf (b .container) → k ≡ least hi → r ≡ Finishes (Fork v u (u + 1) (u + 2) k lo hi) true → r ≡ replaced v b u th
+  pub parted : {hi lo k : ℕ} {r : Turn} → th .action ≡ Split → u ≤ 253 → hi ≡ upperHalf (b .container) → lo ≡ lowerHalf (b .container) → k ≡ least hi → r ≡ Finishes (Fork v u (u + 1) (u + 2) k lo hi) Yes → r ≡ replaced v b u th
   unfolding splitKey
   parted e h i j k q = q ∙ (rw (k, i, j) (has-room 3 u _ (omega arith) ∙ as-replaced e))
 

@@ -6,6 +6,7 @@ use Rattle.definitions.specs.declared.Link.the-variants.{Nil, To}
 use Rattle.definitions.specs.declared.Thread.{Thread}
 use Rattle.definitions.specs.declared.Effect.{Effect}
 use Rattle.definitions.specs.declared.Effect.the-variants.{Quiet}
+use Rattle.definitions.specs.declared.Answer.{Answer}
 use Rattle.definitions.specs.declared.Turn.{Turn}
 use Rattle.definitions.specs.declared.Turn.the-variants.{Moves, Finishes, Full}
 use Rattle.steps.specs.declared.Note.{Note}
@@ -33,7 +34,7 @@ abbrev pub written : Bool → Effect → Effect
 written false e = Quiet
 written true e = e
 
-abbrev pub turnBy : ℕ → Thread → Effect → Bool → Turn
+abbrev pub turnBy : ℕ → Thread → Effect → Answer → Turn
 turnBy zero th e a = Moves th e
 turnBy (suc zero) th e a = Finishes e a
 turnBy (suc (suc _)) th e a = Full

@@ -8,6 +8,7 @@ ghost use Rattle.definitions.specs.Steps.{ended, invalid, names, replacement, c
 ghost use Rattle.steps.specs.Decision.{turnOf};
 use super::Decision;
 use super::notes;
+use definitions::Answer;
 use definitions::Effect;
 use definitions::Link;
 use definitions::Node;
@@ -21,7 +22,7 @@ pub fn end(effect: Effect, th: Thread) -> Decision
 {
     let owner = th.owner;
     if owner {
-        notes::say_writing(th, effect, true)
+        notes::say_writing(th, effect, Answer::Yes)
     } else {
         notes::go_writing(th, 1, effect)
     }

@@ -8,6 +8,7 @@ ghost use Rattle.definitions.specs.Steps.{beside, hooked, isNil, marking, toppe
 ghost use Rattle.steps.specs.Decision.{turnOf};
 use super::Decision;
 use super::notes;
+use definitions::Answer;
 use definitions::Effect;
 use definitions::Kind;
 use definitions::Link;
@@ -56,7 +57,7 @@ pub fn hook(cells: &[u8; 4096], sets: &[u64; 256], used: u16, th: Thread) -> Dec
             },
         );
     }
-    notes::say(th, false)
+    notes::say(th, Answer::Lost)
 }
 
 // 20 to 25.
@@ -79,7 +80,7 @@ pub fn approach(cells: &[u8; 4096], sets: &[u64; 256], root: u8, used: u16, th: 
             if p.right == th.base {
                 notes::go_right(th, 22)
             } else {
-                notes::say(th, false)
+                notes::say(th, Answer::Lost)
             }
         }
         22 => {
@@ -96,7 +97,7 @@ pub fn approach(cells: &[u8; 4096], sets: &[u64; 256], root: u8, used: u16, th: 
             if nodes::is_replaceable(cells, sets, th.found) {
                 notes::go(th, 25)
             } else {
-                notes::say(th, false)
+                notes::say(th, Answer::NeighbourBlocked)
             }
         }
         _ => hook(cells, sets, used, th),
@@ -286,7 +287,7 @@ pub fn prepare(cells: &[u8; 4096], sets: &[u64; 256], root: u8, used: u16, th: T
                 main: th.main,
                 stage: Stage::Aborted,
             },
-            false,
+            Answer::StoodDown,
         ),
         _ => notes::stay(th),
     }

@@ -6,6 +6,7 @@ ghost use Rattle.definitions.specs.Bench.{store};
 ghost use Rattle.definitions.specs.Places.{placeOf};
 ghost use Rattle.definitions.specs.Steps.{step};
 ghost use Rattle.steps.specs.Decision.{turnOf};
+use definitions::Answer;
 use definitions::Effect;
 use definitions::Thread;
 
@@ -44,7 +45,7 @@ pub struct Decision {
     pub note: Note,
     pub value: u8,
     pub writes: bool,
-    pub answer: bool,
+    pub answer: Answer,
 }
 
 // The place decides. A run takes the three parts apart (crate run): a part reads few of the thread's notes. `search::find` is the
@@ -79,7 +80,7 @@ pub fn decide_join(
 {
     let place = th.place;
     match place {
-        0..=19 => search::blocked(cells, sets, root, used, th),
+        0..=19 => search::unblock(cells, sets, root, used, th),
         20..=25 => join::approach(cells, sets, root, used, th),
         26..=29 => {
             let q = swap::quarter(place - 26);

@@ -5,10 +5,12 @@ ghost use mathlib.Core.Bool.{true, false};
 ghost use Rattle.definitions.specs.declared.Link.the-variants.{Nil, To};
 ghost use Rattle.definitions.specs.declared.Turn.the-variants.{Moves, Finishes, Full};
 ghost use Rattle.definitions.specs.Places.{to, toRoute, toBase, toParent, toSide, toFound, toNeighbour, toMain, toGrandparent, toOther};
+ghost use Rattle.definitions.specs.Answers.{said};
 ghost use Rattle.definitions.specs.Steps.{goes, says};
 ghost use Rattle.steps.specs.Decision.{turnOf};
 use super::Decision;
 use super::Note;
+use definitions::Answer;
 use definitions::Effect;
 use definitions::Thread;
 
@@ -25,7 +27,7 @@ pub fn stay(th: Thread) -> Decision
         note: Note::Nothing,
         value: 0,
         writes: false,
-        answer: false,
+        answer: Answer::No,
     }
 }
 
@@ -40,7 +42,7 @@ pub fn go(th: Thread, place: u8) -> Decision
         note: Note::Nothing,
         value: 0,
         writes: false,
-        answer: false,
+        answer: Answer::No,
     }
 }
 
@@ -55,7 +57,7 @@ pub fn go_route(th: Thread, place: u8, x: u8) -> Decision
         note: Note::Route,
         value: x,
         writes: false,
-        answer: false,
+        answer: Answer::No,
     }
 }
 
@@ -70,7 +72,7 @@ pub fn go_base(th: Thread, place: u8, x: u8) -> Decision
         note: Note::Base,
         value: x,
         writes: false,
-        answer: false,
+        answer: Answer::No,
     }
 }
 
@@ -85,7 +87,7 @@ pub fn go_parent(th: Thread, place: u8, x: u8) -> Decision
         note: Note::Parent,
         value: x,
         writes: false,
-        answer: false,
+        answer: Answer::No,
     }
 }
 
@@ -100,7 +102,7 @@ pub fn go_left(th: Thread, place: u8) -> Decision
         note: Note::Left,
         value: 0,
         writes: false,
-        answer: false,
+        answer: Answer::No,
     }
 }
 
@@ -115,7 +117,7 @@ pub fn go_right(th: Thread, place: u8) -> Decision
         note: Note::Right,
         value: 0,
         writes: false,
-        answer: false,
+        answer: Answer::No,
     }
 }
 
@@ -130,7 +132,7 @@ pub fn go_found(th: Thread, place: u8, x: u8) -> Decision
         note: Note::Found,
         value: x,
         writes: false,
-        answer: false,
+        answer: Answer::No,
     }
 }
 
@@ -145,7 +147,7 @@ pub fn go_helping(th: Thread, place: u8, x: u8) -> Decision
         note: Note::Helped,
         value: x,
         writes: false,
-        answer: false,
+        answer: Answer::No,
     }
 }
 
@@ -160,7 +162,7 @@ pub fn go_topmost(th: Thread, place: u8) -> Decision
         note: Note::Topmost,
         value: 0,
         writes: false,
-        answer: false,
+        answer: Answer::No,
     }
 }
 
@@ -175,7 +177,7 @@ pub fn go_grandparent(th: Thread, place: u8, x: u8) -> Decision
         note: Note::Grandparent,
         value: x,
         writes: false,
-        answer: false,
+        answer: Answer::No,
     }
 }
 
@@ -190,12 +192,12 @@ pub fn go_other(th: Thread, place: u8, x: u8) -> Decision
         note: Note::Other,
         value: x,
         writes: false,
-        answer: false,
+        answer: Answer::No,
     }
 }
 
 // The operation finishes.
-pub fn say(th: Thread, answer: bool) -> Decision
+pub fn say(th: Thread, answer: Answer) -> Decision
     ensures { λ r. ⌜ turnOf th r ≡ says answer ⌝ }
 {
     Decision {
@@ -209,6 +211,13 @@ pub fn say(th: Thread, answer: bool) -> Decision
     }
 }
 
+// The answer of a lookup, an insert or a remove.
+pub fn yes_or_no(yes: bool) -> Answer
+    ensures { λ r. ⌜ r ≡ said yes ⌝ }
+{
+    if yes { Answer::Yes } else { Answer::No }
+}
+
 // Numbers have run out.
 pub fn full(th: Thread) -> Decision
     ensures { λ r. ⌜ turnOf th r ≡ Full ⌝ }
@@ -220,7 +229,7 @@ pub fn full(th: Thread) -> Decision
         note: Note::Nothing,
         value: 0,
         writes: false,
-        answer: false,
+        answer: Answer::No,
     }
 }
 
@@ -237,7 +246,7 @@ pub fn go_writing(th: Thread, place: u8, effect: Effect) -> Decision
         note: Note::Nothing,
         value: 0,
         writes: true,
-        answer: false,
+        answer: Answer::No,
     }
 }
 
@@ -252,7 +261,7 @@ pub fn take_main(th: Thread, place: u8, x: u8, effect: Effect) -> Decision
         note: Note::Owned,
         value: x,
         writes: true,
-        answer: false,
+        answer: Answer::No,
     }
 }
 
@@ -267,12 +276,12 @@ pub fn take_neighbour(th: Thread, place: u8, x: u8, effect: Effect) -> Decision
         note: Note::Neighbour,
         value: x,
         writes: true,
-        answer: false,
+        answer: Answer::No,
     }
 }
 
 // The operation finishes.
-pub fn say_writing(th: Thread, effect: Effect, answer: bool) -> Decision
+pub fn say_writing(th: Thread, effect: Effect, answer: Answer) -> Decision
     ensures { λ r. ⌜ turnOf th r ≡ Finishes effect answer ⌝ }
 {
     Decision {

@@ -4,11 +4,12 @@ ghost use Prim.Native.Nat.{_<_, _≤_};
 ghost use Rattle.nodes.specs.Cells.{table};
 ghost use Rattle.definitions.specs.Bench.{store};
 ghost use Rattle.definitions.specs.Places.{placeOf};
-ghost use Rattle.definitions.specs.Steps.{reached, lost, cleared, helpAs, step};
+ghost use Rattle.definitions.specs.Steps.{reached, blocked, lacks, cleared, lost, helpAs, step};
 ghost use Rattle.steps.specs.Decision.{turnOf};
 use super::Decision;
 use super::notes;
 use definitions::Action;
+use definitions::Answer;
 use definitions::Effect;
 use definitions::Kind;
 use definitions::Link;
@@ -30,7 +31,8 @@ pub fn reach(cells: &[u8; 4096], sets: &[u64; 256], th: Thread, x: u8) -> Decisi
     match action {
         Action::Lookup => {
             let held = container::contains(n.container, th.station);
-            notes::say(th, held)
+            let answer = notes::yes_or_no(held);
+            notes::say(th, answer)
         }
         Action::Insert => next,
         Action::Remove => next,
@@ -39,18 +41,56 @@ pub fn reach(cells: &[u8; 4096], sets: &[u64; 256], th: Thread, x: u8) -> Decisi
     }
 }
 
-// A base that is not replaceable, or a swap that failed: updates go to 15, others finish no.
+// A swap that failed: updates go to 15, others finish no.
 pub fn lose(th: Thread) -> Decision
     ensures { λ r. ⌜ turnOf th r ≡ lost th ⌝ }
 {
     let action = th.action;
     let next = notes::go(th, 15);
     match action {
-        Action::Lookup => notes::say(th, false),
+        Action::Lookup => notes::say(th, Answer::No),
         Action::Insert => next,
         Action::Remove => next,
-        Action::Split => notes::say(th, false),
-        Action::Join => notes::say(th, false),
+        Action::Split => notes::say(th, Answer::Lost),
+        Action::Join => notes::say(th, Answer::Lost),
+    }
+}
+
+// 3: too few stations for a split, or no parent for a join.
+pub fn lacking(b: Node, th: Thread) -> bool
+    ensures { λ r. ⌜ r ≡ lacks b th ⌝ }
+{
+    let action = th.action;
+    match action {
+        Action::Lookup => false,
+        Action::Insert => false,
+        Action::Remove => false,
+        Action::Split => {
+            let size = container::count(b.container);
+            size < 2
+        }
+        Action::Join => {
+            let parent = b.parent;
+            match parent {
+                Link::Nil => true,
+                Link::To(_) => false,
+            }
+        }
+    }
+}
+
+// 3: the base is not replaceable: updates go to 15, others finish no.
+pub fn block(th: Thread) -> Decision
+    ensures { λ r. ⌜ turnOf th r ≡ blocked th ⌝ }
+{
+    let action = th.action;
+    let next = notes::go(th, 15);
+    match action {
+        Action::Lookup => notes::say(th, Answer::No),
+        Action::Insert => next,
+        Action::Remove => next,
+        Action::Split => notes::say(th, Answer::Blocked),
+        Action::Join => notes::say(th, Answer::Blocked),
     }
 }
 
@@ -61,21 +101,14 @@ pub fn clear(b: Node, th: Thread) -> Decision
     let action = th.action;
     let next = notes::go(th, 10);
     match action {
-        Action::Lookup => notes::say(th, false),
+        Action::Lookup => notes::say(th, Answer::No),
         Action::Insert => next,
         Action::Remove => next,
-        Action::Split => {
-            let size = container::count(b.container);
-            if size < 2 {
-                notes::say(th, false)
-            } else {
-                next
-            }
-        }
+        Action::Split => next,
         Action::Join => {
             let parent = b.parent;
             match parent {
-                Link::Nil => notes::say(th, false),
+                Link::Nil => notes::say(th, Answer::Lacking),
                 Link::To(p) => { notes::go_parent(th, 20, p) }
             }
         }
@@ -96,11 +129,13 @@ pub fn find(cells: &[u8; 4096], sets: &[u64; 256], root: u8, used: u16, th: Thre
             reach(cells, sets, th, x)
         }
         3 => {
-            if nodes::is_replaceable(cells, sets, th.base) {
-                let b = nodes::node_at(cells, sets, th.base);
+            let b = nodes::node_at(cells, sets, th.base);
+            if lacking(b, th) {
+                notes::say(th, Answer::Lacking)
+            } else if nodes::is_replaceable(cells, sets, th.base) {
                 clear(b, th)
             } else {
-                lose(th)
+                block(th)
             }
         }
         _ => notes::stay(th),
@@ -143,7 +178,7 @@ pub fn inspect(cells: &[u8; 4096], sets: &[u64; 256], root: u8, used: u16, th: T
 }
 
 // 15, 16.
-pub fn blocked(cells: &[u8; 4096], sets: &[u64; 256], root: u8, used: u16, th: Thread) -> Decision
+pub fn unblock(cells: &[u8; 4096], sets: &[u64; 256], root: u8, used: u16, th: Thread) -> Decision
     requires { ⌜ (14 ≤ th .place) × (th .place < 20) ⌝ }
     ensures { λ r. ⌜ turnOf th r ≡ step (placeOf (th .place)) (store (table (now (cells .entry)) (now (sets .entry))) root used) th ⌝ }
 {

@@ -10,6 +10,7 @@ use super::Decision;
 use super::notes;
 use super::search;
 use definitions::Action;
+use definitions::Answer;
 use definitions::Effect;
 use definitions::Kind;
 use definitions::Link;
@@ -117,6 +118,7 @@ pub fn replace(spot: Spot, b: Node, used: u16, th: Thread) -> Decision
                 return notes::full(th);
             }
             let held = container::contains(b.container, th.station);
+            let answer = notes::yes_or_no(!held);
             let c = container::with(b.container, th.station);
             notes::say_writing(
                 th,
@@ -128,7 +130,7 @@ pub fn replace(spot: Spot, b: Node, used: u16, th: Thread) -> Decision
                     container: c,
                     main: 0,
                 },
-                !held,
+                answer,
             )
         }
         Action::Remove => {
@@ -136,6 +138,7 @@ pub fn replace(spot: Spot, b: Node, used: u16, th: Thread) -> Decision
                 return notes::full(th);
             }
             let held = container::contains(b.container, th.station);
+            let answer = notes::yes_or_no(held);
             let c = container::without(b.container, th.station);
             notes::say_writing(
                 th,
@@ -147,7 +150,7 @@ pub fn replace(spot: Spot, b: Node, used: u16, th: Thread) -> Decision
                     container: c,
                     main: 0,
                 },
-                held,
+                answer,
             )
         }
         Action::Split => {
@@ -169,7 +172,7 @@ pub fn replace(spot: Spot, b: Node, used: u16, th: Thread) -> Decision
                     low: low,
                     high: high,
                 },
-                true,
+                Answer::Yes,
             )
         }
         Action::Join => notes::full(th),

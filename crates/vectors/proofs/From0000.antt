@@ -6,7 +6,7 @@ use lib.Count.{onesIn, trailingZeros}
 use Rattle.container.specs.Choice.{ite}
 use Rattle.container.specs.Container.{has, insert, remove, union, cut, below, from, size, least, dropLeast, upperHalf, lowerHalf, splitKey}
 use Rattle.definitions.specs.Nodes.{replaceable}
-use Rattle.definitions.specs.Steps.{reached, lost, cleared, probe, replaced, beside, step}
+use Rattle.definitions.specs.Steps.{reached, blocked, lacks, cleared, lost, probe, replaced, beside, step}
 use Rattle.definitions.specs.Records.{taken, stepped, started, recordStep}
 use Rattle.definitions.specs.Schedule.{countOf, fileRefusal}
 use Rattle.definitions.specs.Run.{runRefusal}
@@ -64,7 +64,7 @@ text0000 =
     ∷ []
 
 computed0000 : quickPrinted (bytesOf file0000) ≡ textOf text0000
-unfolding decimal stationsTo stationsText routeLine baseLine setLine listRefusal replaceable actionWord firstLine lastLine taken stepped started recordStep runRefusal countOf fileRefusal reached lost cleared probe replaced beside step ite has insert remove union cut below from size least dropLeast upperHalf lowerHalf splitKey onesIn trailingZeros
+unfolding decimal stationsTo stationsText routeLine baseLine setLine listRefusal replaceable actionWord firstLine lastLine taken stepped started recordStep runRefusal countOf fileRefusal reached blocked lacks cleared lost probe replaced beside step ite has insert remove union cut below from size least dropLeast upperHalf lowerHalf splitKey onesIn trailingZeros
 computed0000 = refl
 
 pub printed0000 : printed (bytesOf file0000) ≡ textOf text0000
@@ -116,7 +116,7 @@ text0001 =
     ∷ []
 
 computed0001 : quickPrinted (bytesOf file0001) ≡ textOf text0001
-unfolding decimal stationsTo stationsText routeLine baseLine setLine listRefusal replaceable actionWord firstLine lastLine taken stepped started recordStep runRefusal countOf fileRefusal reached lost cleared probe replaced beside step ite has insert remove union cut below from size least dropLeast upperHalf lowerHalf splitKey onesIn trailingZeros
+unfolding decimal stationsTo stationsText routeLine baseLine setLine listRefusal replaceable actionWord firstLine lastLine taken stepped started recordStep runRefusal countOf fileRefusal reached blocked lacks cleared lost probe replaced beside step ite has insert remove union cut below from size least dropLeast upperHalf lowerHalf splitKey onesIn trailingZeros
 computed0001 = refl
 
 pub printed0001 : printed (bytesOf file0001) ≡ textOf text0001
@@ -158,7 +158,7 @@ text0002 =
     ∷ []
 
 computed0002 : quickPrinted (bytesOf file0002) ≡ textOf text0002
-unfolding decimal stationsTo stationsText routeLine baseLine setLine listRefusal replaceable actionWord firstLine lastLine taken stepped started recordStep runRefusal countOf fileRefusal reached lost cleared probe replaced beside step ite has insert remove union cut below from size least dropLeast upperHalf lowerHalf splitKey onesIn trailingZeros
+unfolding decimal stationsTo stationsText routeLine baseLine setLine listRefusal replaceable actionWord firstLine lastLine taken stepped started recordStep runRefusal countOf fileRefusal reached blocked lacks cleared lost probe replaced beside step ite has insert remove union cut below from size least dropLeast upperHalf lowerHalf splitKey onesIn trailingZeros
 computed0002 = refl
 
 pub printed0002 : printed (bytesOf file0002) ≡ textOf text0002
@@ -198,7 +198,7 @@ text0003 =
     ∷ []
 
 computed0003 : quickPrinted (bytesOf file0003) ≡ textOf text0003
-unfolding decimal stationsTo stationsText routeLine baseLine setLine listRefusal replaceable actionWord firstLine lastLine taken stepped started recordStep runRefusal countOf fileRefusal reached lost cleared probe replaced beside step ite has insert remove union cut below from size least dropLeast upperHalf lowerHalf splitKey onesIn trailingZeros
+unfolding decimal stationsTo stationsText routeLine baseLine setLine listRefusal replaceable actionWord firstLine lastLine taken stepped started recordStep runRefusal countOf fileRefusal reached blocked lacks cleared lost probe replaced beside step ite has insert remove union cut below from size least dropLeast upperHalf lowerHalf splitKey onesIn trailingZeros
 computed0003 = refl
 
 pub printed0003 : printed (bytesOf file0003) ≡ textOf text0003
@@ -244,7 +244,7 @@ text0004 =
     ∷ []
 
 computed0004 : quickPrinted (bytesOf file0004) ≡ textOf text0004
-unfolding decimal stationsTo stationsText routeLine baseLine setLine listRefusal replaceable actionWord firstLine lastLine taken stepped started recordStep runRefusal countOf fileRefusal reached lost cleared probe replaced beside step ite has insert remove union cut below from size least dropLeast upperHalf lowerHalf splitKey onesIn trailingZeros
+unfolding decimal stationsTo stationsText routeLine baseLine setLine listRefusal replaceable actionWord firstLine lastLine taken stepped started recordStep runRefusal countOf fileRefusal reached blocked lacks cleared lost probe replaced beside step ite has insert remove union cut below from size least dropLeast upperHalf lowerHalf splitKey onesIn trailingZeros
 computed0004 = refl
 
 pub printed0004 : printed (bytesOf file0004) ≡ textOf text0004
@@ -290,7 +290,7 @@ text0005 =
     ∷ []
 
 computed0005 : quickPrinted (bytesOf file0005) ≡ textOf text0005
-unfolding decimal stationsTo stationsText routeLine baseLine setLine listRefusal replaceable actionWord firstLine lastLine taken stepped started recordStep runRefusal countOf fileRefusal reached lost cleared probe replaced beside step ite has insert remove union cut below from size least dropLeast upperHalf lowerHalf splitKey onesIn trailingZeros
+unfolding decimal stationsTo stationsText routeLine baseLine setLine listRefusal replaceable actionWord firstLine lastLine taken stepped started recordStep runRefusal countOf fileRefusal reached blocked lacks cleared lost probe replaced beside step ite has insert remove union cut below from size least dropLeast upperHalf lowerHalf splitKey onesIn trailingZeros
 computed0005 = refl
 
 pub printed0005 : printed (bytesOf file0005) ≡ textOf text0005

@@ -6,7 +6,7 @@ use lib.Count.{onesIn, trailingZeros}
 use Rattle.container.specs.Choice.{ite}
 use Rattle.container.specs.Container.{has, insert, remove, union, cut, below, from, size, least, dropLeast, upperHalf, lowerHalf, splitKey}
 use Rattle.definitions.specs.Nodes.{replaceable}
-use Rattle.definitions.specs.Steps.{reached, lost, cleared, probe, replaced, beside, step}
+use Rattle.definitions.specs.Steps.{reached, blocked, lacks, cleared, lost, probe, replaced, beside, step}
 use Rattle.definitions.specs.Records.{taken, stepped, started, recordStep}
 use Rattle.definitions.specs.Schedule.{countOf, fileRefusal}
 use Rattle.definitions.specs.Run.{runRefusal}
@@ -192,7 +192,7 @@ text0009 =
     ∷ []
 
 computed0009 : quickPrinted (bytesOf file0009) ≡ textOf text0009
-unfolding decimal stationsTo stationsText routeLine baseLine setLine listRefusal replaceable actionWord firstLine lastLine taken stepped started recordStep runRefusal countOf fileRefusal reached lost cleared probe replaced beside step ite has insert remove union cut below from size least dropLeast upperHalf lowerHalf splitKey onesIn trailingZeros
+unfolding decimal stationsTo stationsText routeLine baseLine setLine listRefusal replaceable actionWord firstLine lastLine taken stepped started recordStep runRefusal countOf fileRefusal reached blocked lacks cleared lost probe replaced beside step ite has insert remove union cut below from size least dropLeast upperHalf lowerHalf splitKey onesIn trailingZeros
 computed0009 = refl
 
 pub printed0009 : printed (bytesOf file0009) ≡ textOf text0009
@@ -239,7 +239,7 @@ text0010 =
     ∷ []
 
 computed0010 : quickPrinted (bytesOf file0010) ≡ textOf text0010
-unfolding decimal stationsTo stationsText routeLine baseLine setLine listRefusal replaceable actionWord firstLine lastLine taken stepped started recordStep runRefusal countOf fileRefusal reached lost cleared probe replaced beside step ite has insert remove union cut below from size least dropLeast upperHalf lowerHalf splitKey onesIn trailingZeros
+unfolding decimal stationsTo stationsText routeLine baseLine setLine listRefusal replaceable actionWord firstLine lastLine taken stepped started recordStep runRefusal countOf fileRefusal reached blocked lacks cleared lost probe replaced beside step ite has insert remove union cut below from size least dropLeast upperHalf lowerHalf splitKey onesIn trailingZeros
 computed0010 = refl
 
 pub printed0010 : printed (bytesOf file0010) ≡ textOf text0010
@@ -280,7 +280,7 @@ text0011 =
     ∷ []
 
 computed0011 : quickPrinted (bytesOf file0011) ≡ textOf text0011
-unfolding decimal stationsTo stationsText routeLine baseLine setLine listRefusal replaceable actionWord firstLine lastLine taken stepped started recordStep runRefusal countOf fileRefusal reached lost cleared probe replaced beside step ite has insert remove union cut below from size least dropLeast upperHalf lowerHalf splitKey onesIn trailingZeros
+unfolding decimal stationsTo stationsText routeLine baseLine setLine listRefusal replaceable actionWord firstLine lastLine taken stepped started recordStep runRefusal countOf fileRefusal reached blocked lacks cleared lost probe replaced beside step ite has insert remove union cut below from size least dropLeast upperHalf lowerHalf splitKey onesIn trailingZeros
 computed0011 = refl
 
 pub printed0011 : printed (bytesOf file0011) ≡ textOf text0011

@@ -6,7 +6,7 @@ use lib.Count.{onesIn, trailingZeros}
 use Rattle.container.specs.Choice.{ite}
 use Rattle.container.specs.Container.{has, insert, remove, union, cut, below, from, size, least, dropLeast, upperHalf, lowerHalf, splitKey}
 use Rattle.definitions.specs.Nodes.{replaceable}
-use Rattle.definitions.specs.Steps.{reached, lost, cleared, probe, replaced, beside, step}
+use Rattle.definitions.specs.Steps.{reached, blocked, lacks, cleared, lost, probe, replaced, beside, step}
 use Rattle.definitions.specs.Records.{taken, stepped, started, recordStep}
 use Rattle.definitions.specs.Schedule.{countOf, fileRefusal}
 use Rattle.definitions.specs.Run.{runRefusal}
@@ -40,7 +40,7 @@ text0046 =
     ∷ []
 
 computed0046 : quickPrinted (bytesOf file0046) ≡ textOf text0046
-unfolding decimal stationsTo stationsText routeLine baseLine setLine listRefusal replaceable actionWord firstLine lastLine taken stepped started recordStep runRefusal countOf fileRefusal reached lost cleared probe replaced beside step ite has insert remove union cut below from size least dropLeast upperHalf lowerHalf splitKey onesIn trailingZeros
+unfolding decimal stationsTo stationsText routeLine baseLine setLine listRefusal replaceable actionWord firstLine lastLine taken stepped started recordStep runRefusal countOf fileRefusal reached blocked lacks cleared lost probe replaced beside step ite has insert remove union cut below from size least dropLeast upperHalf lowerHalf splitKey onesIn trailingZeros
 computed0046 = refl
 
 pub printed0046 : printed (bytesOf file0046) ≡ textOf text0046
@@ -90,7 +90,7 @@ text0047 =
     ∷ []
 
 computed0047 : quickPrinted (bytesOf file0047) ≡ textOf text0047
-unfolding decimal stationsTo stationsText routeLine baseLine setLine listRefusal replaceable actionWord firstLine lastLine taken stepped started recordStep runRefusal countOf fileRefusal reached lost cleared probe replaced beside step ite has insert remove union cut below from size least dropLeast upperHalf lowerHalf splitKey onesIn trailingZeros
+unfolding decimal stationsTo stationsText routeLine baseLine setLine listRefusal replaceable actionWord firstLine lastLine taken stepped started recordStep runRefusal countOf fileRefusal reached blocked lacks cleared lost probe replaced beside step ite has insert remove union cut below from size least dropLeast upperHalf lowerHalf splitKey onesIn trailingZeros
 computed0047 = refl
 
 pub printed0047 : printed (bytesOf file0047) ≡ textOf text0047
@@ -118,7 +118,7 @@ text0048 =
     ∷ []
 
 computed0048 : quickPrinted (bytesOf file0048) ≡ textOf text0048
-unfolding decimal stationsTo stationsText routeLine baseLine setLine listRefusal replaceable actionWord firstLine lastLine taken stepped started recordStep runRefusal countOf fileRefusal reached lost cleared probe replaced beside step ite has insert remove union cut below from size least dropLeast upperHalf lowerHalf splitKey onesIn trailingZeros
+unfolding decimal stationsTo stationsText routeLine baseLine setLine listRefusal replaceable actionWord firstLine lastLine taken stepped started recordStep runRefusal countOf fileRefusal reached blocked lacks cleared lost probe replaced beside step ite has insert remove union cut below from size least dropLeast upperHalf lowerHalf splitKey onesIn trailingZeros
 computed0048 = refl
 
 pub printed0048 : printed (bytesOf file0048) ≡ textOf text0048
@@ -266,7 +266,7 @@ text0049 =
     ∷ []
 
 computed0049 : quickPrinted (bytesOf file0049) ≡ textOf text0049
-unfolding decimal stationsTo stationsText routeLine baseLine setLine listRefusal replaceable actionWord firstLine lastLine taken stepped started recordStep runRefusal countOf fileRefusal reached lost cleared probe replaced beside step ite has insert remove union cut below from size least dropLeast upperHalf lowerHalf splitKey onesIn trailingZeros
+unfolding decimal stationsTo stationsText routeLine baseLine setLine listRefusal replaceable actionWord firstLine lastLine taken stepped started recordStep runRefusal countOf fileRefusal reached blocked lacks cleared lost probe replaced beside step ite has insert remove union cut below from size least dropLeast upperHalf lowerHalf splitKey onesIn trailingZeros
 computed0049 = refl
 
 pub printed0049 : printed (bytesOf file0049) ≡ textOf text0049
@@ -311,7 +311,7 @@ text0050 =
     ∷ []
 
 computed0050 : quickPrinted (bytesOf file0050) ≡ textOf text0050
-unfolding decimal stationsTo stationsText routeLine baseLine setLine listRefusal replaceable actionWord firstLine lastLine taken stepped started recordStep runRefusal countOf fileRefusal reached lost cleared probe replaced beside step ite has insert remove union cut below from size least dropLeast upperHalf lowerHalf splitKey onesIn trailingZeros
+unfolding decimal stationsTo stationsText routeLine baseLine setLine listRefusal replaceable actionWord firstLine lastLine taken stepped started recordStep runRefusal countOf fileRefusal reached blocked lacks cleared lost probe replaced beside step ite has insert remove union cut below from size least dropLeast upperHalf lowerHalf splitKey onesIn trailingZeros
 computed0050 = refl
 
 pub printed0050 : printed (bytesOf file0050) ≡ textOf text0050

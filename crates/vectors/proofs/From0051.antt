@@ -6,7 +6,7 @@ use lib.Count.{onesIn, trailingZeros}
 use Rattle.container.specs.Choice.{ite}
 use Rattle.container.specs.Container.{has, insert, remove, union, cut, below, from, size, least, dropLeast, upperHalf, lowerHalf, splitKey}
 use Rattle.definitions.specs.Nodes.{replaceable}
-use Rattle.definitions.specs.Steps.{reached, lost, cleared, probe, replaced, beside, step}
+use Rattle.definitions.specs.Steps.{reached, blocked, lacks, cleared, lost, probe, replaced, beside, step}
 use Rattle.definitions.specs.Records.{taken, stepped, started, recordStep}
 use Rattle.definitions.specs.Schedule.{countOf, fileRefusal}
 use Rattle.definitions.specs.Run.{runRefusal}
@@ -50,7 +50,7 @@ text0051 =
     ∷ []
 
 computed0051 : quickPrinted (bytesOf file0051) ≡ textOf text0051
-unfolding decimal stationsTo stationsText routeLine baseLine setLine listRefusal replaceable actionWord firstLine lastLine taken stepped started recordStep runRefusal countOf fileRefusal reached lost cleared probe replaced beside step ite has insert remove union cut below from size least dropLeast upperHalf lowerHalf splitKey onesIn trailingZeros
+unfolding decimal stationsTo stationsText routeLine baseLine setLine listRefusal replaceable actionWord firstLine lastLine taken stepped started recordStep runRefusal countOf fileRefusal reached blocked lacks cleared lost probe replaced beside step ite has insert remove union cut below from size least dropLeast upperHalf lowerHalf splitKey onesIn trailingZeros
 computed0051 = refl
 
 pub printed0051 : printed (bytesOf file0051) ≡ textOf text0051
@@ -82,7 +82,7 @@ text0052 =
     ∷ []
 
 computed0052 : quickPrinted (bytesOf file0052) ≡ textOf text0052
-unfolding decimal stationsTo stationsText routeLine baseLine setLine listRefusal replaceable actionWord firstLine lastLine taken stepped started recordStep runRefusal countOf fileRefusal reached lost cleared probe replaced beside step ite has insert remove union cut below from size least dropLeast upperHalf lowerHalf splitKey onesIn trailingZeros
+unfolding decimal stationsTo stationsText routeLine baseLine setLine listRefusal replaceable actionWord firstLine lastLine taken stepped started recordStep runRefusal countOf fileRefusal reached blocked lacks cleared lost probe replaced beside step ite has insert remove union cut below from size least dropLeast upperHalf lowerHalf splitKey onesIn trailingZeros
 computed0052 = refl
 
 pub printed0052 : printed (bytesOf file0052) ≡ textOf text0052
@@ -118,7 +118,7 @@ text0053 =
     ∷ []
 
 computed0053 : quickPrinted (bytesOf file0053) ≡ textOf text0053
-unfolding decimal stationsTo stationsText routeLine baseLine setLine listRefusal replaceable actionWord firstLine lastLine taken stepped started recordStep runRefusal countOf fileRefusal reached lost cleared probe replaced beside step ite has insert remove union cut below from size least dropLeast upperHalf lowerHalf splitKey onesIn trailingZeros
+unfolding decimal stationsTo stationsText routeLine baseLine setLine listRefusal replaceable actionWord firstLine lastLine taken stepped started recordStep runRefusal countOf fileRefusal reached blocked lacks cleared lost probe replaced beside step ite has insert remove union cut below from size least dropLeast upperHalf lowerHalf splitKey onesIn trailingZeros
 computed0053 = refl
 
 pub printed0053 : printed (bytesOf file0053) ≡ textOf text0053
@@ -157,7 +157,7 @@ text0054 =
     ∷ []
 
 computed0054 : quickPrinted (bytesOf file0054) ≡ textOf text0054
-unfolding decimal stationsTo stationsText routeLine baseLine setLine listRefusal replaceable actionWord firstLine lastLine taken stepped started recordStep runRefusal countOf fileRefusal reached lost cleared probe replaced beside step ite has insert remove union cut below from size least dropLeast upperHalf lowerHalf splitKey onesIn trailingZeros
+unfolding decimal stationsTo stationsText routeLine baseLine setLine listRefusal replaceable actionWord firstLine lastLine taken stepped started recordStep runRefusal countOf fileRefusal reached blocked lacks cleared lost probe replaced beside step ite has insert remove union cut below from size least dropLeast upperHalf lowerHalf splitKey onesIn trailingZeros
 computed0054 = refl
 
 pub printed0054 : printed (bytesOf file0054) ≡ textOf text0054
@@ -187,7 +187,7 @@ text0055 =
     ∷ []
 
 computed0055 : quickPrinted (bytesOf file0055) ≡ textOf text0055
-unfolding decimal stationsTo stationsText routeLine baseLine setLine listRefusal replaceable actionWord firstLine lastLine taken stepped started recordStep runRefusal countOf fileRefusal reached lost cleared probe replaced beside step ite has insert remove union cut below from size least dropLeast upperHalf lowerHalf splitKey onesIn trailingZeros
+unfolding decimal stationsTo stationsText routeLine baseLine setLine listRefusal replaceable actionWord firstLine lastLine taken stepped started recordStep runRefusal countOf fileRefusal reached blocked lacks cleared lost probe replaced beside step ite has insert remove union cut below from size least dropLeast upperHalf lowerHalf splitKey onesIn trailingZeros
 computed0055 = refl
 
 pub printed0055 : printed (bytesOf file0055) ≡ textOf text0055
@@ -235,7 +235,7 @@ text0056 =
     ∷ []
 
 computed0056 : quickPrinted (bytesOf file0056) ≡ textOf text0056
-unfolding decimal stationsTo stationsText routeLine baseLine setLine listRefusal replaceable actionWord firstLine lastLine taken stepped started recordStep runRefusal countOf fileRefusal reached lost cleared probe replaced beside step ite has insert remove union cut below from size least dropLeast upperHalf lowerHalf splitKey onesIn trailingZeros
+unfolding decimal stationsTo stationsText routeLine baseLine setLine listRefusal replaceable actionWord firstLine lastLine taken stepped started recordStep runRefusal countOf fileRefusal reached blocked lacks cleared lost probe replaced beside step ite has insert remove union cut below from size least dropLeast upperHalf lowerHalf splitKey onesIn trailingZeros
 computed0056 = refl
 
 pub printed0056 : printed (bytesOf file0056) ≡ textOf text0056

@@ -6,7 +6,7 @@ use lib.Count.{onesIn, trailingZeros}
 use Rattle.container.specs.Choice.{ite}
 use Rattle.container.specs.Container.{has, insert, remove, union, cut, below, from, size, least, dropLeast, upperHalf, lowerHalf, splitKey}
 use Rattle.definitions.specs.Nodes.{replaceable}
-use Rattle.definitions.specs.Steps.{reached, lost, cleared, probe, replaced, beside, step}
+use Rattle.definitions.specs.Steps.{reached, blocked, lacks, cleared, lost, probe, replaced, beside, step}
 use Rattle.definitions.specs.Records.{taken, stepped, started, recordStep}
 use Rattle.definitions.specs.Schedule.{countOf, fileRefusal}
 use Rattle.definitions.specs.Run.{runRefusal}
@@ -56,7 +56,7 @@ text0057 =
     ∷ []
 
 computed0057 : quickPrinted (bytesOf file0057) ≡ textOf text0057
-unfolding decimal stationsTo stationsText routeLine baseLine setLine listRefusal replaceable actionWord firstLine lastLine taken stepped started recordStep runRefusal countOf fileRefusal reached lost cleared probe replaced beside step ite has insert remove union cut below from size least dropLeast upperHalf lowerHalf splitKey onesIn trailingZeros
+unfolding decimal stationsTo stationsText routeLine baseLine setLine listRefusal replaceable actionWord firstLine lastLine taken stepped started recordStep runRefusal countOf fileRefusal reached blocked lacks cleared lost probe replaced beside step ite has insert remove union cut below from size least dropLeast upperHalf lowerHalf splitKey onesIn trailingZeros
 computed0057 = refl
 
 pub printed0057 : printed (bytesOf file0057) ≡ textOf text0057
@@ -93,7 +93,7 @@ text0058 =
     ∷ []
 
 computed0058 : quickPrinted (bytesOf file0058) ≡ textOf text0058
-unfolding decimal stationsTo stationsText routeLine baseLine setLine listRefusal replaceable actionWord firstLine lastLine taken stepped started recordStep runRefusal countOf fileRefusal reached lost cleared probe replaced beside step ite has insert remove union cut below from size least dropLeast upperHalf lowerHalf splitKey onesIn trailingZeros
+unfolding decimal stationsTo stationsText routeLine baseLine setLine listRefusal replaceable actionWord firstLine lastLine taken stepped started recordStep runRefusal countOf fileRefusal reached blocked lacks cleared lost probe replaced beside step ite has insert remove union cut below from size least dropLeast upperHalf lowerHalf splitKey onesIn trailingZeros
 computed0058 = refl
 
 pub printed0058 : printed (bytesOf file0058) ≡ textOf text0058
@@ -298,7 +298,7 @@ text0059 =
     ∷ []
 
 computed0059 : quickPrinted (bytesOf file0059) ≡ textOf text0059
-unfolding decimal stationsTo stationsText routeLine baseLine setLine listRefusal replaceable actionWord firstLine lastLine taken stepped started recordStep runRefusal countOf fileRefusal reached lost cleared probe replaced beside step ite has insert remove union cut below from size least dropLeast upperHalf lowerHalf splitKey onesIn trailingZeros
+unfolding decimal stationsTo stationsText routeLine baseLine setLine listRefusal replaceable actionWord firstLine lastLine taken stepped started recordStep runRefusal countOf fileRefusal reached blocked lacks cleared lost probe replaced beside step ite has insert remove union cut below from size least dropLeast upperHalf lowerHalf splitKey onesIn trailingZeros
 computed0059 = refl
 
 pub printed0059 : printed (bytesOf file0059) ≡ textOf text0059

@@ -1,9 +1,25 @@
-//! The coverage table: every place, every turn from place to place, every refusal; what must be reached.
+//! The coverage table: every place, every turn from place to place, every answer, every refusal; what must be
+//! reached.
 
-use reference::{Counter, PLACES, PLACE_LIMIT, REFUSALS};
+use reference::{Counter, ACTIONS, ANSWERS, JOIN, PLACES, PLACE_LIMIT, REFUSALS, SPLIT};
 
 /// The swaps that need new node numbers and can be short of them.
 const FULL_PLACES: [u8; 7] = [10, 11, 13, 25, 27, 29, 35];
+
+/// The answers of splits and joins and the places that they can come from. A split never says 5 or 6, which come
+/// from places of joins alone, neither says 0, and nothing stops joins (7).
+const REASONS: [(u8, u8, &[u8]); 10] = [
+    (SPLIT, 1, &[10, 11, 13]),
+    (SPLIT, 2, &[3]),
+    (SPLIT, 3, &[3]),
+    (SPLIT, 4, &[10, 11, 12, 13]),
+    (JOIN, 1, &[40, 51]),
+    (JOIN, 2, &[3]),
+    (JOIN, 3, &[3]),
+    (JOIN, 4, &[21, 25]),
+    (JOIN, 5, &[24]),
+    (JOIN, 6, &[38]),
+];
 
 /// Turns from place to place that matter by themselves: kills, help, lost swaps, aborted joins.
 /// 0 stands for a finish.
@@ -51,6 +67,23 @@ pub fn report(counter: &Counter) -> Vec<String> {
             .collect();
         let count = need(counter.place(place), format!("place {place}"));
         println!("{place:5} {count:12}  {}", turns.join(", "));
+    }
+    println!("answer     reached");
+    for (action, name) in (1..).zip(&ACTIONS[1..]) {
+        let counts: Vec<String> = (0..ANSWERS as u8)
+            .filter(|&answer| counter.answers(action, answer) > 0)
+            .map(|answer| format!("{answer}: {}", counter.answers(action, answer)))
+            .collect();
+        println!("{name:>7}    {}", counts.join(", "));
+    }
+    for (action, answer, places) in REASONS {
+        let name = ACTIONS[usize::from(action)];
+        for &place in places {
+            need(
+                counter.answers_at(action, answer, place),
+                format!("answer {answer} of a {name} at place {place}"),
+            );
+        }
     }
     println!("refusal    reached");
     for number in 1..REFUSALS as u8 {

@@ -25,6 +25,9 @@ enum-told c = search needs
 contains-requires : tie.Need-contains-requires
 contains-requires c κs = search needs
 
+yes-or-no-requires : tie.Need-yes-or-no-requires
+yes-or-no-requires c κs = search needs
+
 say-requires : tie.Need-say-requires
 say-requires c κs = search needs
 
@@ -66,6 +69,7 @@ reach-spec =
     go-base-requires
     enum-told
     contains-requires
+    yes-or-no-requires
     say-requires
     enum-told-2
     enum-told-3
