@@ -188,10 +188,13 @@ static void examples(void)
     plan_alone(&p, 0, JOIN, 3, 7);
     call_list(p.file, p.length, NUXALDER_LIST_BUFFER, 0);
     expect_list("join under way", 0, "0 route 9\n1 main 3\n1 normal 9\nset 3 9\n");
-    plan_alone(&p, 1, INSERT, 4, 10);
+    plan_alone(&p, 1, INSERT, 4, 8);
+    call_both(&p);
+    expect_run("killing insert, one step short", 0, 29, 3, bit(3) | bit(9), 2, 7);
+    plan_steps(&p, 1, 1);
     plan_steps(&p, 0, 9);
     call_both(&p);
-    expect_run("killed join", 0, 40, 5, bit(3) | bit(4) | bit(9), 3, 9);
+    expect_run("killed join", 0, 39, 5, bit(3) | bit(4) | bit(9), 3, 9);
     expect_row("killed join", 3, 1, INSERT, 4, 1);
     expect_row("killed join", 4, 0, JOIN, 3, NUXALDER_STOOD_DOWN);
 

@@ -10,7 +10,7 @@ BYTES_MOST = 1_500_000
 
 STEPPED = ["printed-run", "killed-join", "reasons", "late-lookup", "lost-insert", "helped-join", "deep-join", "refused-11-busy"]
 REFUSED_FILES = {"refused-1-short": 1, "refused-2-version": 2, "refused-3-count": 3, "refused-4-length": 4}
-PICTURE = ("helped-join", 53)
+PICTURE = ("helped-join", 52)
 
 # All that a reader sees, taken from the page's elements.
 READ = """(() => {

@@ -11,10 +11,7 @@ use Rattle.container.specs.Choice.{ite}
 use Rattle.container.specs.Container.{has}
 use Rattle.definitions.specs.declared.Link.{Link}
 use Rattle.definitions.specs.declared.Link.the-variants.{Nil, To}
-use Rattle.definitions.specs.declared.Kind.{Kind}
-use Rattle.definitions.specs.declared.Kind.the-variants.{Normal, Route, Main, Neighbour}
-use Rattle.definitions.specs.declared.Stage.{Stage}
-use Rattle.definitions.specs.declared.Stage.the-variants.{Preparing, Completing, Aborted, Done}
+use Rattle.definitions.specs.declared.Check.{Check}
 use Rattle.definitions.specs.declared.Node.{Node}
 use Rattle.definitions.specs.declared.Action.{Action}
 use Rattle.definitions.specs.declared.Action.the-variants.{Lookup, Insert, Remove, Split, Join}
@@ -30,12 +27,12 @@ use Rattle.definitions.specs.declared.Effect.the-variants.{Fork, Commit}
 use Rattle.definitions.specs.declared.Answer.the-variants.{No, Yes, Lacking}
 use Rattle.definitions.specs.declared.Turn.{Turn}
 use Rattle.definitions.specs.declared.Turn.the-variants.{Moves, Finishes, Full}
-use Rattle.definitions.specs.Nodes.{childFor, isPreparing}
+use Rattle.definitions.specs.Nodes.{childFor, check, isPreparing}
 use Rattle.definitions.specs.Bench.{Store}
 use Rattle.definitions.specs.Places.{own, found, united, Place, nowhere, p1, p2, p3, p15, p16, p20, p21, p22, p23, p24, p25, p30, p31, p32, p33, p34, p35, p36, p37, p38, p40, p45, p46, p47, p48, p49, p50, p51, swap, placeOf, number, at}
 use Rattle.definitions.specs.Effects.{perform}
 use Rattle.definitions.specs.Answers.{said}
-use Rattle.definitions.specs.Steps.{says, atLeaf, reached, blockedAs, blocked, lostAs, lost, lacksAs, lacks, joinUnder, clearedAs, cleared, probe, replacedAs, replaced, ownBy, foundBy, unitedBy, helpAs, blockedBy, beside, grandMarking, backOut, ended, cutAt, cutOn, cutRight, freeing, step}
+use Rattle.definitions.specs.Steps.{says, atLeaf, reached, helpBy, blockedAs, blocked, lacksAs, lacks, joinUnder, clearedAs, cleared, probe, lostAs, lost, replacedAs, replaced, ownBy, foundBy, unitedBy, beside, grandMarking, backOut, ended, cutAt, cutOn, cutRight, freeing, step}
 use Rattle.definitions.specs.Reasons.{changes, Reason}
 use Rattle.answers.proofs.PlaceNumbers.{place-number, number-of}
 
@@ -201,12 +198,18 @@ module _ (s : Store) (th : Thread) where
   clear Split b i = refl
   clear Join b i = link (b .parent) i
 
-  block : (a : Action) → th .action ≡ a → Free 3 (blockedAs a th)
-  block Lookup i = rw i (inl refl)
-  block Insert i = refl
-  block Remove i = refl
-  block Split i = rw i (refl, refl)
-  block Join i = rw i (refl, refl)
+  help : (n : ℕ) (c : Check) → Free n (helpBy c th)
+  help n Check.Replaceable = refl
+  help n (Check.Preparing m) = refl
+  help n (Check.Completing m) = refl
+  help n Check.Stale = refl
+
+  block : (a : Action) (c : Check) → th .action ≡ a → Free 3 (blockedAs a c th)
+  block Lookup c i = rw i (inl refl)
+  block Insert c i = help 3 c
+  block Remove c i = help 3 c
+  block Split c i = rw i (refl, refl)
+  block Join c i = rw i (refl, refl)
 
   -- ---- 10 to 13
 
@@ -244,20 +247,6 @@ module _ (s : Store) (th : Thread) where
   by-own q (Hit v) b = hit-own (th .action) q v b refl
   by-own q (Next r) b = rw (place-number (swap own r)) (quiet-own (th .action) q)
   by-own q Miss b = lost-own (th .action) q refl
-
-  -- ---- 15
-
-  helped : (v : Stage) (m : ℕ) → Free 15 (helpAs v m th)
-  helped Preparing m = refl
-  helped Completing m = refl
-  helped Aborted m = refl
-  helped Done m = refl
-
-  at-15 : (k : Kind) → Free 15 (blockedBy k (s .nodes) th)
-  at-15 Normal = refl
-  at-15 Route = refl
-  at-15 Main = helped (s .nodes (th .base) .stage) (th .base)
-  at-15 Neighbour = helped (s .nodes (s .nodes (th .base) .main) .stage) (s .nodes (th .base) .main)
 
   -- ---- 26 to 38
 
@@ -344,9 +333,9 @@ module _ (s : Store) (th : Thread) where
   told nowhere d e h = rw e tt
   told p1 d e h = calmly p1 false d e refl h (reach 1 (s .root))
   told p2 d e h = calmly p2 false d e refl h (reach 2 (childFor (th .station) (s .nodes (th .route))))
-  told p3 d e h = calmly p3 false d e refl h (either th 3 _ _ _ _ (λ z. lacking (th .action) (s .nodes (th .base)) refl z) (λ _. fork 3 _ _ _ (clear (th .action) (s .nodes (th .base)) refl) (block (th .action) refl)))
+  told p3 d e h = calmly p3 false d e refl h (either th 3 _ _ _ _ (λ z. lacking (th .action) (s .nodes (th .base)) refl z) (λ _. fork 3 _ _ _ (clear (th .action) (s .nodes (th .base)) refl) (block (th .action) (check (s .nodes) (th .base)) refl)))
   told (swap own q) d e h = placed (swap own q) d e (omega (arith, own-range q)) (rw h (by-own q (probe q (s .nodes (th .base) .parent) (s .nodes) (s .root) (th .base)) (s .nodes (th .base))))
-  told p15 d e h = calmly p15 false d e refl h (at-15 (s .nodes (th .base) .kind))
+  told p15 d e h = calmly p15 false d e refl h (help 15 (check (s .nodes) (th .base)))
   told p16 d e h = calmly p16 false d e refl h (fork 16 _ _ _ refl refl)
   told p20 d e (i, h) = calmly p20 false d e refl h (fork 20 _ _ _ (i, refl) (i, refl))
   told p21 d e (i, h) = calmly p21 false d e refl h (fork 21 _ _ _ (i, refl) (rw i (refl, inr (inl refl))))

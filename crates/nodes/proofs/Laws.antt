@@ -13,8 +13,9 @@ use Rattle.definitions.specs.declared.Kind.{Kind}
 use Rattle.definitions.specs.declared.Kind.the-variants.{Normal, Route, Main, Neighbour}
 use Rattle.definitions.specs.declared.Stage.{Stage}
 use Rattle.definitions.specs.declared.Stage.the-variants.{Completing}
+use Rattle.definitions.specs.declared.Check.{Check}
 use Rattle.definitions.specs.declared.Node.{Node}
-use Rattle.definitions.specs.Nodes.{Nodes, withKid, withMark, withValid, withStage, committed, childFor, isAborted, isOver, replaceable}
+use Rattle.definitions.specs.Nodes.{Nodes, withKid, withMark, withValid, withStage, committed, childFor, checkStage, check}
 use Rattle.nodes.specs.Cells.{linkOf, flagOf, numberOf, kindOf, kindCode, stageOf, stageCode, validOf, validCode, table}
 use Rattle.nodes.proofs.Codes.{link-back, kind-back, stage-back, valid-back}
 use Rattle.nodes.proofs.Cells.{first, next, cells-written, both-written}
@@ -32,25 +33,29 @@ child-left s n h = rw (lt-ltb s (n .key) h)
 pub child-right : (s : ℕ) (n : Node) → n .key ≤ s → n .right ≡ childFor s n
 child-right s n h = rw (le-ltb s (n .key) h)
 
--- ---- is x replaceable: n and m are the nodes read, b is the answer
+-- ---- the check of a base by the stage s of its main m
+pub check-at : (s : Stage) (m : ℕ) (c : Check) {a : Stage} {r : Check} → s ≡ a → r ≡ checkStage a m c → r ≡ checkStage s m c
+check-at s m c e q = rw e q
+
+-- ---- the check of the base x: n is that node, m its main, c the answer
 module _ (t : Nodes) (x : ℕ) {n : Node} where
-  pub replace-normal : n ≡ t x → n .kind ≡ Normal → true ≡ replaceable t x
-  unfolding replaceable
-  replace-normal e k = rw (← e, k)
+  pub check-normal : n ≡ t x → n .kind ≡ Normal → Check.Replaceable ≡ check t x
+  unfolding check
+  check-normal e k = rw (← e, k)
 
-  pub replace-route : n ≡ t x → n .kind ≡ Route → false ≡ replaceable t x
-  unfolding replaceable
-  replace-route e k = rw (← e, k)
+  pub check-route : n ≡ t x → n .kind ≡ Route → Check.Stale ≡ check t x
+  unfolding check
+  check-route e k = rw (← e, k)
 
-  pub replace-main : {b : Bool} → n ≡ t x → n .kind ≡ Main → b ≡ isAborted (n .stage) → b ≡ replaceable t x
-  unfolding replaceable
-  replace-main e k a = a ∙ rw (e, rw e at k)
+  pub check-main : {c : Check} → n ≡ t x → n .kind ≡ Main → c ≡ checkStage (n .stage) x Check.Stale → c ≡ check t x
+  unfolding check
+  check-main e k a = a ∙ rw (e, rw e at k)
 
-  pub replace-neighbour : {b : Bool} {m : Node} → n ≡ t x → n .kind ≡ Neighbour → m ≡ t (n .main) → b ≡ isOver (m .stage) → b ≡ replaceable t x
-  unfolding replaceable
-  replace-neighbour e k f a = a ∙ rw (f, e, rw e at k)
+  pub check-neighbour : {c : Check} {m : Node} → n ≡ t x → n .kind ≡ Neighbour → m ≡ t (n .main) → c ≡ checkStage (m .stage) (n .main) Check.Replaceable → c ≡ check t x
+  unfolding check
+  check-neighbour e k f a = a ∙ rw (f, e, rw e at k)
 
-pub ruleset read-cases = (child-left, child-right, replace-normal, replace-route, replace-main, replace-neighbour)
+pub ruleset read-cases = (child-left, child-right, check-normal, check-route, check-main, check-neighbour)
 
 -- ---- the writers
 module _ (c s : List ℕ) (i : ℕ) (h : i < 256) (n : length c ≡ 4096) where

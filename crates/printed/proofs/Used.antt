@@ -8,26 +8,25 @@ use native.Mathlib.Omega.{arith}
 use borrow.Author.Tests.{leb-true}
 use lib.Dec.{eqb, leb}
 use Rattle.container.specs.Choice.{ite}
+use Rattle.definitions.specs.Nodes.{check}
 use Rattle.definitions.specs.Bench.{Store, Bench}
 use Rattle.definitions.specs.Places.{Place, nowhere, p1, p2, p3, p15, p16, p20, p21, p22, p23, p24, p25, p30, p31, p32, p33, p34, p35, p36, p37, p38, p40, p45, p46, p47, p48, p49, p50, p51, swap, own, found, united, placeOf}
 use Rattle.definitions.specs.Effects.{perform}
-use Rattle.definitions.specs.Steps.{room, atLeaf, reached, blockedAs, blocked, lostAs, lost, joinUnder, clearedAs, cleared, probe, replacedAs, replaced, ownBy, foundBy, unitedBy, helpAs, blockedBy, beside, grandMarking, unmark, invalid, cutAt, cutOn, cutRight, freeing, step}
+use Rattle.definitions.specs.Steps.{room, atLeaf, reached, helpBy, blockedAs, blocked, lostAs, lost, joinUnder, clearedAs, cleared, probe, replacedAs, replaced, ownBy, foundBy, unitedBy, beside, grandMarking, unmark, invalid, cutAt, cutOn, cutRight, freeing, step}
 use Rattle.definitions.specs.Records.{Result, refused, carried, taken, stepped, started, acted, recordStep}
 use Rattle.definitions.specs.Schedule.{firstByte, secondByte}
 use Rattle.definitions.specs.Run.{Progress, advanceBy, advance, after}
 use Rattle.definitions.specs.declared.Action.{Action}
 use Rattle.definitions.specs.declared.Action.the-variants.{Lookup, Insert, Remove, Split, Join}
 use Rattle.definitions.specs.declared.Kind.{Kind}
-use Rattle.definitions.specs.declared.Kind.the-variants.{Normal, Route, Main, Neighbour}
 use Rattle.definitions.specs.declared.Link.{Link}
 use Rattle.definitions.specs.declared.Link.the-variants.{Nil, To}
+use Rattle.definitions.specs.declared.Check.{Check}
 use Rattle.definitions.specs.declared.Node.{Node}
 use Rattle.definitions.specs.declared.Probe.{Probe}
 use Rattle.definitions.specs.declared.Probe.the-variants.{Hit, Next, Miss}
 use Rattle.definitions.specs.declared.Spot.{Spot}
 use Rattle.definitions.specs.declared.Spot.the-variants.{Root, Under}
-use Rattle.definitions.specs.declared.Stage.{Stage}
-use Rattle.definitions.specs.declared.Stage.the-variants.{Preparing, Completing, Aborted, Done}
 use Rattle.definitions.specs.declared.Effect.the-variants.{Swing, Base, Fork}
 use Rattle.definitions.specs.declared.Thread.{Thread}
 use Rattle.definitions.specs.declared.Turn.{Turn}
@@ -90,16 +89,22 @@ module _ (s : Store) (h : s .used ≤ 256) where
   unfolding lost
   lost-few th = lost-as-few (th .action) th
 
-  blocked-as-few : (a : Action) (th : Thread) → Few s (blockedAs a th)
-  blocked-as-few Lookup th = h
-  blocked-as-few Insert th = h
-  blocked-as-few Remove th = h
-  blocked-as-few Split th = h
-  blocked-as-few Join th = h
+  help-few : (c : Check) (th : Thread) → Few s (helpBy c th)
+  help-few Check.Replaceable th = h
+  help-few (Check.Preparing m) th = h
+  help-few (Check.Completing m) th = h
+  help-few Check.Stale th = h
 
-  blocked-few : (th : Thread) → Few s (blocked th)
+  blocked-as-few : (a : Action) (c : Check) (th : Thread) → Few s (blockedAs a c th)
+  blocked-as-few Lookup c th = h
+  blocked-as-few Insert c th = help-few c th
+  blocked-as-few Remove c th = help-few c th
+  blocked-as-few Split c th = h
+  blocked-as-few Join c th = h
+
+  blocked-few : (c : Check) (th : Thread) → Few s (blocked c th)
   unfolding blocked
-  blocked-few th = blocked-as-few (th .action) th
+  blocked-few c th = blocked-as-few (th .action) c th
 
   under-few : (l : Link) (th : Thread) → Few s (joinUnder l th)
   under-few Nil th = h
@@ -143,19 +148,7 @@ module _ (s : Store) (h : s .used ≤ 256) where
   united-few (Next q) m th = h
   united-few Miss m th = h
 
-  -- 15 to 25
-  help-few : (v : Stage) (m : ℕ) (th : Thread) → Few s (helpAs v m th)
-  help-few Preparing m th = h
-  help-few Completing m th = h
-  help-few Aborted m th = h
-  help-few Done m th = h
-
-  kind-few : (k : Kind) (th : Thread) → Few s (blockedBy k (s .nodes) th)
-  kind-few Normal th = h
-  kind-few Route th = h
-  kind-few Main th = help-few (s .nodes (th .base) .stage) _ th
-  kind-few Neighbour th = help-few (s .nodes (s .nodes (th .base) .main) .stage) _ th
-
+  -- 22, 23
   beside-few : (th : Thread) (x : ℕ) → Few s (beside (s .nodes) th x)
   unfolding beside
   beside-few th x = pick s _ _ _ h h
@@ -195,9 +188,9 @@ module _ (s : Store) (h : s .used ≤ 256) where
   step-few nowhere th = h
   step-few p1 th = reached-few th _
   step-few p2 th = reached-few th _
-  step-few p3 th = pick s _ _ _ h (pick s _ _ _ (cleared-few _ th) (blocked-few th))
+  step-few p3 th = pick s _ _ _ h (pick s _ _ _ (cleared-few _ th) (blocked-few (check (s .nodes) (th .base)) th))
   step-few (swap own q) th = own-few (probe q (s .nodes (th .base) .parent) (s .nodes) (s .root) (th .base)) _ th
-  step-few p15 th = kind-few (s .nodes (th .base) .kind) th
+  step-few p15 th = help-few (check (s .nodes) (th .base)) th
   step-few p16 th = pick s _ _ _ h h
   step-few p20 th = pick s _ _ _ h h
   step-few p21 th = pick s _ _ _ h h

@@ -104,11 +104,14 @@ pub fn carry_out(
         let place = threads[t].place;
         let asked = machine::ask(x, y, place);
         match asked {
-            // a step: 1 to 3, 10 to 13, or 15 to 51 decide
+            // a step: 1 and 2, 3, 10 to 13, or 15 to 51 decide
             0 => {
-                let d = if place < 10 {
+                let d = if place < 3 {
                     let th = threads[t];
                     search::find(cells, sets, root, used, th)
+                } else if place < 10 {
+                    let th = threads[t];
+                    search::examine(cells, sets, root, used, th)
                 } else if place < 14 {
                     let th = threads[t];
                     steps::decide_swap(cells, sets, root, used, th)

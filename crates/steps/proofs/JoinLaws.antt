@@ -11,6 +11,7 @@ use Rattle.definitions.specs.declared.Link.{Link}
 use Rattle.definitions.specs.declared.Link.the-variants.{Nil, To}
 use Rattle.definitions.specs.declared.Kind.the-variants.{Main}
 use Rattle.definitions.specs.declared.Stage.the-variants.{Aborted}
+use Rattle.definitions.specs.declared.Check.{Check}
 use Rattle.definitions.specs.declared.Node.{Node}
 use Rattle.definitions.specs.declared.Spot.the-variants.{Under}
 use Rattle.definitions.specs.declared.Thread.{Thread}
@@ -19,7 +20,7 @@ use Rattle.definitions.specs.declared.Effect.the-variants.{Mark, Settle, Base, 
 use Rattle.definitions.specs.declared.Answer.the-variants.{Lost, NeighbourBlocked, StoodDown}
 use Rattle.definitions.specs.declared.Turn.{Turn}
 use Rattle.definitions.specs.declared.Turn.the-variants.{Moves, Finishes, Full}
-use Rattle.definitions.specs.Nodes.{Nodes, kidOf, childFor, isRoute, isPreparing, replaceable}
+use Rattle.definitions.specs.Nodes.{Nodes, kidOf, childFor, isRoute, isPreparing, check, isReplaceable, replaceable}
 use Rattle.definitions.specs.Bench.{store}
 use Rattle.definitions.specs.Places.{p36, p37, placeOf, to, toRoute, toSide, toFound, toMain, toGrandparent, toOther}
 use Rattle.definitions.specs.Steps.{goes, says, beside, hooked, isNil, marking, topped, climbed, grandMarking, backOut, unionParent, closed, unmark, step}
@@ -192,13 +193,13 @@ module _ (n : Nodes) (root used : ℕ) (th : Thread) where
   unfolding step
   at-23 h e i q = q ∙ rw (h, ← e, i)
 
-  pub at-24-free : {k : Bool} {r : Turn} → th .place ≡ 24 → k ≡ replaceable n (th .found) → k ≡ true → r ≡ goes (to 25 th) → r ≡ step (placeOf (th .place)) (store n root used) th
-  unfolding step ite
-  at-24-free h i t q = q ∙ rw (h, ← i, t)
+  pub at-24-free : {c : Check} {k : Bool} {r : Turn} → th .place ≡ 24 → c ≡ check n (th .found) → k ≡ isReplaceable c → k ≡ true → r ≡ goes (to 25 th) → r ≡ step (placeOf (th .place)) (store n root used) th
+  unfolding step replaceable ite
+  at-24-free h e i t q = q ∙ rw (h, ← e, ← i, t)
 
-  pub at-24-busy : {k : Bool} {r : Turn} → th .place ≡ 24 → k ≡ replaceable n (th .found) → k ≡ false → r ≡ says NeighbourBlocked → r ≡ step (placeOf (th .place)) (store n root used) th
-  unfolding step ite
-  at-24-busy h i t q = q ∙ rw (h, ← i, t)
+  pub at-24-busy : {c : Check} {k : Bool} {r : Turn} → th .place ≡ 24 → c ≡ check n (th .found) → k ≡ isReplaceable c → k ≡ false → r ≡ says NeighbourBlocked → r ≡ step (placeOf (th .place)) (store n root used) th
+  unfolding step replaceable ite
+  at-24-busy h e i t q = q ∙ rw (h, ← e, ← i, t)
 
   pub at-25 : {r : Turn} → 20 ≤ th .place → th .place < 26 → (th .place ≡ 20 → ⊥) → (th .place ≡ 21 → ⊥) → (th .place ≡ 22 → ⊥) → (th .place ≡ 23 → ⊥) → (th .place ≡ 24 → ⊥) → r ≡ hooked n used th → r ≡ step (placeOf (th .place)) (store n root used) th
   unfolding step

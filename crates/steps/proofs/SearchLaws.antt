@@ -8,10 +8,8 @@ use Rattle.container.specs.Choice.{ite}
 use Rattle.container.specs.Container.{has, size}
 use Rattle.definitions.specs.declared.Link.{Link}
 use Rattle.definitions.specs.declared.Link.the-variants.{Nil, To}
-use Rattle.definitions.specs.declared.Kind.{Kind}
-use Rattle.definitions.specs.declared.Kind.the-variants.{Main, Neighbour}
-use Rattle.definitions.specs.declared.Stage.{Stage}
 use Rattle.definitions.specs.declared.Stage.the-variants.{Aborted}
+use Rattle.definitions.specs.declared.Check.{Check}
 use Rattle.definitions.specs.declared.Node.{Node}
 use Rattle.definitions.specs.declared.Action.{Action}
 use Rattle.definitions.specs.declared.Action.the-variants.{Lookup, Split, Join}
@@ -21,11 +19,11 @@ use Rattle.definitions.specs.declared.Answer.{Answer}
 use Rattle.definitions.specs.declared.Answer.the-variants.{No, Lacking}
 use Rattle.definitions.specs.declared.Turn.{Turn}
 use Rattle.definitions.specs.declared.Turn.the-variants.{Moves}
-use Rattle.definitions.specs.Nodes.{Nodes, childFor, isRoute, isPreparing, replaceable}
+use Rattle.definitions.specs.Nodes.{Nodes, childFor, isRoute, isPreparing, check, isReplaceable, replaceable}
 use Rattle.definitions.specs.Bench.{store}
 use Rattle.definitions.specs.Places.{placeOf, to, toRoute, toBase, toParent}
 use Rattle.definitions.specs.Answers.{said}
-use Rattle.definitions.specs.Steps.{goes, says, reached, blocked, blockedAs, lost, lostAs, isNil, lacks, lacksAs, cleared, clearedAs, joinUnder, atLeaf, helpAs, blockedBy, step}
+use Rattle.definitions.specs.Steps.{goes, says, reached, blocked, blockedAs, lost, lostAs, isNil, lacks, lacksAs, cleared, clearedAs, joinUnder, atLeaf, helpBy, step}
 use Rattle.steps.proofs.DecideLaws.{placed, unlisted}
 
 -- ---- a node is read: n is that node, b whether it is a route
@@ -45,14 +43,18 @@ module _ (ns : Nodes) (th : Thread) (x : ℕ) {n : Node} {b : Bool} where
   pub reach-base : {a : Action} {r : Turn} → n ≡ ns x → b ≡ isRoute (n .kind) → b ≡ false → th .action ≡ a → goes (toBase 3 x th) ≡ atLeaf a ns th x → r ≡ goes (toBase 3 x th) → r ≡ reached ns th x
   reach-base e k h a l q = q ∙ (l ∙ reach-leaf e k h a)
 
--- ---- a swap that failed, or a base that is not replaceable
+-- ---- a swap that failed
 pub lost-as : (th : Thread) {a : Action} {r v : Turn} → th .action ≡ a → r ≡ v → v ≡ lostAs a th → r ≡ lost th
 unfolding lost
 lost-as th e q l = q ∙ (l ∙ ap (λ (y : Action). lostAs y th) (sym e))
 
-pub blocked-as : (th : Thread) {a : Action} {r v : Turn} → th .action ≡ a → r ≡ v → v ≡ blockedAs a th → r ≡ blocked th
+-- ---- a base that is not replaceable: c is its check
+pub help-as : (c : Check) (th : Thread) {a : Check} {v : Thread} {r : Turn} → c ≡ a → r ≡ goes v → goes v ≡ helpBy a th → r ≡ helpBy c th
+help-as c th e q l = rw e (q ∙ l)
+
+pub blocked-as : (c : Check) (th : Thread) {a : Action} {r v : Turn} → th .action ≡ a → r ≡ v → v ≡ blockedAs a c th → r ≡ blocked c th
 unfolding blocked
-blocked-as th e q l = q ∙ (l ∙ ap (λ (y : Action). blockedAs y th) (sym e))
+blocked-as c th e q l = q ∙ (l ∙ ap (λ (y : Action). blockedAs y c th) (sym e))
 
 -- ---- 3: too few stations, or no parent; z is the base's size, l its parent
 module _ (b : Node) (th : Thread) where
@@ -97,44 +99,32 @@ module _ (ns : Nodes) (root u : ℕ) (th : Thread) where
   unfolding step
   at-2 h e k q = q ∙ (rw (k, e) (placed (store ns root u) th h))
 
-  -- 3: b is the base, f whether it lacks something, d whether it is replaceable
+  -- 3: b is the base, f whether it lacks something, c its check, d whether it is replaceable
   module _ {r : Turn} {b : Node} {f : Bool} (h : th .place ≡ 3) (i : b ≡ ns (th .base)) (j : f ≡ lacks b th) where
     pub at-3-lacking : f ≡ true → r ≡ says Lacking → r ≡ step (placeOf (th .place)) (store ns root u) th
     unfolding step ite
     at-3-lacking l q = q ∙ (rw (← i, ← j, l) at (placed (store ns root u) th h))
 
-    pub at-3-free : {d : Bool} → f ≡ false → d ≡ replaceable ns (th .base) → d ≡ true → r ≡ cleared b th → r ≡ step (placeOf (th .place)) (store ns root u) th
-    unfolding step ite
-    at-3-free l e k q = q ∙ (rw (← i, ← j, l, ← e, k) at (placed (store ns root u) th h))
+    pub at-3-free : {c : Check} {d : Bool} → f ≡ false → c ≡ check ns (th .base) → d ≡ isReplaceable c → d ≡ true → r ≡ cleared b th → r ≡ step (placeOf (th .place)) (store ns root u) th
+    unfolding step replaceable ite
+    at-3-free l e k m q = q ∙ (rw (← i, ← j, l, ← e, ← k, m) at (placed (store ns root u) th h))
 
-    pub at-3-blocked : {d : Bool} → f ≡ false → d ≡ replaceable ns (th .base) → d ≡ false → r ≡ blocked th → r ≡ step (placeOf (th .place)) (store ns root u) th
-    unfolding step ite
-    at-3-blocked l e k q = q ∙ (rw (← i, ← j, l, ← e, k) at (placed (store ns root u) th h))
+    pub at-3-blocked : {c : Check} {d : Bool} → f ≡ false → c ≡ check ns (th .base) → d ≡ isReplaceable c → d ≡ false → r ≡ blocked c th → r ≡ step (placeOf (th .place)) (store ns root u) th
+    unfolding step replaceable ite
+    at-3-blocked l e k m q = q ∙ (rw (← i, ← j, l, ← e, ← k, m) at (placed (store ns root u) th h))
 
-  pub before-10 : {r : Turn} → th .place < 10 → (th .place ≡ 1 → ⊥) → (th .place ≡ 2 → ⊥) → (th .place ≡ 3 → ⊥) → r ≡ goes th → r ≡ step (placeOf (th .place)) (store ns root u) th
-  before-10 h f g k q = q ∙ unlisted (λ p. leb 10 p || (eqb p 1 || (eqb p 2 || eqb p 3))) refl (store ns root u) th (rw (lt-leb _ _ h, ne-eqb _ _ f, ne-eqb _ _ g, ne-eqb _ _ k))
+  pub before-3 : {r : Turn} → th .place < 3 → (th .place ≡ 1 → ⊥) → (th .place ≡ 2 → ⊥) → r ≡ goes th → r ≡ step (placeOf (th .place)) (store ns root u) th
+  before-3 h f g q = q ∙ unlisted (λ p. leb 3 p || (eqb p 1 || eqb p 2)) refl (store ns root u) th (rw (lt-leb _ _ h, ne-eqb _ _ f, ne-eqb _ _ g))
 
--- ---- 15: what the stage s of the main m leads to
-pub help-as : (s : Stage) (m : ℕ) (th : Thread) {a : Stage} {v : Thread} {r : Turn} → s ≡ a → r ≡ goes v → goes v ≡ helpAs a m th → r ≡ helpAs s m th
-help-as s m th e q l = rw e (q ∙ l)
+  pub before-10 : {r : Turn} → 3 ≤ th .place → th .place < 10 → (th .place ≡ 3 → ⊥) → r ≡ goes th → r ≡ step (placeOf (th .place)) (store ns root u) th
+  before-10 a h f q = q ∙ unlisted (λ p. ltb p 3 || (leb 10 p || eqb p 3)) refl (store ns root u) th (rw (le-ltb _ _ a, lt-leb _ _ h, ne-eqb _ _ f))
 
--- 15: n is the base, m its main
-module _ (ns : Nodes) (root u : ℕ) (th : Thread) {n : Node} (h : th .place ≡ 15) (e : n ≡ ns (th .base)) where
-  as-blocked : {k : Kind} → n .kind ≡ k → blockedBy k ns th ≡ step (placeOf (th .place)) (store ns root u) th
-  unfolding step
-  as-blocked k = ap (λ (y : Kind). blockedBy y ns th) (sym k ∙ ap (λ (y : Node). y .kind) e) ∙ placed (store ns root u) th h
-
-  pub blocked-again : {k : Kind} {r : Turn} → n .kind ≡ k → goes (to 1 th) ≡ blockedBy k ns th → r ≡ goes (to 1 th) → r ≡ step (placeOf (th .place)) (store ns root u) th
-  blocked-again k l q = q ∙ (l ∙ as-blocked k)
-
-  pub blocked-main : {r : Turn} → n .kind ≡ Main → r ≡ helpAs (n .stage) (th .base) th → r ≡ step (placeOf (th .place)) (store ns root u) th
-  blocked-main k q = q ∙ (rw e (as-blocked k))
-
-  pub blocked-neighbour : {r : Turn} {m : Node} → n .kind ≡ Neighbour → m ≡ ns (n .main) → r ≡ helpAs (m .stage) (n .main) th → r ≡ step (placeOf (th .place)) (store ns root u) th
-  blocked-neighbour k i q = q ∙ (rw (i, e) (as-blocked k))
-
--- 16: m is the main, b whether it is preparing
+-- ---- 15: c is the check of the base. 16: m is the main, b whether it is preparing
 module _ (ns : Nodes) (root u : ℕ) (th : Thread) where
+  pub at-15 : {c : Check} {r : Turn} → th .place ≡ 15 → c ≡ check ns (th .base) → r ≡ helpBy c th → r ≡ step (placeOf (th .place)) (store ns root u) th
+  unfolding step
+  at-15 h e q = q ∙ (rw e (placed (store ns root u) th h))
+
   module _ {m : Node} {b : Bool} {r : Turn} (h : th .place ≡ 16) (e : m ≡ ns (th .main)) (k : b ≡ isPreparing (m .stage)) where
     pub at-16-kill : b ≡ true → r ≡ Moves (to 1 th) (Settle (th .main) Aborted) → r ≡ step (placeOf (th .place)) (store ns root u) th
     unfolding step ite
@@ -153,8 +143,8 @@ pub ruleset lacking-cases = (lacks-never, lacks-split, lacks-join)
 
 pub ruleset clear-cases = (clear-swap, clear-lookup, clear-top, clear-join)
 
-pub ruleset find-cases = (at-1, at-2, at-3-lacking, at-3-free, at-3-blocked, before-10)
+pub ruleset find-cases = (at-1, at-2, before-3)
 
-pub ruleset inspect-cases = (blocked-again, blocked-main, blocked-neighbour)
+pub ruleset examine-cases = (at-3-lacking, at-3-free, at-3-blocked, before-10)
 
-pub ruleset unblock-cases = (at-16-kill, at-16-late, before-20)
+pub ruleset unblock-cases = (at-15, at-16-kill, at-16-late, before-20)

@@ -94,7 +94,8 @@ pub fn approach(cells: &[u8; 4096], sets: &[u64; 256], root: u8, used: u16, th: 
             step_beside(cells, sets, th, x)
         }
         24 => {
-            if nodes::is_replaceable(cells, sets, th.found) {
+            let c = nodes::check(cells, sets, th.found);
+            if nodes::is_replaceable(c) {
                 notes::go(th, 25)
             } else {
                 notes::say(th, Answer::NeighbourBlocked)

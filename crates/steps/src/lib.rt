@@ -48,8 +48,8 @@ pub struct Decision {
     pub answer: Answer,
 }
 
-// The place decides. A run takes the three parts apart (crate run): a part reads few of the thread's notes. `search::find` is the
-// first, for 1 to 3.
+// The place decides. A run takes the four parts apart (crate run): a part reads few of the thread's notes. `search::find` is the
+// first, for 1 and 2, `search::examine` the second, for 3.
 
 // 10 to 13: the swap of the thread's own base.
 pub fn decide_swap(

@@ -1,17 +1,17 @@
-// 1 to 3: the search and the base reached. 15 and 16: a base that is blocked.
+// 1 to 3: the search and the base reached. 15 and 16: a base that is blocked. The check of a base is nodes::check, at 3 and at 15.
 ghost use mathlib.Core.Path.{_≡_};
 ghost use Prim.Native.Nat.{_<_, _≤_};
 ghost use Rattle.nodes.specs.Cells.{table};
 ghost use Rattle.definitions.specs.Bench.{store};
 ghost use Rattle.definitions.specs.Places.{placeOf};
-ghost use Rattle.definitions.specs.Steps.{reached, blocked, lacks, cleared, lost, helpAs, step};
+ghost use Rattle.definitions.specs.Steps.{reached, helpBy, blocked, lacks, cleared, lost, step};
 ghost use Rattle.steps.specs.Decision.{turnOf};
 use super::Decision;
 use super::notes;
 use definitions::Action;
 use definitions::Answer;
+use definitions::Check;
 use definitions::Effect;
-use definitions::Kind;
 use definitions::Link;
 use definitions::Node;
 use definitions::Stage;
@@ -79,16 +79,27 @@ pub fn lacking(b: Node, th: Thread) -> bool
     }
 }
 
-// 3: the base is not replaceable: updates go to 15, others finish no.
-pub fn block(th: Thread) -> Decision
-    ensures { λ r. ⌜ turnOf th r ≡ blocked th ⌝ }
+// 3 where the base is not replaceable, and 15: what the check of the base leads to.
+pub fn help(c: Check, th: Thread) -> Decision
+    ensures { λ r. ⌜ turnOf th r ≡ helpBy c th ⌝ }
+{
+    match c {
+        Check::Replaceable => { notes::go(th, 1) }
+        Check::Preparing(m) => { notes::go_helping(th, 16, m) }
+        Check::Completing(m) => { notes::go_helping(th, 40, m) }
+        Check::Stale => { notes::go(th, 1) }
+    }
+}
+
+// 3: the base is not replaceable. An update goes straight to 16, 40 or 1, the others finish no.
+pub fn block(c: Check, th: Thread) -> Decision
+    ensures { λ r. ⌜ turnOf th r ≡ blocked c th ⌝ }
 {
     let action = th.action;
-    let next = notes::go(th, 15);
     match action {
         Action::Lookup => notes::say(th, Answer::No),
-        Action::Insert => next,
-        Action::Remove => next,
+        Action::Insert => help(c, th),
+        Action::Remove => help(c, th),
         Action::Split => notes::say(th, Answer::Blocked),
         Action::Join => notes::say(th, Answer::Blocked),
     }
@@ -115,9 +126,9 @@ pub fn clear(b: Node, th: Thread) -> Decision
     }
 }
 
-// 1 to 3.
+// 1, 2.
 pub fn find(cells: &[u8; 4096], sets: &[u64; 256], root: u8, used: u16, th: Thread) -> Decision
-    requires { ⌜ th .place < 10 ⌝ }
+    requires { ⌜ th .place < 3 ⌝ }
     ensures { λ r. ⌜ turnOf th r ≡ step (placeOf (th .place)) (store (table (now (cells .entry)) (now (sets .entry))) root used) th ⌝ }
 {
     let place = th.place;
@@ -128,52 +139,31 @@ pub fn find(cells: &[u8; 4096], sets: &[u64; 256], root: u8, used: u16, th: Thre
             let x = nodes::child_for(th.station, n);
             reach(cells, sets, th, x)
         }
-        3 => {
-            let b = nodes::node_at(cells, sets, th.base);
-            if lacking(b, th) {
-                notes::say(th, Answer::Lacking)
-            } else if nodes::is_replaceable(cells, sets, th.base) {
-                clear(b, th)
-            } else {
-                block(th)
-            }
-        }
         _ => notes::stay(th),
     }
 }
 
-// 15: what main m's stage leads to.
-pub fn help(stage: Stage, m: u8, th: Thread) -> Decision
-    ensures { λ r. ⌜ turnOf th r ≡ helpAs stage m th ⌝ }
-{
-    match stage {
-        Stage::Preparing => { notes::go_helping(th, 16, m) }
-        Stage::Completing => { notes::go_helping(th, 40, m) }
-        Stage::Aborted => { notes::go(th, 1) }
-        Stage::Done => { notes::go(th, 1) }
-    }
-}
-
-// 15: the base's kind, and the stage of its main.
-pub fn inspect(cells: &[u8; 4096], sets: &[u64; 256], root: u8, used: u16, th: Thread) -> Decision
-    requires { ⌜ th .place ≡ 15 ⌝ }
+// 3: is the base replaceable?
+pub fn examine(cells: &[u8; 4096], sets: &[u64; 256], root: u8, used: u16, th: Thread) -> Decision
+    requires { ⌜ (3 ≤ th .place) × (th .place < 10) ⌝ }
     ensures { λ r. ⌜ turnOf th r ≡ step (placeOf (th .place)) (store (table (now (cells .entry)) (now (sets .entry))) root used) th ⌝ }
 {
-    let b = nodes::node_at(cells, sets, th.base);
-    let kind = b.kind;
-    let again = notes::go(th, 1);
-    match kind {
-        Kind::Normal => again,
-        Kind::Route => again,
-        Kind::Main => {
-            let stage = b.stage;
-            help(stage, th.base, th)
+    let place = th.place;
+    match place {
+        3 => {
+            let b = nodes::node_at(cells, sets, th.base);
+            if lacking(b, th) {
+                notes::say(th, Answer::Lacking)
+            } else {
+                let c = nodes::check(cells, sets, th.base);
+                if nodes::is_replaceable(c) {
+                    clear(b, th)
+                } else {
+                    block(c, th)
+                }
+            }
         }
-        Kind::Neighbour => {
-            let m = nodes::node_at(cells, sets, b.main);
-            let stage = m.stage;
-            help(stage, b.main, th)
-        }
+        _ => notes::stay(th),
     }
 }
 
@@ -184,7 +174,10 @@ pub fn unblock(cells: &[u8; 4096], sets: &[u64; 256], root: u8, used: u16, th: T
 {
     let place = th.place;
     match place {
-        15 => inspect(cells, sets, root, used, th),
+        15 => {
+            let c = nodes::check(cells, sets, th.base);
+            help(c, th)
+        }
         16 => {
             let m = nodes::node_at(cells, sets, th.main);
             let stage = m.stage;

@@ -5,7 +5,7 @@ use Prim.Native.String.{String}
 use lib.Count.{onesIn, trailingZeros}
 use Rattle.container.specs.Choice.{ite}
 use Rattle.container.specs.Container.{has, insert, remove, union, cut, below, from, size, least, dropLeast, upperHalf, lowerHalf, splitKey}
-use Rattle.definitions.specs.Nodes.{replaceable}
+use Rattle.definitions.specs.Nodes.{check, replaceable}
 use Rattle.definitions.specs.Steps.{reached, blocked, lacks, cleared, lost, probe, replaced, beside, step}
 use Rattle.definitions.specs.Records.{taken, stepped, started, recordStep}
 use Rattle.definitions.specs.Schedule.{countOf, fileRefusal}
@@ -64,7 +64,7 @@ text0006 =
     ∷ []
 
 computed0006 : quickPrinted (bytesOf file0006) ≡ textOf text0006
-unfolding decimal stationsTo stationsText routeLine baseLine setLine listRefusal replaceable actionWord firstLine lastLine taken stepped started recordStep runRefusal countOf fileRefusal reached blocked lacks cleared lost probe replaced beside step ite has insert remove union cut below from size least dropLeast upperHalf lowerHalf splitKey onesIn trailingZeros
+unfolding decimal stationsTo stationsText routeLine baseLine setLine listRefusal check replaceable actionWord firstLine lastLine taken stepped started recordStep runRefusal countOf fileRefusal reached blocked lacks cleared lost probe replaced beside step ite has insert remove union cut below from size least dropLeast upperHalf lowerHalf splitKey onesIn trailingZeros
 computed0006 = refl
 
 pub printed0006 : printed (bytesOf file0006) ≡ textOf text0006
@@ -74,19 +74,18 @@ printed0006 = sym (quickPrinted-printed (bytesOf file0006)) ∙ computed0006
 
 abbrev file0007 : List String
 file0007 =
-    "0100d435122414200030003000120f34133000300032123000300030002000021400000000250f200020001000241020002000240f20002000240f20"
+    "0100d035122414200030003000120f34133000300032123000300030002000021400000000250f200020001000241020002000240f20002000240f20"
     ∷ "001000000002110000000000000412200021102000241220002000341230000000100000002000000010001000100010001000051400000000241200"
     ∷ "001000121010003000300000000000000000000000100020003311300010002000100030003000200030000000211120002000000025142000200030"
-    ∷ "003000300030000000100010000000000010001000100010001000200010001000000010003000300030003411200020002000100010001000000000"
-    ∷ "002000200020002000021100000000000010001000100000000000000000001000200030003000300033142000200020000000200030003000300000"
-    ∷ "003000000010001000100030003000331430003000051110001000121310001000100000000000000000000000000000000000000000000000000000"
-    ∷ "0000000000000000000000000000003000100010001000100010001000100010002000100030002311200020002000200010000000010f0000051100"
-    ∷ "00000020002000"
+    ∷ "003000300030000000100010000000000010001000100010002000100010000000100030003000300034112000200020001000100010000000000020"
+    ∷ "002000200020000211000000000000100010001000000000000000100020003000300030003314200020002000000020003000300030000000300000"
+    ∷ "001000100010003000300033143000300005111000100012131000100010000000000000000000000000000000000000000000000000000000000000"
+    ∷ "000000000000000000000030001000100010001000100010001000200010003000231120002000200010000000010f000005110000000020002000"
     ∷ []
 
 abbrev text0007 : List String
 text0007 =
-    "records 212 of 212 refusal 0;t3 join 18 no;t3 split 19 no;t3 insert 18 yes;t2 split 20 no;t2 join 15 no;t2 split 16 no;t"
+    "records 208 of 208 refusal 0;t3 join 18 no;t3 split 19 no;t3 insert 18 yes;t2 split 20 no;t2 join 15 no;t2 split 16 no;t"
     ∷ "2 split 15 no;t0 insert 20 yes;t0 insert 17 yes;t2 split 15 no;t2 lookup 16 no;t2 split 18 yes;t0 split 18 no;t1 insert "
     ∷ "15 yes;t3 split 18 no;t2 split 18 no;t2 lookup 17 yes;t3 remove 17 yes;t0 join 20 no;t3 split 17 no;t0 insert 17 yes;t3 "
     ∷ "remove 20 yes;t1 insert 16 yes;t2 join 20 no;t0 join 17 yes;t0 lookup 15 yes;t0 join 17 no;0 neighbour 15 16 17 18;set 1"
@@ -94,7 +93,7 @@ text0007 =
     ∷ []
 
 computed0007 : quickPrinted (bytesOf file0007) ≡ textOf text0007
-unfolding decimal stationsTo stationsText routeLine baseLine setLine listRefusal replaceable actionWord firstLine lastLine taken stepped started recordStep runRefusal countOf fileRefusal reached blocked lacks cleared lost probe replaced beside step ite has insert remove union cut below from size least dropLeast upperHalf lowerHalf splitKey onesIn trailingZeros
+unfolding decimal stationsTo stationsText routeLine baseLine setLine listRefusal check replaceable actionWord firstLine lastLine taken stepped started recordStep runRefusal countOf fileRefusal reached blocked lacks cleared lost probe replaced beside step ite has insert remove union cut below from size least dropLeast upperHalf lowerHalf splitKey onesIn trailingZeros
 computed0007 = refl
 
 pub printed0007 : printed (bytesOf file0007) ≡ textOf text0007
@@ -144,7 +143,7 @@ text0008 =
     ∷ []
 
 computed0008 : quickPrinted (bytesOf file0008) ≡ textOf text0008
-unfolding decimal stationsTo stationsText routeLine baseLine setLine listRefusal replaceable actionWord firstLine lastLine taken stepped started recordStep runRefusal countOf fileRefusal reached blocked lacks cleared lost probe replaced beside step ite has insert remove union cut below from size least dropLeast upperHalf lowerHalf splitKey onesIn trailingZeros
+unfolding decimal stationsTo stationsText routeLine baseLine setLine listRefusal check replaceable actionWord firstLine lastLine taken stepped started recordStep runRefusal countOf fileRefusal reached blocked lacks cleared lost probe replaced beside step ite has insert remove union cut below from size least dropLeast upperHalf lowerHalf splitKey onesIn trailingZeros
 computed0008 = refl
 
 pub printed0008 : printed (bytesOf file0008) ≡ textOf text0008

@@ -1,7 +1,9 @@
-//! The coverage table: every place, every turn from place to place, every answer, every refusal; what must be
-//! reached.
+//! The coverage table: every place, every turn from place to place, every case of the check, every answer, every
+//! refusal; what must be reached.
 
-use reference::{Counter, ACTIONS, ANSWERS, JOIN, PLACES, PLACE_LIMIT, REFUSALS, SPLIT};
+use reference::{
+    Counter, ACTIONS, ANSWERS, CHECKS, INSERT, JOIN, PLACES, PLACE_LIMIT, REFUSALS, REMOVE, SPLIT,
+};
 
 /// The swaps that need new node numbers and can be short of them.
 const FULL_PLACES: [u8; 7] = [10, 11, 13, 25, 27, 29, 35];
@@ -21,17 +23,20 @@ const REASONS: [(u8, u8, &[u8]); 10] = [
     (JOIN, 6, &[38]),
 ];
 
+/// Who checks a base, and where: every case must come up for each.
+const CHECKED: [(u8, u8); 5] = [(INSERT, 3), (REMOVE, 3), (SPLIT, 3), (JOIN, 3), (JOIN, 24)];
+
 /// Turns from place to place that matter by themselves: kills, help, lost swaps, aborted joins.
 /// 0 stands for a finish.
 const TURNS: [(u8, u8, &str); 24] = [
-    (3, 15, "an update meets a join"),
+    (3, 1, "an update meets a main whose join is done"),
+    (3, 16, "an update meets a join to kill"),
+    (3, 40, "an update meets a join to help"),
     (10, 15, "an update loses the root"),
     (11, 15, "an update loses on the left"),
     (12, 15, "an update's base is gone"),
     (13, 15, "an update loses on the right"),
-    (15, 1, "a normal base, or a join over"),
-    (15, 16, "a join to kill"),
-    (15, 40, "a join to help"),
+    (15, 1, "a replaceable base is gone"),
     (21, 0, "a join's base is gone"),
     (24, 0, "a join meets a join"),
     (25, 0, "a join loses its base"),
@@ -67,6 +72,20 @@ pub fn report(counter: &Counter) -> Vec<String> {
             .collect();
         let count = need(counter.place(place), format!("place {place}"));
         println!("{place:5} {count:12}  {}", turns.join(", "));
+    }
+    println!("check      reached");
+    for (action, place) in CHECKED {
+        let name = ACTIONS[usize::from(action)];
+        let counts: Vec<String> = CHECKS
+            .iter()
+            .enumerate()
+            .map(|(case, word)| {
+                let count = counter.checks_at(action, case, place);
+                let what = format!("the case {word} in the check at place {place}, {name}");
+                format!("{word}: {}", need(count, what))
+            })
+            .collect();
+        println!("{name:>7} {place:2} {}", counts.join(", "));
     }
     println!("answer     reached");
     for (action, name) in (1..).zip(&ACTIONS[1..]) {

@@ -71,6 +71,7 @@ pub fn each(emit: &mut impl FnMut(&'static str, Vec<u8>)) {
         for station in STATIONS {
             intruders(shape, station, emit);
             late_lookups(shape, station, emit);
+            left_behind(shape, station, emit);
             late_killers(shape, station, emit);
             late_helpers(shape, station, emit);
             short_of_numbers(shape, station, emit);
@@ -130,6 +131,23 @@ fn late_lookups(shape: usize, station: u8, emit: &mut impl FnMut(&'static str, V
                 plan.finish(1);
                 emit("late lookup", plan.file());
             }
+        }
+    }
+}
+
+/// An operation stands in the search while the base it comes to is joined away: it finds a main whose join is done.
+fn left_behind(shape: usize, station: u8, emit: &mut impl FnMut(&'static str, Vec<u8>)) {
+    for steps in 1..=3 {
+        for action in [INSERT, REMOVE, SPLIT, JOIN] {
+            let mut plan = Plan::new();
+            grow(&mut plan, shape);
+            plan.start(1, action, station);
+            for _ in 0..steps {
+                plan.advance(1);
+            }
+            plan.alone(0, JOIN, station);
+            plan.finish(1);
+            emit("left behind", plan.file());
         }
     }
 }

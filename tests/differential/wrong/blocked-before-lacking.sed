@@ -1,2 +1,2 @@
 # src/step.rs: 3 where the base is blocked and lacks something as well.
-s/let base = self.nodes.base(me.base);/&\n        if !self.nodes.replaceable(me.base) {\n            return failed(me, Answer::Blocked);\n        }/
+s/let base = self.nodes.base(me.base);/&\n        if !me.is_update() \&\& self.nodes.check(me.base) != Check::Replaceable {\n            return Finish(Answer::Blocked);\n        }/

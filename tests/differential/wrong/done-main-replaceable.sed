@@ -1,2 +1,2 @@
 # src/node.rs: a main that is done counts as replaceable.
-s/stage == Stage::Aborted,/stage == Stage::Aborted || stage == Stage::Done,/
+/Stage::Done if main == id => Check::Stale,/d

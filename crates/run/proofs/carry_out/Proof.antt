@@ -53,13 +53,14 @@ asking c =
       asks = c .ask .ensures;
     }
 
--- the three parts of the places decide alike
+-- the four parts of the places decide alike
 decided : (c : tie.Joined1 Inv-loop μ-loop) →
     let m = c .before .before .before .before in
     let l = m .before .before .before .before .loop in
     let th = seen (l .threads) (m .record .given .0 .0) past in
     turnOf th (c .if1 .d) ≡ step (placeOf (th .place)) (store (table (l .cells) (l .sets)) (l .root) (l .used)) th
-decided c = ⊎-elim (λ w. rw (w .5) (w .4 .ensures)) (⊎-elim (λ w. rw (w .6) (w .5 .ensures)) (λ w. rw (w .6) (w .5 .ensures))) (c .if1 .came)
+decided c =
+    ⊎-elim (λ w. rw (w .5) (w .4 .ensures)) (⊎-elim (λ w. rw (w .6) (w .5 .ensures)) (⊎-elim (λ w. rw (w .7) (w .6 .ensures)) (λ w. rw (w .7) (w .6 .ensures)))) (c .if1 .came)
 
 idle-thread-requires : tie.Need-idle-thread-requires Inv-loop μ-loop
 idle-thread-requires c κs = search needs
@@ -112,14 +113,23 @@ mul-th-2 c = search needs
 array-copy-out-th-2 : tie.Need-array-copy-out-th-2 Inv-loop μ-loop
 array-copy-out-th-2 c = search needs
 
-decide-swap-requires : tie.Need-decide-swap-requires Inv-loop μ-loop
-decide-swap-requires c κs = search needs
+examine-requires : tie.Need-examine-requires Inv-loop μ-loop
+examine-requires c κs = search needs
 
 mul-th-3 : tie.Need-mul-th-3 Inv-loop μ-loop
 mul-th-3 c = search needs
 
 array-copy-out-th-3 : tie.Need-array-copy-out-th-3 Inv-loop μ-loop
 array-copy-out-th-3 c = search needs
+
+decide-swap-requires : tie.Need-decide-swap-requires Inv-loop μ-loop
+decide-swap-requires c κs = search needs
+
+mul-th-4 : tie.Need-mul-th-4 Inv-loop μ-loop
+mul-th-4 c = search needs
+
+array-copy-out-th-4 : tie.Need-array-copy-out-th-4 Inv-loop μ-loop
+array-copy-out-th-4 c = search needs
 
 decide-join-requires : tie.Need-decide-join-requires Inv-loop μ-loop
 decide-join-requires c κs = search needs
@@ -132,7 +142,7 @@ returns-2 c =
     let j = c .before in
     let a = j .before .before in
     let i = a .before .before .before .before .before in
-    stopped _ _ _ (i .loop-test .taken) (λ z. omega arith) (full-on (asking a) (j .before .match2 .keys1) (j .if1 .d) (decided j) (c .if3 .taken))
+    stopped _ _ _ (i .loop-test .taken) (λ z. omega arith) (full-on (asking a) (j .before .match2 .keys1) (j .if1 .d) (decided j) (c .if4 .taken))
 
 enact-requires : tie.Need-enact-requires Inv-loop μ-loop
 enact-requires c κs = search needs
@@ -164,11 +174,11 @@ mul-threads-3 c = search needs
 way-write-given-threads-3 : tie.Need-way-write-given-threads-3 Inv-loop μ-loop
 way-write-given-threads-3 c = search needs
 
-mul-th-4 : tie.Need-mul-th-4 Inv-loop μ-loop
-mul-th-4 c = search needs
+mul-th-5 : tie.Need-mul-th-5 Inv-loop μ-loop
+mul-th-5 c = search needs
 
-array-copy-out-th-4 : tie.Need-array-copy-out-th-4 Inv-loop μ-loop
-array-copy-out-th-4 c = search needs
+array-copy-out-th-5 : tie.Need-array-copy-out-th-5 Inv-loop μ-loop
+array-copy-out-th-5 c = search needs
 
 note-requires : tie.Need-note-requires Inv-loop μ-loop
 note-requires c κs = search needs
@@ -179,11 +189,11 @@ mul-threads-4 c = search needs
 array-set-from-threads : tie.Need-array-set-from-threads Inv-loop μ-loop
 array-set-from-threads c = search needs
 
-mul-th-5 : tie.Need-mul-th-5 Inv-loop μ-loop
-mul-th-5 c = search needs
+mul-th-6 : tie.Need-mul-th-6 Inv-loop μ-loop
+mul-th-6 c = search needs
 
-array-copy-out-th-5 : tie.Need-array-copy-out-th-5 Inv-loop μ-loop
-array-copy-out-th-5 c = search needs
+array-copy-out-th-6 : tie.Need-array-copy-out-th-6 Inv-loop μ-loop
+array-copy-out-th-6 c = search needs
 
 put-row-requires : tie.Need-put-row-requires Inv-loop μ-loop
 put-row-requires c κs = search needs
@@ -232,7 +242,7 @@ loop-again c =
       (
         length-set (i .before .loop .threads) _ _ ∙ asking a .four,
         noted-on (asking a) (j .before .match2 .keys1) (j .if1 .d) (decided j) (u .before .enact .ensures) (u .used-then .ensures)
-            (c .before .before .before .if4 .taken) (rw (c .before .enum-told2 .given .1)),
+            (c .before .before .before .if5 .taken) (rw (c .before .enum-told2 .given .1)),
       ),
     )
 
@@ -253,7 +263,7 @@ loop-again-2 c =
       (
         rw (length-set, length-set) (asking a .four),
         noted-twice (asking a) (j .before .match2 .keys1) (j .if1 .d) (decided j) (u .before .enact .ensures) (u .used-then .ensures)
-            first (c .before .before .before .before .if4 .taken) (rw (c .before .before .enum-told3 .given .1) (ap (λ (q : Thread). toRoute (q .place) (j .if1 .d .value) q) kept)),
+            first (c .before .before .before .before .if5 .taken) (rw (c .before .before .enum-told3 .given .1) (ap (λ (q : Thread). toRoute (q .place) (j .if1 .d .value) q) kept)),
       ),
     )
 
@@ -270,7 +280,7 @@ loop-again-3 c =
       (
         length-set (i .before .loop .threads) _ _ ∙ asking a .four,
         noted-on (asking a) (j .before .match2 .keys1) (j .if1 .d) (decided j) (u .before .enact .ensures) (u .used-then .ensures)
-            (c .before .before .before .if4 .taken) (c .note .ensures),
+            (c .before .before .before .if5 .taken) (c .note .ensures),
       ),
     )
 
@@ -287,7 +297,7 @@ loop-again-4 c =
       (
         length-set (i .before .loop .threads) _ _ ∙ asking a .four,
         said-on (asking a) (j .before .match2 .keys1) (j .if1 .d) (decided j) (u .before .enact .ensures) (u .used-then .ensures)
-            (omega (arith, c .before .before .before .before .before .if4 .left, u .before .before .before .before .if3 .left)) (i .before .before .idle-thread .ensures) (omega arith) (c .before .before .put-row .ensures),
+            (omega (arith, c .before .before .before .before .before .if5 .left, u .before .before .before .before .if4 .left)) (i .before .before .idle-thread .ensures) (omega arith) (c .before .before .put-row .ensures),
       ),
     )
 
@@ -334,9 +344,12 @@ carry-out-spec =
     find-requires
     mul-th-2
     array-copy-out-th-2
-    decide-swap-requires
+    examine-requires
     mul-th-3
     array-copy-out-th-3
+    decide-swap-requires
+    mul-th-4
+    array-copy-out-th-4
     decide-join-requires
     same-length-2
     returns-2
@@ -350,13 +363,13 @@ carry-out-spec =
     way-write-given-threads-2
     mul-threads-3
     way-write-given-threads-3
-    mul-th-4
-    array-copy-out-th-4
+    mul-th-5
+    array-copy-out-th-5
     note-requires
     mul-threads-4
     array-set-from-threads
-    mul-th-5
-    array-copy-out-th-5
+    mul-th-6
+    array-copy-out-th-6
     put-row-requires
     add-finished
     mul-threads-5

@@ -4,9 +4,6 @@ use borrow.Author.Needs.{needs}
 use Rattle.steps.proofs.search.block.Statement.{statement}
 use Rattle.steps.proofs.search.block.Tie as tie
 
-go-requires : tie.Need-go-requires
-go-requires c κs = search needs
-
 enum-told : tie.Need-enum-told
 enum-told c = search needs
 
@@ -16,8 +13,14 @@ say-requires c κs = search needs
 enum-told-2 : tie.Need-enum-told-2
 enum-told-2 c = search needs
 
+help-requires : tie.Need-help-requires
+help-requires c κs = search needs
+
 enum-told-3 : tie.Need-enum-told-3
 enum-told-3 c = search needs
+
+help-requires-2 : tie.Need-help-requires-2
+help-requires-2 c κs = search needs
 
 enum-told-4 : tie.Need-enum-told-4
 enum-told-4 c = search needs
@@ -50,11 +53,12 @@ pub block-spec : {M : Type 1} → statement M
 block-spec =
     tie.close
     (tie.spec
-    go-requires
     enum-told
     say-requires
     enum-told-2
+    help-requires
     enum-told-3
+    help-requires-2
     enum-told-4
     say-requires-2
     enum-told-5

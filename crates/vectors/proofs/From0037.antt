@@ -5,7 +5,7 @@ use Prim.Native.String.{String}
 use lib.Count.{onesIn, trailingZeros}
 use Rattle.container.specs.Choice.{ite}
 use Rattle.container.specs.Container.{has, insert, remove, union, cut, below, from, size, least, dropLeast, upperHalf, lowerHalf, splitKey}
-use Rattle.definitions.specs.Nodes.{replaceable}
+use Rattle.definitions.specs.Nodes.{check, replaceable}
 use Rattle.definitions.specs.Steps.{reached, blocked, lacks, cleared, lost, probe, replaced, beside, step}
 use Rattle.definitions.specs.Records.{taken, stepped, started, recordStep}
 use Rattle.definitions.specs.Schedule.{countOf, fileRefusal}
@@ -14,44 +14,6 @@ use Rattle.definitions.specs.Listing.{decimal, stationsTo, stationsText, routeL
 use Rattle.definitions.specs.Printed.{actionWord, firstLine, lastLine, printed}
 use Rattle.definitions.proofs.Quick.{quickPrinted, quickPrinted-printed}
 use Rattle.vectors.proofs.Written.{bytesOf, textOf}
-
--- ---- 0036
-
-abbrev file0036 : List String
-file0036 =
-    "01017e041100000000030f131010000000000034113000240f0000020e000030001000000010000000050e00000000040f0000321130003000300033"
-    ∷ "0f0000050e000000003000041000002000200000000000010e1000100020002411300030003000000010000000300030001000100010001210200020"
-    ∷ "002000300030003000300030003000021000000000000021102000200025102000200020002000200020002000300030003000300030000000000010"
-    ∷ "001000200020003000300030003000000030003000200020002000100010002000200020000000000010000000000000000000111010002000100021"
-    ∷ "1120002000220e200020002000300020000000300030002000220e2000151130001000100010001000100010002000200020002000250e2000200020"
-    ∷ "002000200020003000300030003000300032113000000000003000300030003000300020003211300010001000221120000000000002102000151110"
-    ∷ "0010001000100000002000100000002000200020003000000010001000300000003000300000000511000000000000000000003000320f3000300030"
-    ∷ "003000300035103000300024112000200000001000110e100010002000240f2000000030003000300020003000300000000511000000000000000000"
-    ∷ "0000000000040f000000000000040e000000001411000010002000100030003000300030002000030f1000000000003000300030002000210f200000"
-    ∷ "0000000000000000002000000030003000120f1000100010001000100000001000000010000000000000000000030f240f1000100010001000200020"
-    ∷ "0020002111100010001000300030001000100010000000000010000000000030003000330f3000100014111000200000000000000000002000100025"
-    ∷ "102000200000002000000000001000100010001000131130003000300001103000000020002000251010001000100000002000310e30003000321130"
-    ∷ "0030000000010f0000100010002000200020003000300020002000200000000410000010001000110f100030003000"
-    ∷ []
-
-abbrev text0036 : List String
-text0036 =
-    "records 382 of 382 refusal 0;t0 split 17 no;t0 remove 15 no;t3 split 17 no;t0 insert 14 yes;t0 join 14 no;t3 insert 17 y"
-    ∷ "es;t0 split 15 no;t0 join 14 no;t0 split 16 yes;t2 split 15 no;t0 lookup 14 yes;t1 remove 16 no;t2 split 17 no;t2 lookup"
-    ∷ " 16 no;t1 insert 16 yes;t2 join 16 no;t1 lookup 16 yes;t2 lookup 17 yes;t2 insert 14 no;t2 insert 14 no;t3 remove 15 no;"
-    ∷ "t3 insert 17 no;t2 join 14 no;t1 join 17 no;t0 insert 16 no;t2 insert 17 no;t0 insert 16 no;t3 insert 17 no;t3 insert 15"
-    ∷ " yes;t1 join 17 no;t1 lookup 14 yes;t2 split 17 no;t0 join 17 no;t0 join 17 no;t0 split 15 no;t0 split 14 no;t1 split 17"
-    ∷ " no;t2 split 15 no;t2 lookup 15 yes;t0 remove 15 yes;t2 split 15 yes;t3 join 16 yes;t1 insert 15 yes;t2 lookup 17 yes;t0"
-    ∷ " remove 15 yes;t1 split 17 yes;t3 remove 15 no;t2 join 16 no;t3 lookup 14 yes;t0 lookup 16 yes;t0 lookup 15 no;t1 remove"
-    ∷ " 17 yes;0 route 16;1 normal 14;1 route 17;2 normal 16;2 normal -;set 14 16;stored 2 used 34;"
-    ∷ []
-
-computed0036 : quickPrinted (bytesOf file0036) ≡ textOf text0036
-unfolding decimal stationsTo stationsText routeLine baseLine setLine listRefusal replaceable actionWord firstLine lastLine taken stepped started recordStep runRefusal countOf fileRefusal reached blocked lacks cleared lost probe replaced beside step ite has insert remove union cut below from size least dropLeast upperHalf lowerHalf splitKey onesIn trailingZeros
-computed0036 = refl
-
-pub printed0036 : printed (bytesOf file0036) ≡ textOf text0036
-printed0036 = sym (quickPrinted-printed (bytesOf file0036)) ∙ computed0036
 
 -- ---- 0037
 
@@ -71,7 +33,7 @@ text0037 =
     ∷ []
 
 computed0037 : quickPrinted (bytesOf file0037) ≡ textOf text0037
-unfolding decimal stationsTo stationsText routeLine baseLine setLine listRefusal replaceable actionWord firstLine lastLine taken stepped started recordStep runRefusal countOf fileRefusal reached blocked lacks cleared lost probe replaced beside step ite has insert remove union cut below from size least dropLeast upperHalf lowerHalf splitKey onesIn trailingZeros
+unfolding decimal stationsTo stationsText routeLine baseLine setLine listRefusal check replaceable actionWord firstLine lastLine taken stepped started recordStep runRefusal countOf fileRefusal reached blocked lacks cleared lost probe replaced beside step ite has insert remove union cut below from size least dropLeast upperHalf lowerHalf splitKey onesIn trailingZeros
 computed0037 = refl
 
 pub printed0037 : printed (bytesOf file0037) ≡ textOf text0037
@@ -118,7 +80,7 @@ text0038 =
     ∷ []
 
 computed0038 : quickPrinted (bytesOf file0038) ≡ textOf text0038
-unfolding decimal stationsTo stationsText routeLine baseLine setLine listRefusal replaceable actionWord firstLine lastLine taken stepped started recordStep runRefusal countOf fileRefusal reached blocked lacks cleared lost probe replaced beside step ite has insert remove union cut below from size least dropLeast upperHalf lowerHalf splitKey onesIn trailingZeros
+unfolding decimal stationsTo stationsText routeLine baseLine setLine listRefusal check replaceable actionWord firstLine lastLine taken stepped started recordStep runRefusal countOf fileRefusal reached blocked lacks cleared lost probe replaced beside step ite has insert remove union cut below from size least dropLeast upperHalf lowerHalf splitKey onesIn trailingZeros
 computed0038 = refl
 
 pub printed0038 : printed (bytesOf file0038) ≡ textOf text0038
@@ -314,8 +276,45 @@ text0039 =
     ∷ []
 
 computed0039 : quickPrinted (bytesOf file0039) ≡ textOf text0039
-unfolding decimal stationsTo stationsText routeLine baseLine setLine listRefusal replaceable actionWord firstLine lastLine taken stepped started recordStep runRefusal countOf fileRefusal reached blocked lacks cleared lost probe replaced beside step ite has insert remove union cut below from size least dropLeast upperHalf lowerHalf splitKey onesIn trailingZeros
+unfolding decimal stationsTo stationsText routeLine baseLine setLine listRefusal check replaceable actionWord firstLine lastLine taken stepped started recordStep runRefusal countOf fileRefusal reached blocked lacks cleared lost probe replaced beside step ite has insert remove union cut below from size least dropLeast upperHalf lowerHalf splitKey onesIn trailingZeros
 computed0039 = refl
 
 pub printed0039 : printed (bytesOf file0039) ≡ textOf text0039
 printed0039 = sym (quickPrinted-printed (bytesOf file0039)) ∙ computed0039
+
+-- ---- 0040
+
+abbrev file0040 : List String
+file0040 =
+    "01014e35033000023100002207123630000000350b10003000200020001000300000003213021b200030003000100010000000300000002000321200"
+    ∷ "001000200010000000300000002000100012033000300010000000000030002000200020003000300020000000100000003000000035311000100020"
+    ∷ "0030002000100000003000100020002000200010001000000010001000323430000000000000002231011c00002000041d2000100030002000300030"
+    ∷ "00222f0000100020000000000010001000100020001000020f3000100000000000300011353000300000000000000002231000000010003000300032"
+    ∷ "022000000014073000100000001000200010001000000000003000200010001417200020003000000010003000100010000211100030000000300000"
+    ∷ "001000000020002000200020003000100010003000200000001432100020000000200020003000000000001000200000000000213410002000300030"
+    ∷ "00200010003000241b200020000000000000000000100000002000050b00003230000020002000000030002000112800003000223a00001000000000"
+    ∷ "003000100010000000121d20001000300010003000100000003000200035122000100020000000300030001000200030002000100020003000100030"
+    ∷ "002419100020001000100010003000200030001000200020003000100030000000152600000000200020002000000010000000200000000000100030"
+    ∷ "002237200000001000100020002000100032130000200020003000100000000000200030002000253810000000100010002000300020001000100030"
+    ∷ "000000200012011000300030003000100000002000300030003421000030000437000010001000100020002000200030000000000010000000200020"
+    ∷ "0030003000000030003000"
+    ∷ []
+
+abbrev text0040 : List String
+text0040 =
+    "records 334 of 334 refusal 0;t3 join 3 no;t3 join 11 no;t0 insert 49 yes;t3 insert 19 yes;t1 insert 54 yes;t3 insert 18 "
+    ∷ "yes;t3 join 49 no;t2 insert 7 yes;t0 insert 27 yes;t0 lookup 28 no;t2 insert 49 no;t0 split 29 yes;t1 insert 3 yes;t0 in"
+    ∷ "sert 15 yes;t1 lookup 53 no;t3 insert 52 yes;t1 split 7 yes;t0 insert 35 yes;t1 split 23 yes;t2 insert 47 yes;t2 lookup "
+    ∷ "52 yes;t3 insert 2 yes;t1 split 50 no;t0 insert 17 yes;t2 split 27 yes;t1 lookup 40 no;t3 insert 48 yes;t2 insert 58 yes"
+    ∷ ";t1 insert 29 yes;t2 split 25 yes;t3 join 18 no;t2 insert 55 yes;t1 join 38 no;t3 insert 19 no;t0 join 11 yes;t1 insert "
+    ∷ "1 yes;t3 split 33 yes;0 route 27;1 route 18;2 normal 1 2 3 7 15 17;2 route 19;3 normal 18;3 normal 19;1 route 49;2 route"
+    ∷ " 35;3 normal 27 29;3 normal 35 47 48;2 main 49 52 54 55 58;set 1 2 3 7 15 17 18 19 27 29 35 47 48 49 52 54 55 58;stored "
+    ∷ "18 used 44;"
+    ∷ []
+
+computed0040 : quickPrinted (bytesOf file0040) ≡ textOf text0040
+unfolding decimal stationsTo stationsText routeLine baseLine setLine listRefusal check replaceable actionWord firstLine lastLine taken stepped started recordStep runRefusal countOf fileRefusal reached blocked lacks cleared lost probe replaced beside step ite has insert remove union cut below from size least dropLeast upperHalf lowerHalf splitKey onesIn trailingZeros
+computed0040 = refl
+
+pub printed0040 : printed (bytesOf file0040) ≡ textOf text0040
+printed0040 = sym (quickPrinted-printed (bytesOf file0040)) ∙ computed0040

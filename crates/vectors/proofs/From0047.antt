@@ -5,7 +5,7 @@ use Prim.Native.String.{String}
 use lib.Count.{onesIn, trailingZeros}
 use Rattle.container.specs.Choice.{ite}
 use Rattle.container.specs.Container.{has, insert, remove, union, cut, below, from, size, least, dropLeast, upperHalf, lowerHalf, splitKey}
-use Rattle.definitions.specs.Nodes.{replaceable}
+use Rattle.definitions.specs.Nodes.{check, replaceable}
 use Rattle.definitions.specs.Steps.{reached, blocked, lacks, cleared, lost, probe, replaced, beside, step}
 use Rattle.definitions.specs.Records.{taken, stepped, started, recordStep}
 use Rattle.definitions.specs.Schedule.{countOf, fileRefusal}
@@ -14,37 +14,6 @@ use Rattle.definitions.specs.Listing.{decimal, stationsTo, stationsText, routeL
 use Rattle.definitions.specs.Printed.{actionWord, firstLine, lastLine, printed}
 use Rattle.definitions.proofs.Quick.{quickPrinted, quickPrinted-printed}
 use Rattle.vectors.proofs.Written.{bytesOf, textOf}
-
--- ---- 0046
-
-abbrev file0046 : List String
-file0046 =
-    "0100d0021c000000000000151e10001000151e2518200010001000151a1000321b100030003000300032193000021e00000000000030003000300030"
-    ∷ "0030003000321b30001219100010001000011c0000051c30003000300030003000300012181000100010000000200022190000011d321c3000300030"
-    ∷ "00351e300030000000051a00000000051800000000031e00000000111d321c300030003000311a3000321c00000000000000000000021c2000200010"
-    ∷ "001219000000000000021e3000000030003000351930003000311e3000321c300000000000100010001000121c300030003000200020002000200020"
-    ∷ "002218200020002000100030003000300000000000000000003218300030003000321b10001000100010001000251820002000221b20002000200023"
-    ∷ "1d200020002000021b300010001000100010001000151b10003000221a1000000015181000200020002000241b2000000020002000211d2000200025"
-    ∷ "1820002000100020002000200020003000151c300030003000300000000000300030003000321830003000300030003000100032182000251b3000"
-    ∷ []
-
-abbrev text0046 : List String
-text0046 =
-    "records 208 of 208 refusal 0;t0 insert 28 yes;t1 join 30 no;t1 join 30 no;t1 join 26 no;t3 insert 27 yes;t0 insert 30 ye"
-    ∷ "s;t3 insert 25 yes;t1 insert 25 no;t0 lookup 28 yes;t3 insert 27 no;t1 insert 24 yes;t2 join 24 no;t0 join 28 no;t3 inse"
-    ∷ "rt 28 no;t3 join 30 no;t0 lookup 29 no;t0 join 26 no;t0 join 24 no;t3 insert 28 no;t3 lookup 26 no;t0 remove 30 yes;t1 l"
-    ∷ "ookup 29 no;t0 insert 28 no;t3 insert 28 no;t3 join 25 no;t3 lookup 30 no;t1 insert 25 no;t2 insert 25 no;t2 insert 24 n"
-    ∷ "o;t3 insert 28 no;t0 insert 30 yes;t3 insert 24 no;t2 join 24 no;t2 insert 27 no;t2 remove 29 no;t1 insert 28 no;t1 join"
-    ∷ " 27 no;t2 insert 26 yes;t2 split 27 yes;t2 lookup 29 no;t1 join 24 no;t3 insert 27 no;t3 insert 24 no;t2 join 24 no;0 ro"
-    ∷ "ute 27;1 normal 24 25 26;1 normal 27 28 30;set 24 25 26 27 28 30;stored 6 used 28;"
-    ∷ []
-
-computed0046 : quickPrinted (bytesOf file0046) ≡ textOf text0046
-unfolding decimal stationsTo stationsText routeLine baseLine setLine listRefusal replaceable actionWord firstLine lastLine taken stepped started recordStep runRefusal countOf fileRefusal reached blocked lacks cleared lost probe replaced beside step ite has insert remove union cut below from size least dropLeast upperHalf lowerHalf splitKey onesIn trailingZeros
-computed0046 = refl
-
-pub printed0046 : printed (bytesOf file0046) ≡ textOf text0046
-printed0046 = sym (quickPrinted-printed (bytesOf file0046)) ∙ computed0046
 
 -- ---- 0047
 
@@ -90,7 +59,7 @@ text0047 =
     ∷ []
 
 computed0047 : quickPrinted (bytesOf file0047) ≡ textOf text0047
-unfolding decimal stationsTo stationsText routeLine baseLine setLine listRefusal replaceable actionWord firstLine lastLine taken stepped started recordStep runRefusal countOf fileRefusal reached blocked lacks cleared lost probe replaced beside step ite has insert remove union cut below from size least dropLeast upperHalf lowerHalf splitKey onesIn trailingZeros
+unfolding decimal stationsTo stationsText routeLine baseLine setLine listRefusal check replaceable actionWord firstLine lastLine taken stepped started recordStep runRefusal countOf fileRefusal reached blocked lacks cleared lost probe replaced beside step ite has insert remove union cut below from size least dropLeast upperHalf lowerHalf splitKey onesIn trailingZeros
 computed0047 = refl
 
 pub printed0047 : printed (bytesOf file0047) ≡ textOf text0047
@@ -118,7 +87,7 @@ text0048 =
     ∷ []
 
 computed0048 : quickPrinted (bytesOf file0048) ≡ textOf text0048
-unfolding decimal stationsTo stationsText routeLine baseLine setLine listRefusal replaceable actionWord firstLine lastLine taken stepped started recordStep runRefusal countOf fileRefusal reached blocked lacks cleared lost probe replaced beside step ite has insert remove union cut below from size least dropLeast upperHalf lowerHalf splitKey onesIn trailingZeros
+unfolding decimal stationsTo stationsText routeLine baseLine setLine listRefusal check replaceable actionWord firstLine lastLine taken stepped started recordStep runRefusal countOf fileRefusal reached blocked lacks cleared lost probe replaced beside step ite has insert remove union cut below from size least dropLeast upperHalf lowerHalf splitKey onesIn trailingZeros
 computed0048 = refl
 
 pub printed0048 : printed (bytesOf file0048) ≡ textOf text0048
@@ -266,7 +235,7 @@ text0049 =
     ∷ []
 
 computed0049 : quickPrinted (bytesOf file0049) ≡ textOf text0049
-unfolding decimal stationsTo stationsText routeLine baseLine setLine listRefusal replaceable actionWord firstLine lastLine taken stepped started recordStep runRefusal countOf fileRefusal reached blocked lacks cleared lost probe replaced beside step ite has insert remove union cut below from size least dropLeast upperHalf lowerHalf splitKey onesIn trailingZeros
+unfolding decimal stationsTo stationsText routeLine baseLine setLine listRefusal check replaceable actionWord firstLine lastLine taken stepped started recordStep runRefusal countOf fileRefusal reached blocked lacks cleared lost probe replaced beside step ite has insert remove union cut below from size least dropLeast upperHalf lowerHalf splitKey onesIn trailingZeros
 computed0049 = refl
 
 pub printed0049 : printed (bytesOf file0049) ≡ textOf text0049
@@ -311,8 +280,49 @@ text0050 =
     ∷ []
 
 computed0050 : quickPrinted (bytesOf file0050) ≡ textOf text0050
-unfolding decimal stationsTo stationsText routeLine baseLine setLine listRefusal replaceable actionWord firstLine lastLine taken stepped started recordStep runRefusal countOf fileRefusal reached blocked lacks cleared lost probe replaced beside step ite has insert remove union cut below from size least dropLeast upperHalf lowerHalf splitKey onesIn trailingZeros
+unfolding decimal stationsTo stationsText routeLine baseLine setLine listRefusal check replaceable actionWord firstLine lastLine taken stepped started recordStep runRefusal countOf fileRefusal reached blocked lacks cleared lost probe replaced beside step ite has insert remove union cut below from size least dropLeast upperHalf lowerHalf splitKey onesIn trailingZeros
 computed0050 = refl
 
 pub printed0050 : printed (bytesOf file0050) ≡ textOf text0050
 printed0050 = sym (quickPrinted-printed (bytesOf file0050)) ∙ computed0050
+
+-- ---- 0051
+
+abbrev file0051 : List String
+file0051 =
+    "0101b1020200000000320c300030000000042b0000000030003000210320003000300030003217300030003000323530003000300033103000300022"
+    ∷ "042000200020002205200020002000223920002000200024132000200020002433200020002000200020002000211930003000052900000000000000"
+    ∷ "00300030003000300000000000000000000000000000000000000000000000000000000000111410001000100014231000100010001000153d100010"
+    ∷ "003000300030003000200030003000300020002000251620001000100015311000100010001000141010001000100030003000300030003000300030"
+    ∷ "003000300020000000000000000000000000000000042200000000000000000000100011191000100000000426000000001220200020002000223020"
+    ∷ "00200020002000200020002122200020002000243220002000000000003000300030003000300030003000323d300010001000100010002000000000"
+    ∷ "000402000010001000141910001000100010001000100011271000000000000000000003260000300030003000300030003000320530003000300030"
+    ∷ "00300030003000322a300030003000000000000000000030003000300030003000352210001000100011113000300030003000300030003000300030"
+    ∷ "00200020002000221f300030003000300030003000300030003000300030003000300030003000300000000000000010001000100015211000100010"
+    ∷ "001000130e10002000200020002000200030003000312430003000300000000000000000000000341830003000300030000000023b10001000100010"
+    ∷ "001000122410001000100010000000000000000000000000000000053c00002000200020002000200020002000200020002000200020002000241d20"
+    ∷ "00300030001000100020002000200020002000212f20002000100010001000100010001000100010001000143a100010001000100010001000100015"
+    ∷ "111000000000000000100010001000100010001000100010001000100010003129300030000000000000000000000000000000000010001000100010"
+    ∷ "001000100010001000200020002421200020002000200020002310200020002000200020000000000000000000000000000000052700000000000000"
+    ∷ "0020003000300033053000300030003000300030003000331230003000"
+    ∷ []
+
+abbrev text0051 : List String
+text0051 =
+    "records 433 of 433 refusal 0;t0 insert 2 yes;t0 split 43 no;t2 lookup 3 no;t3 insert 12 yes;t3 insert 23 yes;t3 insert 5"
+    ∷ "3 yes;t2 insert 4 yes;t2 insert 5 yes;t2 insert 57 yes;t2 split 19 yes;t2 split 51 yes;t1 lookup 20 no;t1 split 35 no;t2"
+    ∷ " lookup 25 no;t1 join 61 no;t1 join 49 no;t0 join 41 yes;t1 split 16 no;t1 lookup 25 no;t0 split 34 yes;t2 join 22 no;t2"
+    ∷ " insert 48 yes;t2 lookup 34 no;t3 remove 16 no;t0 split 38 no;t1 insert 32 yes;t1 split 25 yes;t0 split 2 yes;t3 insert "
+    ∷ "61 yes;t3 insert 5 no;t3 insert 42 yes;t1 lookup 39 no;t2 split 50 no;t1 lookup 17 no;t1 join 33 no;t3 join 34 yes;t3 lo"
+    ∷ "okup 36 no;t0 remove 38 no;t1 remove 14 no;t0 insert 59 yes;t2 insert 31 yes;t3 split 24 no;t2 split 29 yes;t1 insert 36"
+    ∷ " yes;t1 split 58 yes;t2 lookup 47 no;t2 split 33 no;t0 join 60 no;t3 lookup 41 no;t3 remove 5 yes;0 route 12;1 route 4;2"
+    ∷ " normal 2;2 normal 4;1 route 53;2 route 32;3 main 12 23 31;3 neighbour 32 36 42 48;2 route 59;3 neighbour 53 57;3 main 5"
+    ∷ "9 61;set 2 4 12 23 31 32 36 42 48 53 57 59 61;stored 13 used 52;"
+    ∷ []
+
+computed0051 : quickPrinted (bytesOf file0051) ≡ textOf text0051
+unfolding decimal stationsTo stationsText routeLine baseLine setLine listRefusal check replaceable actionWord firstLine lastLine taken stepped started recordStep runRefusal countOf fileRefusal reached blocked lacks cleared lost probe replaced beside step ite has insert remove union cut below from size least dropLeast upperHalf lowerHalf splitKey onesIn trailingZeros
+computed0051 = refl
+
+pub printed0051 : printed (bytesOf file0051) ≡ textOf text0051
+printed0051 = sym (quickPrinted-printed (bytesOf file0051)) ∙ computed0051

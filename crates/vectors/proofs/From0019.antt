@@ -5,7 +5,7 @@ use Prim.Native.String.{String}
 use lib.Count.{onesIn, trailingZeros}
 use Rattle.container.specs.Choice.{ite}
 use Rattle.container.specs.Container.{has, insert, remove, union, cut, below, from, size, least, dropLeast, upperHalf, lowerHalf, splitKey}
-use Rattle.definitions.specs.Nodes.{replaceable}
+use Rattle.definitions.specs.Nodes.{check, replaceable}
 use Rattle.definitions.specs.Steps.{reached, blocked, lacks, cleared, lost, probe, replaced, beside, step}
 use Rattle.definitions.specs.Records.{taken, stepped, started, recordStep}
 use Rattle.definitions.specs.Schedule.{countOf, fileRefusal}
@@ -14,39 +14,6 @@ use Rattle.definitions.specs.Listing.{decimal, stationsTo, stationsText, routeL
 use Rattle.definitions.specs.Printed.{actionWord, firstLine, lastLine, printed}
 use Rattle.definitions.proofs.Quick.{quickPrinted, quickPrinted-printed}
 use Rattle.vectors.proofs.Written.{bytesOf, textOf}
-
--- ---- 0018
-
-abbrev file0018 : List String
-file0018 =
-    "010100131732141000023a2231100030003000100030002000110c000020001000000012272000100030000000300000003000253000001000000000"
-    ∷ "00200030002000232910001000300020002000023130001000200000001000212100001000200000003000232a200005252000300020000000232120"
-    ∷ "00300020000000100010000516100000003000300000003000200010002000051733312000200030002000000030000000051e100010003000300000"
-    ∷ "0010001000222b3000000014270113100020002000200010001000230c13101000200000003000021f30000000000030003000200010001000000020"
-    ∷ "0000001117200000000000100030003000140b2000100010000000300020000323300000000000100020002000200030000000021020002000132100"
-    ∷ "000000200020001000200000002000200030000314100030001000100030002000300000000000200030003337200020003000300020003000000000"
-    ∷ "002000100020000000000010003232000003323000200000003000000000000229300010001000300020002000200010002222200010003000200020"
-    ∷ "002234100020001000300010000000300030000000200010002000300021320000200000001000211a10001000300020001000100013351000221710"
-    ∷ "0010001526300020002000100010001110300030002000000000000000023910002327"
-    ∷ []
-
-abbrev text0018 : List String
-text0018 =
-    "records 256 of 256 refusal 0;t1 remove 23 no;t1 lookup 12 no;t2 insert 49 yes;t0 insert 58 yes;t2 join 48 no;t2 remove 4"
-    ∷ "1 no;t2 lookup 33 no;t0 insert 49 no;t2 remove 42 no;t0 join 37 no;t0 join 22 no;t3 insert 20 yes;t2 remove 33 no;t0 joi"
-    ∷ "n 23 no;t1 insert 39 yes;t0 join 30 no;t2 insert 43 yes;t1 split 39 no;t0 lookup 19 no;t1 remove 16 no;t1 lookup 23 no;t"
-    ∷ "0 insert 31 yes;t1 split 11 no;t0 remove 35 no;t0 insert 16 yes;t3 remove 49 yes;t3 remove 55 no;t0 remove 20 yes;t0 rem"
-    ∷ "ove 50 no;t2 remove 12 no;t2 insert 34 yes;t2 insert 52 yes;t2 lookup 50 no;t2 lookup 26 no;t1 remove 33 no;t1 remove 53"
-    ∷ " no;t1 join 38 no;t2 insert 23 yes;t0 insert 41 yes;t1 lookup 16 yes;0 normal 16 23 31 34 39 41 43 52 58;set 16 23 31 34"
-    ∷ " 39 41 43 52 58;stored 9 used 26;"
-    ∷ []
-
-computed0018 : quickPrinted (bytesOf file0018) ≡ textOf text0018
-unfolding decimal stationsTo stationsText routeLine baseLine setLine listRefusal replaceable actionWord firstLine lastLine taken stepped started recordStep runRefusal countOf fileRefusal reached blocked lacks cleared lost probe replaced beside step ite has insert remove union cut below from size least dropLeast upperHalf lowerHalf splitKey onesIn trailingZeros
-computed0018 = refl
-
-pub printed0018 : printed (bytesOf file0018) ≡ textOf text0018
-printed0018 = sym (quickPrinted-printed (bytesOf file0018)) ∙ computed0018
 
 -- ---- 0019
 
@@ -267,7 +234,7 @@ text0019 =
     ∷ []
 
 computed0019 : quickPrinted (bytesOf file0019) ≡ textOf text0019
-unfolding decimal stationsTo stationsText routeLine baseLine setLine listRefusal replaceable actionWord firstLine lastLine taken stepped started recordStep runRefusal countOf fileRefusal reached blocked lacks cleared lost probe replaced beside step ite has insert remove union cut below from size least dropLeast upperHalf lowerHalf splitKey onesIn trailingZeros
+unfolding decimal stationsTo stationsText routeLine baseLine setLine listRefusal check replaceable actionWord firstLine lastLine taken stepped started recordStep runRefusal countOf fileRefusal reached blocked lacks cleared lost probe replaced beside step ite has insert remove union cut below from size least dropLeast upperHalf lowerHalf splitKey onesIn trailingZeros
 computed0019 = refl
 
 pub printed0019 : printed (bytesOf file0019) ≡ textOf text0019
@@ -277,21 +244,21 @@ printed0019 = sym (quickPrinted-printed (bytesOf file0019)) ∙ computed0019
 
 abbrev file0020 : List String
 file0020 =
-    "01011c040a2208200020002000330e300030003000341330003000350c30003000240920002000240f20002000220720002000200025052000200022"
+    "01011a040a2208200020002000330e300030003000341330003000350c30003000240920002000240f20002000220720002000200025052000200022"
     ∷ "08200000000000000002100000340c3000300030003413300000000000200020002000200020002000200020002000210b2000200025132000200020"
     ∷ "0020002000150a1000300030003514300030003000300030003000100010002000200020002000200020002000200020002000200020002000000000"
-    ∷ "000000000000000000300030003111300030003414300030003000321130003000300030003000300020002000220620002000200024072000300030"
-    ∷ "003000300030003000300000000000000010001000120d00000205000000000000020b0000100010001000130e100010001000111110001112100020"
-    ∷ "002000240c20002000140a100010001000110f1000100015131000100010001000100010001000350900000000100010001000100010001000100010"
-    ∷ "001000100010002000220c10001000111210001413100020002000200024132000200020002407200020002000200020002205200020002000200020"
-    ∷ "0020002106200020002000250b200020002000200020003000300030003000300010001000130e300030003000300030003000300030003000300030"
-    ∷ "002000220820002000200020002000200020002000200020002000000000000000000000000000000000000211000000001000300030003000300031"
-    ∷ "133000300032083000300030003000300030003000350c3000100010001000"
+    ∷ "000000000000000000300030003111300030003414300030003000321130003000300030003000200020002206200020002000240720003000300030"
+    ∷ "00300030003000300000000000000010001000120d00000205000000000000020b0000100010001000130e1000100010001111100011121000200020"
+    ∷ "00240c20002000140a100010001000110f10001000151310001000100010001000100010003509000000001000100010001000100010001000100010"
+    ∷ "00100010002000220c100010001112100014131000200020002000241320002000200024072000200020002000200022052000200020002000200020"
+    ∷ "002106200020002000250b200020002000200020003000300030003000300010001000130e3000300030003000300030003000300030003000300020"
+    ∷ "002208200020002000200020002000200020002000200000000000000000000000000000000000021100000000100030003000300030003113300030"
+    ∷ "0032083000300030003000300030003000350c3000100010001000"
     ∷ []
 
 abbrev text0020 : List String
 text0020 =
-    "records 284 of 284 refusal 0;t2 insert 8 yes;t3 remove 14 no;t3 split 19 no;t3 join 12 no;t2 split 9 no;t2 split 15 no;t"
+    "records 282 of 282 refusal 0;t2 insert 8 yes;t3 remove 14 no;t3 split 19 no;t3 join 12 no;t2 split 9 no;t2 split 15 no;t"
     ∷ "2 insert 7 yes;t2 join 5 no;t0 split 10 yes;t3 split 12 no;t2 insert 8 no;t2 lookup 11 no;t3 split 19 no;t3 join 20 no;t"
     ∷ "3 lookup 17 no;t3 split 20 no;t2 join 19 yes;t2 insert 6 yes;t3 insert 17 yes;t1 join 10 no;t0 insert 16 yes;t0 insert 5"
     ∷ " yes;t1 insert 13 yes;t1 remove 14 no;t1 lookup 17 yes;t1 lookup 18 no;t2 split 7 no;t1 split 10 yes;t1 lookup 15 no;t2 "
@@ -301,8 +268,62 @@ text0020 =
     ∷ []
 
 computed0020 : quickPrinted (bytesOf file0020) ≡ textOf text0020
-unfolding decimal stationsTo stationsText routeLine baseLine setLine listRefusal replaceable actionWord firstLine lastLine taken stepped started recordStep runRefusal countOf fileRefusal reached blocked lacks cleared lost probe replaced beside step ite has insert remove union cut below from size least dropLeast upperHalf lowerHalf splitKey onesIn trailingZeros
+unfolding decimal stationsTo stationsText routeLine baseLine setLine listRefusal check replaceable actionWord firstLine lastLine taken stepped started recordStep runRefusal countOf fileRefusal reached blocked lacks cleared lost probe replaced beside step ite has insert remove union cut below from size least dropLeast upperHalf lowerHalf splitKey onesIn trailingZeros
 computed0020 = refl
 
 pub printed0020 : printed (bytesOf file0020) ≡ textOf text0020
 printed0020 = sym (quickPrinted-printed (bytesOf file0020)) ∙ computed0020
+
+-- ---- 0021
+
+abbrev file0021 : List String
+file0021 =
+    "01022e022d000000000000022c000000000000052f222f200020002000222c20001231100010001000122f20002000100010001000122d3230200020"
+    ∷ "002000100010001000153110001000200030001230100030003000353030003000322e20002000200020002231200020001000000030003000300031"
+    ∷ "313000352e300000002000022c000000000000022c000000000000022e000000000000022d000000000000032f000000000000052d10001000100010"
+    ∷ "00100030003231300030003000322f2000200020002000252c2000200011311000122f22302000100010001000122e100010001000122c1000000000"
+    ∷ "00022f000000002000300030003000322c00000000000020002000200020002000252c300030003000000000000000000000000000032f0000000000"
+    ∷ "002000200021312000222d200020002000252f20002000222f200020002000252e20002000222e200020001000100010001000100010001230100010"
+    ∷ "00100020002000200015302000352c30003000322d3000300030001000022e000000000000022d000000000000012e0000052f352e30002000200000"
+    ∷ "000000052e00001000112c1000152e10001000123010000000200020002000212d2000222e200020002000222c3000332e300030003000352d300030"
+    ∷ "00022e000000000000032d000000000000023100000000000001300000022e00000000100010001000100010001000122d1000100000000000000000"
+    ∷ "000000022c0000000000001000200020002000222e200020003231300030003000322c20002000200020002000052c00000000053100000000032d00"
+    ∷ "0030001000100010001000152e100010001230100010001000000000000000000000000000012e0000052e000000000330000000000000122f100022"
+    ∷ "300230000000003000300030003000300030003531300030003231000010001000100010001000100020002000200000000000122e10001000100022"
+    ∷ "2e20000000000000003000300030000000000000000231000000000000052d000000000231000000000000023020002000200020000000312f300032"
+    ∷ "2e1230100000000000022d00000000300030003000322e20002000200020002000300030003000352c30001000100020002000200000002000200022"
+    ∷ "2c200010001000100010001231100010001000122d200020000000000000000000023000000000000020002000200020002230200020002000222e20"
+    ∷ "0020002000100010001000132f1000100010001230100010003000312c3000322e300030003000312c3000352d30003000332f300030003000352f22"
+    ∷ "3130003000352f2000200020002230200020002000252d022c0000000000000230000000001000100030003000313130003531300030000000052f00"
+    ∷ "0020001000200021302000252e2000200010001000122c100010001000122d10001000222c20002000312e30002000222c2000200020002230200020"
+    ∷ "002000222c20000000022e00000000352f30000000100010001000100020002000200020003000"
+    ∷ []
+
+abbrev text0021 : List String
+text0021 =
+    "records 558 of 558 refusal 0;t0 insert 45 yes;t0 insert 44 yes;t2 insert 47 yes;t1 insert 49 yes;t1 insert 47 no;t1 inse"
+    ∷ "rt 45 no;t1 join 49 no;t3 insert 48 yes;t3 join 48 no;t2 insert 44 no;t3 insert 46 yes;t3 lookup 49 yes;t0 join 47 no;t0"
+    ∷ " insert 44 no;t0 insert 44 no;t0 insert 46 no;t0 insert 45 no;t0 remove 47 yes;t1 insert 48 no;t3 join 46 no;t3 insert 4"
+    ∷ "9 no;t2 insert 49 no;t2 join 44 no;t1 lookup 49 yes;t1 insert 47 yes;t1 insert 46 no;t0 join 45 no;t3 insert 47 no;t2 in"
+    ∷ "sert 48 no;t3 insert 44 no;t0 insert 47 no;t0 remove 47 yes;t2 join 44 no;t2 lookup 49 yes;t2 insert 45 no;t2 join 47 no"
+    ∷ ";t2 insert 47 yes;t2 join 46 no;t1 insert 44 no;t1 insert 48 no;t3 join 44 no;t3 insert 45 no;t0 insert 46 no;t0 insert "
+    ∷ "45 no;t0 lookup 46 yes;t0 join 47 no;t1 join 48 no;t1 lookup 44 yes;t1 join 46 no;t0 join 46 no;t2 insert 46 no;t2 looku"
+    ∷ "p 45 yes;t2 insert 46 no;t3 join 46 no;t3 remove 46 yes;t3 join 45 no;t0 insert 46 yes;t0 remove 45 yes;t0 insert 49 no;"
+    ∷ "t0 lookup 48 yes;t1 insert 48 no;t0 insert 46 no;t0 insert 44 no;t2 insert 44 no;t3 insert 49 no;t2 insert 46 no;t0 join"
+    ∷ " 44 no;t0 join 49 no;t1 insert 45 yes;t1 join 46 no;t1 insert 48 no;t0 remove 45 yes;t0 lookup 46 yes;t0 join 46 no;t0 r"
+    ∷ "emove 48 yes;t3 insert 44 no;t3 join 49 no;t1 insert 47 no;t2 insert 48 yes;t1 insert 46 no;t3 insert 49 no;t0 insert 48"
+    ∷ " no;t0 insert 49 no;t0 join 45 no;t0 insert 49 no;t3 lookup 47 yes;t0 insert 48 no;t3 insert 46 no;t3 insert 46 no;t2 in"
+    ∷ "sert 46 no;t1 insert 48 no;t1 insert 49 no;t0 insert 45 yes;t0 insert 48 no;t2 insert 44 no;t2 insert 48 no;t2 insert 46"
+    ∷ " no;t1 insert 45 no;t1 remove 47 yes;t3 join 44 no;t3 lookup 44 yes;t3 insert 46 no;t3 lookup 44 yes;t3 join 45 no;t3 re"
+    ∷ "move 47 no;t3 join 47 no;t2 insert 49 no;t2 insert 48 no;t0 insert 44 no;t3 join 47 no;t3 lookup 49 yes;t3 join 49 no;t0"
+    ∷ " insert 48 no;t2 join 45 no;t2 lookup 48 yes;t2 join 46 no;t1 insert 48 no;t1 insert 44 no;t3 lookup 46 yes;t2 insert 44"
+    ∷ " no;t2 insert 44 no;t2 insert 48 no;t0 join 47 no;t0 insert 46 no;t3 join 47 no;0 normal 44 45 46 48 49;set 44 45 46 48 "
+    ∷ "49;stored 5 used 81;"
+    ∷ []
+
+computed0021 : quickPrinted (bytesOf file0021) ≡ textOf text0021
+unfolding decimal stationsTo stationsText routeLine baseLine setLine listRefusal check replaceable actionWord firstLine lastLine taken stepped started recordStep runRefusal countOf fileRefusal reached blocked lacks cleared lost probe replaced beside step ite has insert remove union cut below from size least dropLeast upperHalf lowerHalf splitKey onesIn trailingZeros
+computed0021 = refl
+
+pub printed0021 : printed (bytesOf file0021) ≡ textOf text0021
+printed0021 = sym (quickPrinted-printed (bytesOf file0021)) ∙ computed0021

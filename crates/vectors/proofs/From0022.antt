@@ -5,7 +5,7 @@ use Prim.Native.String.{String}
 use lib.Count.{onesIn, trailingZeros}
 use Rattle.container.specs.Choice.{ite}
 use Rattle.container.specs.Container.{has, insert, remove, union, cut, below, from, size, least, dropLeast, upperHalf, lowerHalf, splitKey}
-use Rattle.definitions.specs.Nodes.{replaceable}
+use Rattle.definitions.specs.Nodes.{check, replaceable}
 use Rattle.definitions.specs.Steps.{reached, blocked, lacks, cleared, lost, probe, replaced, beside, step}
 use Rattle.definitions.specs.Records.{taken, stepped, started, recordStep}
 use Rattle.definitions.specs.Schedule.{countOf, fileRefusal}
@@ -14,60 +14,6 @@ use Rattle.definitions.specs.Listing.{decimal, stationsTo, stationsText, routeL
 use Rattle.definitions.specs.Printed.{actionWord, firstLine, lastLine, printed}
 use Rattle.definitions.proofs.Quick.{quickPrinted, quickPrinted-printed}
 use Rattle.vectors.proofs.Written.{bytesOf, textOf}
-
--- ---- 0021
-
-abbrev file0021 : List String
-file0021 =
-    "01022e022d000000000000022c000000000000052f222f200020002000222c20001231100010001000122f20002000100010001000122d3230200020"
-    ∷ "002000100010001000153110001000200030001230100030003000353030003000322e20002000200020002231200020001000000030003000300031"
-    ∷ "313000352e300000002000022c000000000000022c000000000000022e000000000000022d000000000000032f000000000000052d10001000100010"
-    ∷ "00100030003231300030003000322f2000200020002000252c2000200011311000122f22302000100010001000122e100010001000122c1000000000"
-    ∷ "00022f000000002000300030003000322c00000000000020002000200020002000252c300030003000000000000000000000000000032f0000000000"
-    ∷ "002000200021312000222d200020002000252f20002000222f200020002000252e20002000222e200020001000100010001000100010001230100010"
-    ∷ "00100020002000200015302000352c30003000322d3000300030001000022e000000000000022d000000000000012e0000052f352e30002000200000"
-    ∷ "000000052e00001000112c1000152e10001000123010000000200020002000212d2000222e200020002000222c3000332e300030003000352d300030"
-    ∷ "00022e000000000000032d000000000000023100000000000001300000022e00000000100010001000100010001000122d1000100000000000000000"
-    ∷ "000000022c0000000000001000200020002000222e200020003231300030003000322c20002000200020002000052c00000000053100000000032d00"
-    ∷ "0030001000100010001000152e100010001230100010001000000000000000000000000000012e0000052e000000000330000000000000122f100022"
-    ∷ "300230000000003000300030003000300030003531300030003231000010001000100010001000100020002000200000000000122e10001000100022"
-    ∷ "2e20000000000000003000300030000000000000000231000000000000052d000000000231000000000000023020002000200020000000312f300032"
-    ∷ "2e1230100000000000022d00000000300030003000322e20002000200020002000300030003000352c30001000100020002000200000002000200022"
-    ∷ "2c200010001000100010001231100010001000122d200020000000000000000000023000000000000020002000200020002230200020002000222e20"
-    ∷ "0020002000100010001000132f1000100010001230100010003000312c3000322e300030003000312c3000352d30003000332f300030003000352f22"
-    ∷ "3130003000352f2000200020002230200020002000252d022c0000000000000230000000001000100030003000313130003531300030000000052f00"
-    ∷ "0020001000200021302000252e2000200010001000122c100010001000122d10001000222c20002000312e30002000222c2000200020002230200020"
-    ∷ "002000222c20000000022e00000000352f30000000100010001000100020002000200020003000"
-    ∷ []
-
-abbrev text0021 : List String
-text0021 =
-    "records 558 of 558 refusal 0;t0 insert 45 yes;t0 insert 44 yes;t2 insert 47 yes;t1 insert 49 yes;t1 insert 47 no;t1 inse"
-    ∷ "rt 45 no;t1 join 49 no;t3 insert 48 yes;t3 join 48 no;t2 insert 44 no;t3 insert 46 yes;t3 lookup 49 yes;t0 join 47 no;t0"
-    ∷ " insert 44 no;t0 insert 44 no;t0 insert 46 no;t0 insert 45 no;t0 remove 47 yes;t1 insert 48 no;t3 join 46 no;t3 insert 4"
-    ∷ "9 no;t2 insert 49 no;t2 join 44 no;t1 lookup 49 yes;t1 insert 47 yes;t1 insert 46 no;t0 join 45 no;t3 insert 47 no;t2 in"
-    ∷ "sert 48 no;t3 insert 44 no;t0 insert 47 no;t0 remove 47 yes;t2 join 44 no;t2 lookup 49 yes;t2 insert 45 no;t2 join 47 no"
-    ∷ ";t2 insert 47 yes;t2 join 46 no;t1 insert 44 no;t1 insert 48 no;t3 join 44 no;t3 insert 45 no;t0 insert 46 no;t0 insert "
-    ∷ "45 no;t0 lookup 46 yes;t0 join 47 no;t1 join 48 no;t1 lookup 44 yes;t1 join 46 no;t0 join 46 no;t2 insert 46 no;t2 looku"
-    ∷ "p 45 yes;t2 insert 46 no;t3 join 46 no;t3 remove 46 yes;t3 join 45 no;t0 insert 46 yes;t0 remove 45 yes;t0 insert 49 no;"
-    ∷ "t0 lookup 48 yes;t1 insert 48 no;t0 insert 46 no;t0 insert 44 no;t2 insert 44 no;t3 insert 49 no;t2 insert 46 no;t0 join"
-    ∷ " 44 no;t0 join 49 no;t1 insert 45 yes;t1 join 46 no;t1 insert 48 no;t0 remove 45 yes;t0 lookup 46 yes;t0 join 46 no;t0 r"
-    ∷ "emove 48 yes;t3 insert 44 no;t3 join 49 no;t1 insert 47 no;t2 insert 48 yes;t1 insert 46 no;t3 insert 49 no;t0 insert 48"
-    ∷ " no;t0 insert 49 no;t0 join 45 no;t0 insert 49 no;t3 lookup 47 yes;t0 insert 48 no;t3 insert 46 no;t3 insert 46 no;t2 in"
-    ∷ "sert 46 no;t1 insert 48 no;t1 insert 49 no;t0 insert 45 yes;t0 insert 48 no;t2 insert 44 no;t2 insert 48 no;t2 insert 46"
-    ∷ " no;t1 insert 45 no;t1 remove 47 yes;t3 join 44 no;t3 lookup 44 yes;t3 insert 46 no;t3 lookup 44 yes;t3 join 45 no;t3 re"
-    ∷ "move 47 no;t3 join 47 no;t2 insert 49 no;t2 insert 48 no;t0 insert 44 no;t3 join 47 no;t3 lookup 49 yes;t3 join 49 no;t0"
-    ∷ " insert 48 no;t2 join 45 no;t2 lookup 48 yes;t2 join 46 no;t1 insert 48 no;t1 insert 44 no;t3 lookup 46 yes;t2 insert 44"
-    ∷ " no;t2 insert 44 no;t2 insert 48 no;t0 join 47 no;t0 insert 46 no;t3 join 47 no;0 normal 44 45 46 48 49;set 44 45 46 48 "
-    ∷ "49;stored 5 used 81;"
-    ∷ []
-
-computed0021 : quickPrinted (bytesOf file0021) ≡ textOf text0021
-unfolding decimal stationsTo stationsText routeLine baseLine setLine listRefusal replaceable actionWord firstLine lastLine taken stepped started recordStep runRefusal countOf fileRefusal reached blocked lacks cleared lost probe replaced beside step ite has insert remove union cut below from size least dropLeast upperHalf lowerHalf splitKey onesIn trailingZeros
-computed0021 = refl
-
-pub printed0021 : printed (bytesOf file0021) ≡ textOf text0021
-printed0021 = sym (quickPrinted-printed (bytesOf file0021)) ∙ computed0021
 
 -- ---- 0022
 
@@ -84,7 +30,7 @@ text0022 =
     ∷ []
 
 computed0022 : quickPrinted (bytesOf file0022) ≡ textOf text0022
-unfolding decimal stationsTo stationsText routeLine baseLine setLine listRefusal replaceable actionWord firstLine lastLine taken stepped started recordStep runRefusal countOf fileRefusal reached blocked lacks cleared lost probe replaced beside step ite has insert remove union cut below from size least dropLeast upperHalf lowerHalf splitKey onesIn trailingZeros
+unfolding decimal stationsTo stationsText routeLine baseLine setLine listRefusal check replaceable actionWord firstLine lastLine taken stepped started recordStep runRefusal countOf fileRefusal reached blocked lacks cleared lost probe replaced beside step ite has insert remove union cut below from size least dropLeast upperHalf lowerHalf splitKey onesIn trailingZeros
 computed0022 = refl
 
 pub printed0022 : printed (bytesOf file0022) ≡ textOf text0022
@@ -94,28 +40,28 @@ printed0022 = sym (quickPrinted-printed (bytesOf file0022)) ∙ computed0022
 
 abbrev file0023 : List String
 file0023 =
-    "0101ef120b1000220a350a30003000320a30003000300002090000200010002000340c30002000250b00000000000000000000300032090000020910"
+    "0101ec120b1000220a350a30003000320a30003000300002090000200010002000340c30002000250b00000000000000000000300032090000020910"
     ∷ "001000300000000000000030003000200020003000100005090000300030003000340c250a200010002000240c300010001000100010001000300030"
     ∷ "000000200020001109020a0000000032092000000000003000210c0000000020002000220b300030001000300030003409300030003000320c300030"
     ∷ "003000300010002000200030003000310c30003000340b140b100010003000300030003000300020003000340a300030003000300020001000320a20"
     ∷ "0020002000200020002000100010003000120b200020002000300030003000100010002509200020001000200030003000350c300030003000300030"
     ∷ "000000000000003000300030003000200020003000300030003000300030001000100010003000000000000000000010001000100010002000200030"
-    ∷ "0030003000240c300010001000200020002000100010001000100010001000100010002000220c000000000000000000002000100010001000100010"
-    ∷ "000000200000000000000000001000200030001000110b10002000200020002000200030003000100030003000320c150c1000100010000000000000"
-    ∷ "00000000000000050c000010001000140c10001000100010001000300030000000300000003000300030003409300030002000200000001000110c00"
-    ∷ "00020b00002000200000000000000000000000020c3000000010001000140b200020002000320b30001000200000000000300020002000240b200020"
-    ∷ "002000100010002000200000000000100010001000140b10001000200000000000100010000000000030002109300030003000100010001000300030"
-    ∷ "003000110a1000100030003000200020002109200020002209200000001000140a100010001000100012091000100010000000200020002000200010"
-    ∷ "00220b200030003000320b200000000000300030000000000000003000300000000000200010001000000000000000050c1000000000001000100010"
-    ∷ "0010002000120c1000100020001000100020002000240a300030001000100010001000110b10001000200030003000200020002000250b3000300020"
-    ∷ "00200030002000200020002000000000000000300030001000100030003000320b0000200020002000240c30003000150a1000100010001000200010"
-    ∷ "00100010002000200020002000210a200030001000100010001000100010002000200030003000300030003000300022092000100010001000100010"
-    ∷ "0010000000200020001000140a3000200020002109200030003000200010002409"
+    ∷ "0030003000240c30001000200020002000100010001000100010001000100010002000220c0000000000000000200010001000100010001000000020"
+    ∷ "0000000000000000001000200030001000110b10002000200020002000200030003000100030003000320c150c100010001000000000000000000000"
+    ∷ "000000050c000010001000140c10001000100010001000300030000000300000003000300030003409300030002000200000001000110c0000020b00"
+    ∷ "002000200000000000000000000000020c3000000010001000140b200020002000320b30001000200000000000300020002000240b20002000200010"
+    ∷ "0010002000200000000000100010001000140b1000100020000000000010001000000000003000210930003000300010001000100030003000300011"
+    ∷ "0a1000100030003000200020002109200020002209200000001000140a10001000100010001209100010001000000020002000200020001000220b20"
+    ∷ "0030003000320b200000000000300030000000000000003000300000000000200010001000000000000000050c100000000000100010001000100020"
+    ∷ "00120c1000100020001000100020002000240a300030001000100010001000110b10001000200030003000200020002000250b300030002000200030"
+    ∷ "002000200020002000000000000000300030001000100030003000320b0000200020002000240c30003000150a100010001000100020001000100010"
+    ∷ "002000200020002000210a20003000100010001000100010001000200020003000300030003000300022092000100010001000100010001000000020"
+    ∷ "0020001000140a3000200020002109200030003000200010002409"
     ∷ []
 
 abbrev text0023 : List String
 text0023 =
-    "records 495 of 495 refusal 0;t3 join 10 no;t3 insert 10 yes;t2 insert 10 no;t3 split 12 no;t0 insert 9 yes;t0 insert 9 n"
+    "records 492 of 492 refusal 0;t3 join 10 no;t3 insert 10 yes;t2 insert 10 no;t3 split 12 no;t0 insert 9 yes;t0 insert 9 n"
     ∷ "o;t2 join 11 no;t3 insert 9 no;t2 join 10 no;t1 insert 11 yes;t3 split 12 no;t0 join 9 no;t2 split 12 yes;t2 lookup 12 n"
     ∷ "o;t3 insert 9 no;t3 split 9 no;t1 lookup 9 yes;t3 insert 12 yes;t3 lookup 12 yes;t3 split 11 yes;t3 split 10 no;t1 split"
     ∷ " 11 no;t2 insert 11 no;t3 insert 10 no;t2 join 9 no;t2 split 12 no;t1 insert 11 no;t1 lookup 11 yes;t3 join 12 yes;t0 in"
@@ -127,7 +73,7 @@ text0023 =
     ∷ []
 
 computed0023 : quickPrinted (bytesOf file0023) ≡ textOf text0023
-unfolding decimal stationsTo stationsText routeLine baseLine setLine listRefusal replaceable actionWord firstLine lastLine taken stepped started recordStep runRefusal countOf fileRefusal reached blocked lacks cleared lost probe replaced beside step ite has insert remove union cut below from size least dropLeast upperHalf lowerHalf splitKey onesIn trailingZeros
+unfolding decimal stationsTo stationsText routeLine baseLine setLine listRefusal check replaceable actionWord firstLine lastLine taken stepped started recordStep runRefusal countOf fileRefusal reached blocked lacks cleared lost probe replaced beside step ite has insert remove union cut below from size least dropLeast upperHalf lowerHalf splitKey onesIn trailingZeros
 computed0023 = refl
 
 pub printed0023 : printed (bytesOf file0023) ≡ textOf text0023
@@ -146,7 +92,7 @@ text0024 =
     ∷ []
 
 computed0024 : quickPrinted (bytesOf file0024) ≡ textOf text0024
-unfolding decimal stationsTo stationsText routeLine baseLine setLine listRefusal replaceable actionWord firstLine lastLine taken stepped started recordStep runRefusal countOf fileRefusal reached blocked lacks cleared lost probe replaced beside step ite has insert remove union cut below from size least dropLeast upperHalf lowerHalf splitKey onesIn trailingZeros
+unfolding decimal stationsTo stationsText routeLine baseLine setLine listRefusal check replaceable actionWord firstLine lastLine taken stepped started recordStep runRefusal countOf fileRefusal reached blocked lacks cleared lost probe replaced beside step ite has insert remove union cut below from size least dropLeast upperHalf lowerHalf splitKey onesIn trailingZeros
 computed0024 = refl
 
 pub printed0024 : printed (bytesOf file0024) ≡ textOf text0024
@@ -191,7 +137,7 @@ text0025 =
     ∷ []
 
 computed0025 : quickPrinted (bytesOf file0025) ≡ textOf text0025
-unfolding decimal stationsTo stationsText routeLine baseLine setLine listRefusal replaceable actionWord firstLine lastLine taken stepped started recordStep runRefusal countOf fileRefusal reached blocked lacks cleared lost probe replaced beside step ite has insert remove union cut below from size least dropLeast upperHalf lowerHalf splitKey onesIn trailingZeros
+unfolding decimal stationsTo stationsText routeLine baseLine setLine listRefusal check replaceable actionWord firstLine lastLine taken stepped started recordStep runRefusal countOf fileRefusal reached blocked lacks cleared lost probe replaced beside step ite has insert remove union cut below from size least dropLeast upperHalf lowerHalf splitKey onesIn trailingZeros
 computed0025 = refl
 
 pub printed0025 : printed (bytesOf file0025) ≡ textOf text0025
@@ -216,8 +162,44 @@ text0026 =
     ∷ []
 
 computed0026 : quickPrinted (bytesOf file0026) ≡ textOf text0026
-unfolding decimal stationsTo stationsText routeLine baseLine setLine listRefusal replaceable actionWord firstLine lastLine taken stepped started recordStep runRefusal countOf fileRefusal reached blocked lacks cleared lost probe replaced beside step ite has insert remove union cut below from size least dropLeast upperHalf lowerHalf splitKey onesIn trailingZeros
+unfolding decimal stationsTo stationsText routeLine baseLine setLine listRefusal check replaceable actionWord firstLine lastLine taken stepped started recordStep runRefusal countOf fileRefusal reached blocked lacks cleared lost probe replaced beside step ite has insert remove union cut below from size least dropLeast upperHalf lowerHalf splitKey onesIn trailingZeros
 computed0026 = refl
 
 pub printed0026 : printed (bytesOf file0026) ≡ textOf text0026
 printed0026 = sym (quickPrinted-printed (bytesOf file0026)) ∙ computed0026
+
+-- ---- 0027
+
+abbrev file0027 : List String
+file0027 =
+    "01012f223f013f20000000013d2000313e2000133f30000000343f100010001000023f30000000243e133f00003000323d3000000030001000100020"
+    ∷ "00013d1000123d00001000100030002000223f3000100020002000013f113e0000013e30002000300000001000013d133d0000033e00000000000030"
+    ∷ "00253f2000300030003000043e0000000030001000313f10001000123f3000323e000030003000013d0000013e30002000213f343d10003000300020"
+    ∷ "00213f0000300020001000323e3000043d10001000000030003000100020003000213f00002000100020000000223e1000023d300010000000100032"
+    ∷ "3e1000200020002000113d3000000030000000000030001000200030001000113e1000300020002000353d1000300030000000000020002000000020"
+    ∷ "00200030003000200030000000233f2000153f200020002000100030001000100030001000100010002000200000001000323e1000223d143d100010"
+    ∷ "00300010003000200030000000123e20002000200030002000233e300000001000200020002000000030001000300010000000300010002000300000"
+    ∷ "0030003000000010002000000000001000200020001000313e000030002000100020002000000010003000333d000010003000100000003000200030"
+    ∷ "003000000020002000143e000020003000100020002000353d300000001000000020002000000010000000123d100030002000000010003000200000"
+    ∷ "00023e10000000200000003000100010001000000000002000000030002000313e30001000100020002000053e100001002000000000003000353d20"
+    ∷ "003000300010000000"
+    ∷ []
+
+abbrev text0027 : List String
+text0027 =
+    "records 292 of 303 refusal 11;t0 lookup 63 no;t2 insert 63 yes;t3 lookup 62 no;t0 lookup 61 no;t1 remove 63 yes;t3 split"
+    ∷ " 63 no;t0 insert 63 yes;t1 remove 63 yes;t0 lookup 61 no;t2 split 62 no;t1 insert 61 yes;t0 lookup 63 no;t2 insert 63 ye"
+    ∷ "s;t0 lookup 62 no;t1 lookup 62 no;t0 lookup 61 yes;t0 remove 62 no;t3 insert 61 no;t1 remove 61 yes;t3 lookup 63 yes;t0 "
+    ∷ "split 62 no;t0 lookup 61 no;t3 insert 62 yes;t2 join 63 no;t2 lookup 63 yes;t0 lookup 62 yes;t3 split 61 yes;t2 lookup 6"
+    ∷ "3 yes;t2 lookup 63 yes;t0 split 61 no;t3 insert 62 no;t1 insert 63 no;t1 lookup 61 no;t3 insert 62 no;t1 lookup 62 yes;t"
+    ∷ "2 insert 62 no;t3 join 61 no;t2 remove 63 yes;t1 join 63 no;t1 split 61 no;t2 insert 61 yes;t3 insert 62 no;t3 lookup 62"
+    ∷ " yes;t1 insert 62 no;t3 remove 61 yes;t1 split 62 no;t0 insert 61 yes;t0 insert 62 no;t3 join 61 no;0 route 63;1 normal "
+    ∷ "61 62;1 normal -;set 61 62;stored 2 used 25;"
+    ∷ []
+
+computed0027 : quickPrinted (bytesOf file0027) ≡ textOf text0027
+unfolding decimal stationsTo stationsText routeLine baseLine setLine listRefusal check replaceable actionWord firstLine lastLine taken stepped started recordStep runRefusal countOf fileRefusal reached blocked lacks cleared lost probe replaced beside step ite has insert remove union cut below from size least dropLeast upperHalf lowerHalf splitKey onesIn trailingZeros
+computed0027 = refl
+
+pub printed0027 : printed (bytesOf file0027) ≡ textOf text0027
+printed0027 = sym (quickPrinted-printed (bytesOf file0027)) ∙ computed0027
