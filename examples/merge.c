@@ -1,7 +1,7 @@
 /* Two schedules into one, and its run: `merge FIRST SECOND` reads two schedule files, the first for threads 0
  * and 1, the second for 2 and 3, merges them, appends what is left over of the longer one, and runs the result.
  *
- *     cc -I include examples/merge.c target/staticlib/libcollector.a -o target/merge
+ *     cc -I include examples/merge.c target/staticlib/libnuxalder.a -o target/merge
  *     tools/schedule encode examples/merge-first.txt -o target/first.schedule
  *     tools/schedule encode examples/merge-second.txt -o target/second.schedule
  *     target/merge target/first.schedule target/second.schedule

@@ -36,6 +36,64 @@
 #include <stddef.h>
 #include <stdint.h>
 
+/* The version of this interface. */
+#define NUXALDER_VERSION_MAJOR 1
+#define NUXALDER_VERSION_MINOR 0
+#define NUXALDER_VERSION_PATCH 0
+#define NUXALDER_VERSION "1.0.0"
+
+/* The functions may be called from several threads at once, each with its own report and buffers; a schedule may be
+ * shared. A call of nuxalder_run, nuxalder_list or nuxalder_merge uses at most NUXALDER_STACK bytes of stack. */
+#define NUXALDER_STACK 16384
+
+/* Sizes of a schedule file, its rows and the bench. */
+#define NUXALDER_FILE_VERSION 1
+#define NUXALDER_HEADER_SIZE 3
+#define NUXALDER_RECORD_SIZE 2
+#define NUXALDER_RECORDS_MOST 4096
+#define NUXALDER_FILE_MOST (NUXALDER_HEADER_SIZE + NUXALDER_RECORD_SIZE * NUXALDER_RECORDS_MOST)
+#define NUXALDER_ROW_SIZE 4
+#define NUXALDER_ROWS_BUFFER (2 * NUXALDER_RECORDS_MOST) /* enough for every schedule */
+#define NUXALDER_STATIONS 64
+#define NUXALDER_THREADS 4
+#define NUXALDER_NODES_MOST 256
+
+/* What a record asks, and the second byte of a row. nuxalder_answer_words, at the end, has a row's last byte in words. */
+enum nuxalder_action {
+    NUXALDER_STEP = 0,
+    NUXALDER_LOOKUP = 1,
+    NUXALDER_INSERT = 2,
+    NUXALDER_REMOVE = 3,
+    NUXALDER_SPLIT = 4,
+    NUXALDER_JOIN = 5
+};
+
+/* The first byte of a record. */
+#define NUXALDER_FIRST_BYTE(thread, action) ((uint8_t)(16 * (thread) + (action)))
+
+/* Refusal numbers; nuxalder_refusal_words, at the end, has what each means. */
+enum nuxalder_refusal {
+    NUXALDER_REFUSED_NOT = 0,
+    NUXALDER_REFUSED_SHORT_FILE = 1,
+    NUXALDER_REFUSED_VERSION = 2,
+    NUXALDER_REFUSED_COUNT = 3,
+    NUXALDER_REFUSED_LENGTH = 4,
+    NUXALDER_REFUSED_ROWS_BUFFER = 5,
+    NUXALDER_REFUSED_TEXT_BUFFER = 6,
+    NUXALDER_REFUSED_THREAD = 7,
+    NUXALDER_REFUSED_ACTION = 8,
+    NUXALDER_REFUSED_STATION = 9,
+    NUXALDER_REFUSED_STEP_BYTE = 10,
+    NUXALDER_REFUSED_BUSY = 11,
+    NUXALDER_REFUSED_IDLE = 12,
+    NUXALDER_REFUSED_NUMBERS = 13,
+    NUXALDER_REFUSED_OTHER_THREAD = 17,
+    NUXALDER_REFUSED_OUTPUT_BUFFER = 18,
+    NUXALDER_REFUSED_EVENT = 21,
+    NUXALDER_REFUSED_OPERATIONS = 22,
+    NUXALDER_REFUSED_UNFINISHED = 23
+};
+
 #ifdef __cplusplus
 extern "C" {
 #endif
@@ -122,4 +180,47 @@ void nuxalder_merge(const uint8_t *first, size_t first_length,
 #ifdef __cplusplus
 }
 #endif
+
+/* A refusal number in words; "unknown" for a number that is none. */
+static inline const char *nuxalder_refusal_words(uint64_t refusal)
+{
+    switch (refusal) {
+    case NUXALDER_REFUSED_NOT: return "not refused";
+    case NUXALDER_REFUSED_SHORT_FILE: return "a file under three bytes";
+    case NUXALDER_REFUSED_VERSION: return "a version other than 1";
+    case NUXALDER_REFUSED_COUNT: return "a count over 4,096";
+    case NUXALDER_REFUSED_LENGTH: return "a length other than 3 + 2 * count";
+    case NUXALDER_REFUSED_ROWS_BUFFER: return "a row buffer under 2 * count bytes";
+    case NUXALDER_REFUSED_TEXT_BUFFER: return "a text buffer under 4,096 bytes";
+    case NUXALDER_REFUSED_THREAD: return "a thread over 3";
+    case NUXALDER_REFUSED_ACTION: return "an action over 5";
+    case NUXALDER_REFUSED_STATION: return "a start with a station over 63";
+    case NUXALDER_REFUSED_STEP_BYTE: return "a step whose second byte is not 0";
+    case NUXALDER_REFUSED_BUSY: return "a start of a busy thread";
+    case NUXALDER_REFUSED_IDLE: return "a step of an idle thread";
+    case NUXALDER_REFUSED_NUMBERS: return "a swap that needs more node numbers than are left";
+    case NUXALDER_REFUSED_OTHER_THREAD: return "a thread that is not its file's";
+    case NUXALDER_REFUSED_OUTPUT_BUFFER: return "an output buffer under 3 + 4 * the smaller count bytes";
+    case NUXALDER_REFUSED_EVENT: return "an event out of place";
+    case NUXALDER_REFUSED_OPERATIONS: return "more than 12 operations";
+    case NUXALDER_REFUSED_UNFINISHED: return "an operation that is not finished";
+    default: return "unknown";
+    }
+}
+
+/* The answer of a row in words; "unknown" for a number that is none. */
+static inline const char *nuxalder_answer_words(uint64_t answer)
+{
+    switch (answer) {
+    case NUXALDER_NO: return "no";
+    case NUXALDER_YES: return "yes";
+    case NUXALDER_LACKING: return "no: too few stations for a split, or no parent for a join";
+    case NUXALDER_BLOCKED: return "no: the base is not replaceable";
+    case NUXALDER_LOST: return "no: a swap was lost, or the base is gone from its parent";
+    case NUXALDER_NEIGHBOUR_BLOCKED: return "no: the neighbour is not replaceable";
+    case NUXALDER_STOOD_DOWN: return "no: the join stood down";
+    case NUXALDER_STOPPED: return "no: joins are stopped";
+    default: return "unknown";
+    }
+}
 #endif

@@ -1,16 +1,16 @@
-//! Links libcollector.a from COLLECTOR_LIB_DIR, or from target/staticlib of the repository.
+//! Links libnuxalder.a from NUXALDER_LIB_DIR, or from target/staticlib of the repository.
 
 use std::env;
 use std::path::{Path, PathBuf};
 
 fn main() {
     let default = || Path::new(env!("CARGO_MANIFEST_DIR")).join("../../target/staticlib");
-    let folder = env::var_os("COLLECTOR_LIB_DIR").map_or_else(default, PathBuf::from);
-    println!("cargo:rerun-if-env-changed=COLLECTOR_LIB_DIR");
+    let folder = env::var_os("NUXALDER_LIB_DIR").map_or_else(default, PathBuf::from);
+    println!("cargo:rerun-if-env-changed=NUXALDER_LIB_DIR");
     println!(
         "cargo:rerun-if-changed={}",
-        folder.join("libcollector.a").display()
+        folder.join("libnuxalder.a").display()
     );
     println!("cargo:rustc-link-search=native={}", folder.display());
-    println!("cargo:rustc-link-lib=static=collector");
+    println!("cargo:rustc-link-lib=static=nuxalder");
 }

@@ -16,6 +16,7 @@ FLAGS = (
 ).split()
 KEY_CODES = dict(PageUp=33, PageDown=34, End=35, Home=36, ArrowLeft=37, ArrowUp=38, ArrowRight=39, ArrowDown=40)
 SHIFT = 8
+CALL_SECONDS_MOST = 180  # 200 steps on a machine that does other work too
 
 
 class BrowserError(Exception):
@@ -94,14 +95,14 @@ class Page:
         if self.session:
             message["sessionId"] = self.session
         os.write(self.writer, json.dumps(message).encode() + b"\0")
-        until = time.time() + 60
+        until = time.time() + CALL_SECONDS_MOST
         while (answer := self.receive(until)) is not None:
             if answer.get("id") == self.number:
                 if "error" in answer:
                     raise BrowserError(f"{method}: {answer['error']}")
                 return answer["result"]
             self.events.append(answer)
-        raise BrowserError(f"{method}: no answer in 60 s")
+        raise BrowserError(f"{method}: no answer in {CALL_SECONDS_MOST} s")
 
     def open(self, url):
         """Loads a page, always afresh."""

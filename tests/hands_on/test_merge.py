@@ -73,7 +73,7 @@ def refusals(checks):
     status, stdout, err = tool("merge", "-", "-")
     checks.that("standard input twice", status == 1 and stdout == b"" and "one of the two" in err, err)
     first.write_bytes(b"t0 stop\n")
-    checks.that("a bad line", f"{first}:1: 'stop'" in tool("merge", first, second)[2])
+    checks.that("a bad line", f"{first}:1:4: 'stop'" in tool("merge", first, second)[2])
 
 
 def all_of(checks):

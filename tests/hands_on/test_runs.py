@@ -49,9 +49,9 @@ def runs(checks):
     checks.equal("each schedule has its printed run", {path.stem for path in EXAMPLES.glob("*.printed")}, names)
     checks.that("the gallery is whole", set(FIGURES) | set(BYTES) | set(TRACED) <= names, names)
     for path in examples():
-        expected = (0, path.with_suffix(".printed").read_bytes(), "")
-        checks.equal(f"run {path.name}", tool("run", path), expected)
-        checks.equal(f"run --library {path.name}", tool("run", "--library", path), expected)
+        expected = path.with_suffix(".printed").read_text()
+        checks.equal(f"the program on {path.name}", bench.printed_by_program(file_of(path)), expected)
+        checks.equal(f"the library on {path.name}", bench.printed_by_library(file_of(path)), expected)
         comment = [line for line in path.read_text().splitlines() if line.startswith("#")]
         checks.that(f"{path.name} says what to look at", any("Look at" in line for line in comment))
     for name, file in BYTES.items():
@@ -70,9 +70,7 @@ def vectors(checks):
         checks.that(f"library on {path.name}", bench.printed_by_library(file) == expected)
         text = text_form.decode(file)
         checks.that(f"round trip of {path.name}", text_form.encode(text.encode(), path.name) == file)
-        if len(file) > 3 and file[0] == 1:
-            checks.that(f"{path.name} is no text", not text_form.is_text(file))
-        checks.that(f"the text of {path.name} is text", text_form.is_text(text.encode()))
+        checks.that(f"the text of {path.name} is text", text_form.kind_of(text.encode()) == "text")
         for number, row in enumerate(bench.answers(file, 1, 0).whole.rows, 1):
             if row.reason:
                 reasons.append(f"{path.stem} {number} {row.text.removesuffix(' no')} {row.answer}")
@@ -121,7 +119,8 @@ def traces(checks):
         whole = Expected(file, len(text_form.records_of(file)))
         last = whole.done + (1 if whole.refusal else 0)
         states = replay(lines[:-1])
-        checks.equal(f"trace {name} has all turns", (status, err, len(states)), (0, "", last + 1))
+        refused = 3 if whole.refusal else 0
+        checks.equal(f"trace {name} has all turns", (status, bool(err), len(states)), (refused, bool(refused), last + 1))
         head = path.with_suffix(".printed").read_text().splitlines()[0]
         checks.equal(f"trace {name} ends with the head of the run", lines[-1], head)
         binary = OUT / f"{name}.schedule"
@@ -146,7 +145,9 @@ def one_turn(checks, path, turn, expected, counts):
     lines = out.decode().splitlines()
     tree = [line[13:] for line in lines if re.match(r" {11}[+ ] (\d|set)", line)]
     opened = [f"t{thread} {given[0]}" for thread, given in expected.open.items() if given]
-    checks.equal(f"--at {turn} of {path.stem}", (status, err, tree, lines[-1].strip()), (0, "", expected.listing, counts))
+    refused = 3 if expected.refusal else 0
+    shown = (status, bool(err), tree, lines[-1].strip())
+    checks.equal(f"--at {turn} of {path.stem}", shown, (refused, bool(refused), expected.listing, counts))
     checks.that(f"--at {turn}: open", f"           open: {', '.join(opened) or '-'}" in lines, lines)
     if ", row: " in lines[0]:
         checks.equal(f"--at {turn}: row", printed_row(lines[0]), expected.rows[-1])
@@ -162,7 +163,6 @@ def errors(checks):
     example = EXAMPLES / "printed-run.txt"
     refused("no such file", "nowhere.txt", "run", "nowhere.txt")
     refused("a directory", "examples", "trace", EXAMPLES)
-    refused("no library", "rt staticlib collector", "trace", example, env={"NUXALDER_LIB": "/nowhere/libcollector.a"})
     refused("a turn too far", "turns 0 to 12", "trace", example, "--at", "13")
     refused("a turn before the first", "turns 0 to 12", "trace", example, "--at", "-1")
     refused("a turn of a refused file", "refused 4", "trace", EXAMPLES / "refused-4-length.txt", "--at", "0")
@@ -170,26 +170,23 @@ def errors(checks):
     refused("text given to decode", "text already", "decode", example)
     refused("a page that cannot be written", "nowhere", "show", example, "--html", "/nowhere/page.html")
     refused("no command", "usage", status=2)
-    broken = OUT / "broken" / "libcollector.a"
-    broken.parent.mkdir(exist_ok=True)
-    broken.write_bytes(b"!<arch>\n")
-    refused("a library without the functions", "cannot link", "trace", example, env={"NUXALDER_LIB": str(broken)})
-    checks.equal("an empty file is a short schedule", tool("run", "-")[1], b"records 0 of 0 refusal 1\n")
-    checks.that("as text it is an empty schedule", b"of 0 refusal 0" in tool("run", "-", "--as", "text", "--library")[1])
 
 
 def rebuilds(checks):
     checks.group("the helper is linked anew")
-    copy = OUT / "copy" / "libcollector.a"
+    copy = OUT / "copy" / "libnuxalder.a"
     copy.parent.mkdir(exist_ok=True)
     shutil.copyfile(bench.library(), copy)
     os.environ["NUXALDER_LIB"], before = str(copy), os.environ.get("NUXALDER_LIB")
     try:
         program = bench.helper()
         made = program.stat().st_mtime_ns
-        checks.equal("not while it is newer", bench.helper().stat().st_mtime_ns, made)
-        os.utime(program, (0, 0))
-        checks.that("when the library is newer", bench.helper().stat().st_mtime_ns > made)
+        os.utime(copy)
+        checks.equal("not while the library is the same", bench.helper().stat().st_mtime_ns, made)
+        before_bytes = copy.read_bytes()
+        copy.write_bytes(before_bytes + b"\n")
+        checks.that("when the library has other bytes", bench.helper() != program)
+        copy.write_bytes(before_bytes)
         checks.equal("and answers", bench.answers(cut(file_of(EXAMPLES / "insert.txt"), 4)).whole.rows, [bench.Row("t0 insert 9 yes", bench.YES)])
     finally:
         del os.environ["NUXALDER_LIB"]

@@ -4,17 +4,16 @@ Nothing here carries out a record: rows, listings, counts and refusals are the l
 """
 
 import os
-import shutil
-import subprocess
-import sys
-import zlib
 from dataclasses import dataclass, field
 from pathlib import Path
 
+import asking
+import library as library_module
+import processes
+from faults import BenchError
 from text_form import ACTIONS
 
-ROOT = Path(__file__).resolve().parents[2]
-HEADER = ROOT / "include" / "nuxalder.h"
+ROOT = library_module.ROOT
 PROGRAM = Path(os.environ.get("NUXALDER_BENCH") or ROOT / "target" / "bin" / "bench")
 FILE_MOST = 1 << 18
 
@@ -24,6 +23,8 @@ REFUSALS = {
     2: "a version other than 1",
     3: "a count over 4,096",
     4: "a length other than 3 + 2 * count",
+    5: "a row buffer under 2 * count bytes",
+    6: "a text buffer under 4,096 bytes",
     7: "a thread over 3",
     8: "an action over 5",
     9: "a start with a station over 63",
@@ -31,6 +32,11 @@ REFUSALS = {
     11: "a start of a busy thread",
     12: "a step of an idle thread",
     13: "a swap that needs more node numbers than are left",
+    17: "a thread that is not its file's",
+    18: "an output buffer under 3 + 4 * the smaller count bytes",
+    21: "an event out of place",
+    22: "more than 12 operations",
+    23: "an operation that is not finished",
 }
 FILE_REFUSALS = (1, 2, 3, 4)  # those of the whole file: no record was looked at
 
@@ -44,10 +50,6 @@ REASONS = {
     6: "stood down",
     7: "joins stopped",
 }
-
-
-class BenchError(Exception):
-    """The library or the program cannot be asked."""
 
 
 @dataclass
@@ -83,37 +85,13 @@ class Run:
 
 
 def library():
-    """The path of the proved library, which is proved and built on first use."""
-    own = ROOT / "target" / "staticlib" / "libcollector.a"
-    path = Path(os.environ.get("NUXALDER_LIB") or own).absolute()
-    if path == own and not own.is_file() and shutil.which("rt"):
-        print("proving and building the library, some minutes: rt staticlib collector", file=sys.stderr, flush=True)
-        subprocess.run(["rt", "staticlib", "collector"], cwd=ROOT, stdout=subprocess.DEVNULL)
-    if not path.is_file():
-        raise BenchError(
-            f"no library at {path}: run `rt staticlib collector` in {ROOT}, or set NUXALDER_LIB to the library's path"
-        )
-    return path
+    """The path of the library that answers: the one named, or the proved one, which is built on first use."""
+    return library_module.path()
 
 
 def helper(name="turns"):
-    """The path of a helper, compiled anew where its sources or the library are newer."""
-    archive = library()
-    source = Path(__file__).with_name(f"{name}.c")
-    program = ROOT / "target" / "tools" / f"{name}-{zlib.crc32(os.fsencode(archive)):08x}"
-    newest = max(path.stat().st_mtime for path in (source, HEADER, archive))
-    if not program.exists() or program.stat().st_mtime < newest:
-        program.parent.mkdir(parents=True, exist_ok=True)
-        made = program.with_name(f"{program.name}.{os.getpid()}")
-        command = ["cc", "-O2", "-I", str(HEADER.parent), str(source), str(archive), "-o", str(made)]
-        try:
-            built = subprocess.run(command, capture_output=True, text=True)
-        except FileNotFoundError:
-            raise BenchError("no C compiler: the tool needs `cc` to link the library") from None
-        if built.returncode:
-            raise BenchError(f"cannot link the library: {' '.join(command)}\n{built.stderr.strip()}")
-        os.replace(made, program)
-    return program
+    """The path of a helper, tools/lib/NAME.c linked with the library."""
+    return asking.helper(f"{name}.c", library())
 
 
 def row_of(thread, action, station, answer):
@@ -123,20 +101,15 @@ def row_of(thread, action, station, answer):
     return Row(f"t{thread} {ACTIONS[action]} {station} {'yes' if answer == YES else 'no'}", answer, reason)
 
 
-def answers(file, first=0, last=None):
-    """The Run of a file with its turns `first` to `last` (the last record carried out if none is given)."""
+def answers(file, first=0, last=None, path=None, limit=None):
+    """The Run of a file with its turns `first` to `last` (the last record carried out if none is given).
+
+    The library at `path` is asked, or the one that `library` finds, for so many seconds at most."""
     if len(file) >= FILE_MOST:
         raise BenchError(f"the file has {len(file)} bytes, far more than any schedule")
-    command = [helper(), str(first), str(len(file) if last is None else last)]
-    asked = subprocess.run(command, input=file, stdout=subprocess.PIPE)
-    if asked.returncode:
-        raise BenchError(f"the library gave no answer (helper's exit status {asked.returncode})")
-    out, at, run, turn = asked.stdout, 0, None, None
-    while at < len(out):
-        end = out.index(b"\n", at)
-        word, *values = out[at:end].decode().split()
-        at = end + 1
-        numbers = [int(value) for value in values]
+    run, turn = None, None
+    last = len(file) if last is None else last
+    for word, numbers, text in asking.ask(path or library(), file, first, last, limit):
         if word == "whole":
             refusal, records, stored, used = numbers
             turn = Turn(records, stored, used)
@@ -147,14 +120,13 @@ def answers(file, first=0, last=None):
         elif word == "row":
             turn.rows.append(row_of(*numbers))
         else:
-            turn.listing = out[at : at + numbers[0]].decode()
-            at += numbers[0]
+            turn.listing = text
     return run
 
 
-def printed_by_library(file):
+def printed_by_library(file, path=None, limit=None):
     """The printed run of 01, put together from the library's answers for the whole file."""
-    run = answers(file, 1, 0)
+    run = answers(file, 1, 0, path, limit)
     if run.refusal in FILE_REFUSALS:
         return f"records 0 of 0 refusal {run.refusal}\n"
     whole = run.whole
@@ -165,7 +137,10 @@ def printed_by_library(file):
 
 def printed_by_program(file):
     """What the proved program prints for a file."""
-    ran = subprocess.run([PROGRAM], input=file, stdout=subprocess.PIPE)
-    if ran.returncode:
-        raise BenchError(f"{PROGRAM} ended with exit status {ran.returncode}")
-    return ran.stdout.decode()
+    try:
+        status, out, err = processes.communicate([PROGRAM], file)
+    except OSError as error:
+        raise BenchError(f"schedule: {PROGRAM}: {error.strerror}") from None
+    if status or err:
+        raise BenchError(f"schedule: {PROGRAM}: {err.decode(errors='replace').strip() or processes.ended(status)}")
+    return out.decode(errors="replace")

@@ -1,14 +1,15 @@
 """Two schedules into one, by the proved library's Merge and the C helper merge.c."""
 
-import subprocess
-
+import asking
 import bench
+import processes
 import text_form
+from faults import Fault
 
 THREADS = ("t0 and t1", "t2 and t3")
 
 
-class NotMerged(Exception):
+class NotMerged(Fault):
     """Two files that Merge refuses; says which file, and which record where it is one."""
 
 
@@ -38,11 +39,11 @@ def merged(files, names):
         if len(file) >= bench.FILE_MOST:
             raise bench.BenchError(f"{name} has {len(file)} bytes, far more than any schedule")
     command = [bench.helper("merge"), str(len(files[0]))]
-    asked = subprocess.run(command, input=files[0] + files[1], stdout=subprocess.PIPE)
-    head, _, whole = asked.stdout.partition(b"\n")
-    word, *numbers = head.decode().split()
-    if asked.returncode or word not in ("merged", "refused"):
-        raise bench.BenchError(f"the library gave no answer (helper's exit status {asked.returncode})")
+    status, out, _ = processes.communicate(command, files[0] + files[1])
+    head, _, whole = out.partition(b"\n")
+    word, *numbers = head.decode().split() or [""]
+    if status or word not in ("merged", "refused"):
+        raise asking.NoAnswer(processes.ended(status))
     if word == "refused":
         number, at_fault, record = map(int, numbers)
         raise NotMerged(_words(number, files, names, at_fault, record))

@@ -285,7 +285,7 @@ function setUp() {
   if (run.refusal) {
     const left = run.records.length - lastTurn;
     part("refusal").textContent = refusedFile ? `The file is ${run.why}.`
-      : `Record ${lastTurn} is ${run.why}. The run ends before it${left ? `; ${left} more not carried out` : ""}.`;
+      : `Record ${lastTurn}${run.where ? `, ${run.where},` : ""} is ${run.why}. The run ends before it${left ? `; ${left} more not carried out` : ""}.`;
   }
   part("slider").max = lastTurn;
   const marks = (entries) => entries.map(([turn]) => `M${turn} 0V8`).join("");

@@ -20,8 +20,10 @@ def _changes(turns, value):
     return changes
 
 
-def page_data(file, name):
-    """What the page shows, as plain lists: the library's answers, stored only where they change."""
+def page_data(file, name, where=""):
+    """What the page shows, as plain lists: the library's answers, stored only where they change.
+
+    `where` is the place of the refused record in the text, where there is one."""
     run = bench.answers(file)
     records = records_of(file)
     deeds = story.deeds_of(records[: run.whole.number])
@@ -31,6 +33,7 @@ def page_data(file, name):
         "records": [record_text(*record) for record in records],
         "done": run.whole.number,
         "refusal": run.refusal,
+        "where": where,
         "why": story.refusal_text(run.refusal) if run.refusal else "",
         "deeds": [[deed.thread, deed.operation, deed.own_steps] for deed in deeds],
         "rows": [[turn.number, row.text, row.reason] for turn in run.turns for row in turn.rows],
@@ -39,8 +42,8 @@ def page_data(file, name):
     }
 
 
-def page_html(file, name):
-    data = json.dumps(page_data(file, name), separators=(",", ":")).replace("<", "\\u003c")
+def page_html(file, name, where=""):
+    data = json.dumps(page_data(file, name, where), separators=(",", ":")).replace("<", "\\u003c")
     html = (PARTS / "page.html").read_text()
     for mark, text in (
         ("/* STYLE */", (PARTS / "page.css").read_text()),

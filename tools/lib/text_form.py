@@ -5,8 +5,12 @@ docs/SCHEDULES.md describes the form. Every file, also one that 01 refuses, has 
 
 import difflib
 import re
+import unicodedata
+
+from faults import Fault
 
 VERSION = 1
+VERSIONS = (1,)  # a file that starts with one of these bytes is a schedule file, any other is text
 HEADER = 3
 ACTIONS = ("step", "lookup", "insert", "remove", "split", "join")
 STEP = 0
@@ -14,13 +18,28 @@ THREADS = 4
 STATIONS = 64
 RECORDS_MOST = 4096
 COUNT_MOST = 0xFFFF
+RECORDS_REFUSED_MOST = 8190  # for a file that is refused on purpose
 ERRORS_SHOWN = 20
 
 DIRECTIVES = ("raw", "raw-byte", "version", "count", "no-header")
 FIRST_WORDS = tuple(f"t{t}" for t in range(THREADS)) + DIRECTIVES
+FINISH = "finish"
+ACTION_WORDS = ACTIONS + (FINISH,)
+SYNONYMS = {
+    **dict.fromkeys(("add", "put", "set", "ins", "store"), "insert"),
+    **dict.fromkeys(("get", "contains", "find", "has", "search", "read"), "lookup"),
+    **dict.fromkeys(("delete", "del", "erase", "discard", "rm"), "remove"),
+    **dict.fromkeys(("end", "complete", "done"), FINISH),
+    **dict.fromkeys(("next", "turn"), "step"),
+    "merge": "join",
+}
+
+# How the first bytes of text in another encoding look.
+ENCODINGS = {b"\xff\xfe\0\0": "UTF-32", b"\0\0\xfe\xff": "UTF-32", b"\xff\xfe": "UTF-16", b"\xfe\xff": "UTF-16"}
+BOM = b"\xef\xbb\xbf"
 
 
-class BadText(Exception):
+class BadText(Fault):
     """Text that is no schedule; holds one message for each bad line."""
 
     def __init__(self, messages):
@@ -28,17 +47,62 @@ class BadText(Exception):
 
 
 class _BadLine(Exception):
-    pass
+    """What is wrong with a line, and the column where it is."""
+
+    def __init__(self, column, message):
+        super().__init__(message)
+        self.column = column
 
 
-def _visible(word):
-    return "".join(c if c.isprintable() else f"\\x{ord(c):02x}" for c in word)
+def _hint(word, choices):
+    meant = SYNONYMS.get(word.lower())
+    near = [meant] if meant in choices else difflib.get_close_matches(word.lower(), choices, 1)
+    return f" (did you mean {near[0]}?)" if near else ""
 
 
 def _wrong(word, right, choices=()):
-    near = difflib.get_close_matches(word.lower(), choices, 1)
-    hint = f" (did you mean {near[0]}?)" if near else ""
-    return _BadLine(f"'{_visible(word)}' is wrong: {right}{hint}")
+    return _BadLine(word.column, f"'{word}' is wrong: {right}{_hint(word, choices)}")
+
+
+class _Word(str):
+    """A word that knows its column."""
+
+    column = 0
+
+
+def _found(character):
+    """A character that does not belong in the text, in words."""
+    code = f"U+{ord(character):04X}"
+    if ord(character) < 32 or ord(character) == 127:
+        name = {0: "zero byte", 13: "carriage return with no newline after it"}.get(ord(character), "control character")
+        return f"a {name}, ^{chr(ord(character) ^ 64)} ({code})"
+    return f"a {unicodedata.name(character, 'character that cannot be seen').lower()} ({code})"
+
+
+def _decoded(raw):
+    """The part of a line before a comment, as text that holds nothing but what can be seen, spaces and tabs."""
+    raw = raw.split(b"#", 1)[0]
+    try:
+        text = raw.decode("utf-8")
+    except UnicodeDecodeError as error:
+        at, byte = error.start, raw[error.start]
+        text = raw[:at].decode("utf-8")
+        guess = f"; in Latin-1 it is '{chr(byte)}'" if chr(byte).isprintable() else ""
+        raise _BadLine(len(text) + 1, f"byte {byte:02x} is no UTF-8{guess}: save the text as UTF-8") from None
+    for at, character in enumerate(text):
+        if character not in " \t" and (character.isspace() or not character.isprintable()):
+            more = ": is the text UTF-16? Save it as UTF-8" if character == "\0" else ""
+            more = more or ": only spaces and tabs stand between words"
+            raise _BadLine(at + 1, f"{_found(character)} was found{more}")
+    return text
+
+
+def _words(raw):
+    words = []
+    for match in re.finditer(r"[^ \t]+", _decoded(raw)):
+        words.append(_Word(match[0]))
+        words[-1].column = match.start() + 1
+    return words
 
 
 class _Line:
@@ -53,7 +117,8 @@ class _Line:
 
     def take(self, right):
         if not self.more():
-            raise _BadLine(f"nothing after '{self.words[-1]}': {right}")
+            last = self.words[-1]
+            raise _BadLine(last.column + len(last), f"nothing after '{last}': {right}")
         self.at += 1
         return self.words[self.at - 1]
 
@@ -84,12 +149,23 @@ class _Line:
 class _Encoder:
     """What the lines so far have given."""
 
-    def __init__(self):
+    def __init__(self, finisher):
         self.records = bytearray()
         self.tail = bytearray()
         self.header = {}
+        self.lines = []  # the line of each byte of the records and the tail
+        self.finisher = finisher
+        self.sound = True  # whether all lines so far were good
 
-    def line(self, words):
+    def line(self, number, raw):
+        words = _words(raw)
+        if words:
+            try:
+                self.content(words)
+            finally:
+                self.lines += [number] * (len(self.records) + len(self.tail) - len(self.lines))
+
+    def content(self, words):
         line = _Line(words)
         first = line.choice(
             FIRST_WORDS, "a line starts with a thread, t0 to t3, or with raw, raw-byte, version, count or no-header"
@@ -123,23 +199,47 @@ class _Encoder:
         if first == "raw":
             record = [line.byte(), line.byte()]
         else:
-            action = ACTIONS.index(
-                line.choice(ACTIONS, "an action is step, lookup, insert, remove, split or join")
-            )
+            word = line.choice(ACTION_WORDS, "an action is step, finish, lookup, insert, remove, split or join")
+            action = STEP if word == FINISH else ACTIONS.index(word)
             record = [16 * int(first[1]) + action, 0]
-            if action != STEP:
+            if word == FINISH:
+                times = self.steps_left(word, int(first[1]))
+            elif action != STEP:
                 record[1] = line.number(0, STATIONS - 1, f"a station is a number 0 to {STATIONS - 1}")
             elif line.more():
-                times = line.number(1, RECORDS_MOST, f"a number of steps is 1 to {RECORDS_MOST}")
+                times = self.step_count(line)
         before = len(self.records) // 2
         self.records += bytes(record) * times
-        most = COUNT_MOST if self.header else RECORDS_MOST
+        most = RECORDS_REFUSED_MOST if self.header else RECORDS_MOST
         if before <= most < before + times:
             raise _wrong(
                 first,
                 f"this line brings the records to {before + times} and a schedule holds at most {RECORDS_MOST}"
-                f" (a count line before the records allows {COUNT_MOST}, for a file that is refused on purpose)",
+                f" (a count line before the records allows {RECORDS_REFUSED_MOST}, for a file that is refused on purpose)",
             )
+
+    @staticmethod
+    def step_count(line):
+        if line.words[line.at] == "until":
+            raise _wrong(
+                line.words[line.at],
+                "a number of steps is given; the library does not tell at which place a thread is"
+                " (`finish` steps until the operation ends)",
+            )
+        return line.number(1, RECORDS_MOST, f"a number of steps is 1 to {RECORDS_MOST}")
+
+    def steps_left(self, word, thread):
+        """The steps that end the thread's operation here; nothing is asked after a line that is wrong."""
+        if self.header:
+            raise _wrong(word, "a file with a version, count or no-header line is not run, so no end can be found")
+        if not self.sound or len(self.records) > 2 * RECORDS_MOST:
+            return 0
+        import finishing  # it asks the library, and only a text with this word needs one
+
+        try:
+            return self.finisher.steps(self.records, thread, RECORDS_MOST)
+        except finishing.Endless as error:
+            raise _BadLine(word.column, f"'{word}' finds no end: {error}") from None
 
     def file(self):
         if "no-header" in self.header:
@@ -149,23 +249,60 @@ class _Encoder:
         return bytes(header + self.records + self.tail)
 
 
+class _Finisher:
+    """Finds ends of operations; the library is looked for at the first one."""
+
+    def __init__(self):
+        self.asked = None
+
+    def steps(self, *question):
+        import finishing
+
+        self.asked = self.asked or finishing.Finisher()
+        return self.asked.steps(*question)
+
+    def close(self):
+        if self.asked:
+            self.asked.close()
+
+
+def _has_words(raw):
+    return bool(raw.split(b"#", 1)[0].strip())
+
+
+def encode_with_lines(text, name):
+    """Text (bytes) to the schedule file and the line of each of its bytes, 0 for those of the header."""
+    for mark, encoding in ENCODINGS.items():
+        if text.startswith(mark):
+            raise BadText([f"{name}:1:1: {encoding} text, by its first bytes {mark.hex(' ')}: save it as UTF-8"])
+    finisher = _Finisher()
+    encoder = _Encoder(finisher)
+    messages = []
+    lines = text.removeprefix(BOM).split(b"\n")
+    try:
+        for number, raw in enumerate(lines, 1):
+            if len(messages) == ERRORS_SHOWN:
+                if any(map(_has_words, lines[number - 1 :])):
+                    messages.append(f"{name}: no more lines looked at after {ERRORS_SHOWN} bad ones")
+                break
+            try:
+                encoder.line(number, raw.removesuffix(b"\r"))
+            except _BadLine as bad:
+                encoder.sound = False
+                messages.append(f"{name}:{number}:{bad.column}: {bad}")
+    finally:
+        finisher.close()
+    if messages:
+        if text[0] < 32 and text[:1] not in b"\t\n\r":
+            messages.append(f"{name}: it starts with byte {text[0]:02x}, no version: --as binary takes it as a schedule file")
+        raise BadText(messages)
+    file = encoder.file()
+    return file, [0] * (len(file) - len(encoder.lines)) + encoder.lines
+
+
 def encode(text, name):
     """Text (bytes) to the schedule file; `name` stands in the messages of BadText."""
-    encoder = _Encoder()
-    messages = []
-    for number, raw in enumerate(text.removeprefix(b"\xef\xbb\xbf").split(b"\n"), 1):
-        if len(messages) == ERRORS_SHOWN:
-            messages.append(f"{name}: no more lines looked at after {ERRORS_SHOWN} bad ones")
-            break
-        try:
-            words = raw.split(b"#", 1)[0].decode("utf-8", "backslashreplace").split()
-            if words:
-                encoder.line(words)
-        except _BadLine as bad:
-            messages.append(f"{name}:{number}: {bad}")
-    if messages:
-        raise BadText(messages)
-    return encoder.file()
+    return encode_with_lines(text, name)[0]
 
 
 def record_text(first, second):
@@ -206,9 +343,6 @@ def decode(file):
     return "\n".join(lines) + "\n"
 
 
-def is_text(data):
-    """Whether a file is text: no well-formed schedule is, as it starts with byte 01."""
-    try:
-        return bool(data) and all(c.isprintable() or c in "\t\r\n\ufeff" for c in data.decode("utf-8"))
-    except UnicodeDecodeError:
-        return False
+def kind_of(data):
+    """What a file that starts so is: bytes where its first byte is a version, else text."""
+    return "binary" if data[:1] and data[0] in VERSIONS else "text"

@@ -1,17 +1,22 @@
-/* turns FROM TO < SCHEDULE: what the proved library answers for a schedule file, whole and turn by turn.
+/* turns FROM TO [scan] < SCHEDULE: what the library answers for a schedule file, whole and turn by turn.
  *
  * Turn N is the file cut to its first N records. Every answer printed is one of nuxalder_run or nuxalder_list:
  *
- *     whole REFUSAL RECORDS STORED USED      the whole file; after refusals 1 to 4 nothing follows
+ *     whole REFUSAL RECORDS STORED USED      the whole file; after refusals 1 to 4 only the end follows
  *     turn N STORED USED                     each turn FROM to TO that was carried out
+ *     end                                    all was answered
  *
- * After each of these lines come the rows that are new since the one before (the whole file and turn FROM:
+ * After each of the first two come the rows that are new since the one before (the whole file and turn FROM:
  * all rows) and the listing where it is not the same as at the one before:
  *
  *     row THREAD ACTION STATION ANSWER
  *     list LENGTH, a newline and that many bytes of text
  *
- * On a terminal, long runs show their progress on standard error.
+ * With `scan` the whole file is not asked for, so that a build that comes to grief on it is followed up to there. A
+ * turn that the library refuses ends the scan with the line `refused REFUSAL RECORDS`.
+ *
+ * The library may be a build under test, so nothing it hands back is believed that would lead out of a buffer,
+ * and what it prints itself goes to standard error. A line that starts with "turns: " there says what is wrong.
  */
 #include <stdio.h>
 #include <stdlib.h>
@@ -20,78 +25,118 @@
 
 #include "nuxalder.h"
 
-enum { RECORDS_MOST = 4096, HEADER = 3, FILE_ROOM = 1 << 18, PROGRESS = 256 };
+enum { RECORDS_MOST = 4096, HEADER = 3, FILE_ROOM = 1 << 18, ROW = 4, ACTIONS = 6, THREADS = 4, UNTOUCHED = 0xA5 };
 
 static uint8_t schedule[FILE_ROOM];
 static uint8_t rows[2 * RECORDS_MOST];
 static uint8_t text[2][NUXALDER_LIST_BUFFER];
 static uint64_t report[NUXALDER_RUN_FIELDS];
+static FILE *out;
 
 static void fail(const char *what) {
+    fflush(out);
     fprintf(stderr, "turns: %s\n", what);
     exit(1);
 }
 
 static void print_number(const char *before, uint64_t value) {
-    printf("%s%llu", before, (unsigned long long)value);
+    fprintf(out, "%s%llu", before, (unsigned long long)value);
+}
+
+/* Whether the bytes of a lent buffer from `from` on are as they were lent. */
+static int untouched(const uint8_t *buffer, size_t from, size_t length) {
+    while (from < length && buffer[from] == UNTOUCHED) from++;
+    return from == length;
+}
+
+static void run(size_t length) {
+    uint64_t i;
+
+    memset(rows, UNTOUCHED, sizeof rows);
+    memset(report, 0xFF, sizeof report);
+    nuxalder_run(schedule, length, rows, sizeof rows, report);
+    if (report[NUXALDER_RUN_RECORDS] > RECORDS_MOST) fail("more records done than a schedule holds");
+    if (report[NUXALDER_RUN_ROWS] > sizeof rows / ROW) fail("more rows than the row buffer holds");
+    if (!untouched(rows, (size_t)report[NUXALDER_RUN_ROWS] * ROW, sizeof rows)) fail("bytes after the rows were written");
+    for (i = 0; i < report[NUXALDER_RUN_ROWS]; i++)
+        if (rows[ROW * i] >= THREADS || rows[ROW * i + 1] == 0 || rows[ROW * i + 1] >= ACTIONS)
+            fail("a row with a thread or an action that is none");
 }
 
 /* Prints the stored count and the numbers used of the last run, its rows after the first `rows_before` and,
  * unless it is the text of length `text_before` in the other buffer, the listing. Gives the listing's length. */
 static size_t print_state(size_t length, uint64_t rows_before, size_t text_before, int at) {
-    uint64_t list[NUXALDER_LIST_FIELDS], i;
+    uint64_t list[NUXALDER_LIST_FIELDS] = {UINT64_MAX, UINT64_MAX}, i;
     size_t text_now;
 
     print_number(" ", report[NUXALDER_RUN_STORED]);
     print_number(" ", report[NUXALDER_RUN_USED]);
-    putchar('\n');
+    putc('\n', out);
     for (i = rows_before; i < report[NUXALDER_RUN_ROWS]; i++)
-        printf("row %u %u %u %u\n", rows[4 * i], rows[4 * i + 1], rows[4 * i + 2], rows[4 * i + 3]);
+        fprintf(out, "row %u %u %u %u\n", rows[ROW * i], rows[ROW * i + 1], rows[ROW * i + 2], rows[ROW * i + 3]);
 
+    memset(text[at], UNTOUCHED, sizeof text[at]);
     nuxalder_list(schedule, length, text[at], NUXALDER_LIST_BUFFER, list);
+    if (list[NUXALDER_LIST_REFUSAL] != report[NUXALDER_RUN_REFUSAL]) fail("run and list give different refusals");
+    if (list[NUXALDER_LIST_LENGTH] > NUXALDER_LIST_BUFFER) fail("a listing longer than its buffer");
     text_now = (size_t)list[NUXALDER_LIST_LENGTH];
-    if (list[NUXALDER_LIST_REFUSAL] != report[NUXALDER_RUN_REFUSAL] || text_now > NUXALDER_LIST_BUFFER)
-        fail("run and list give different refusals");
+    if (!untouched(text[at], text_now, sizeof text[at])) fail("bytes after the listing were written");
     if (text_now != text_before || memcmp(text[0], text[1], text_now) != 0) {
-        printf("list %zu\n", text_now);
-        fwrite(text[at], 1, text_now, stdout);
+        fprintf(out, "list %zu\n", text_now);
+        fwrite(text[at], 1, text_now, out);
     }
+    /* What was answered is not lost where the library ends the process. */
+    fflush(out);
     return text_now;
+}
+
+static void whole(size_t length, size_t *to) {
+    run(length);
+    print_number("whole ", report[NUXALDER_RUN_REFUSAL]);
+    print_number(" ", report[NUXALDER_RUN_RECORDS]);
+    if (report[NUXALDER_RUN_REFUSAL] >= 1 && report[NUXALDER_RUN_REFUSAL] <= 4) {
+        fprintf(out, " 0 0\nend\n");
+        exit(fflush(out) == 0 ? 0 : 1);
+    }
+    if (*to > report[NUXALDER_RUN_RECORDS]) *to = (size_t)report[NUXALDER_RUN_RECORDS];
+    print_state(length, 0, 0, 0);
 }
 
 int main(int argc, char **argv) {
     size_t from, to, n, length, text_before = 0;
     uint64_t rows_before = 0;
-    int show_progress = isatty(STDERR_FILENO), at = 0;
+    int at = 0, scan = argc == 4 && strcmp(argv[3], "scan") == 0;
 
-    if (argc != 3) fail("usage: turns FROM TO < SCHEDULE");
+    out = fdopen(dup(STDOUT_FILENO), "w");
+    if ((argc != 3 && !scan) || out == NULL) {
+        fprintf(stderr, "turns: usage: turns FROM TO [scan] < SCHEDULE\n");
+        return 1;
+    }
+    dup2(STDERR_FILENO, STDOUT_FILENO);
     from = strtoul(argv[1], NULL, 10);
     to = strtoul(argv[2], NULL, 10);
     length = fread(schedule, 1, sizeof schedule, stdin);
     if (length == sizeof schedule) fail("the file is far longer than any schedule");
-
-    nuxalder_run(schedule, length, rows, sizeof rows, report);
-    print_number("whole ", report[NUXALDER_RUN_REFUSAL]);
-    print_number(" ", report[NUXALDER_RUN_RECORDS]);
-    if (report[NUXALDER_RUN_REFUSAL] >= 1 && report[NUXALDER_RUN_REFUSAL] <= 4) {
-        printf(" 0 0\n");
-        return 0;
-    }
-    if (to > report[NUXALDER_RUN_RECORDS]) to = (size_t)report[NUXALDER_RUN_RECORDS];
-    print_state(length, 0, 0, at);
+    if (!scan) whole(length, &to);
 
     for (n = from; n <= to; n++, at = !at) {
         length = HEADER + 2 * n;
         schedule[1] = (uint8_t)(n >> 8);
         schedule[2] = (uint8_t)n;
-        nuxalder_run(schedule, length, rows, sizeof rows, report);
+        run(length);
+        if (scan && report[NUXALDER_RUN_REFUSAL] != 0) {
+            print_number("refused ", report[NUXALDER_RUN_REFUSAL]);
+            print_number(" ", report[NUXALDER_RUN_RECORDS]);
+            putc('\n', out);
+            break;
+        }
         if (report[NUXALDER_RUN_REFUSAL] != 0 || report[NUXALDER_RUN_RECORDS] != n)
-            fail("the library refused the start of a run that it carried out further");
+            fail("the start of a run is not carried out as the whole run is");
+        if (report[NUXALDER_RUN_ROWS] < rows_before) fail("a row of an earlier turn is gone");
         print_number("turn ", n);
         text_before = print_state(length, rows_before, text_before, at);
         rows_before = report[NUXALDER_RUN_ROWS];
-        if (show_progress && n % PROGRESS == 0 && n > from) fprintf(stderr, "\rturn %zu of %zu ", n, to);
     }
-    if (show_progress && to >= from + PROGRESS) fprintf(stderr, "\r%24s\r", "");
-    return fflush(stdout) == 0 ? 0 : 1;
+    fprintf(out, "end\n");
+    return fflush(out) == 0 ? 0 : 1;
 }

@@ -1,9 +1,9 @@
--- `collector::nuxalder_run` meets its contract. Assumes nothing.
+-- `nuxalder::nuxalder_run` meets its contract. Assumes nothing.
 use mathlib.Core.Path.{ap}
-use Rattle.collector.specs.Fields.{runFields}
+use Rattle.nuxalder.specs.Fields.{runFields}
 use borrow.Author.Needs.{needs}
-use Rattle.collector.proofs.nuxalder_run.Statement.{statement}
-use Rattle.collector.proofs.nuxalder_run.Tie as tie
+use Rattle.nuxalder.proofs.nuxalder_run.Statement.{statement}
+use Rattle.nuxalder.proofs.nuxalder_run.Tie as tie
 
 run-requires : tie.Need-run-requires
 run-requires c κs = search needs

@@ -1,9 +1,9 @@
--- `collector::nuxalder_list` meets its contract. Assumes nothing.
+-- `nuxalder::nuxalder_list` meets its contract. Assumes nothing.
 use mathlib.Core.Path.{ap}
-use Rattle.collector.specs.Fields.{listFields}
+use Rattle.nuxalder.specs.Fields.{listFields}
 use borrow.Author.Needs.{needs}
-use Rattle.collector.proofs.nuxalder_list.Statement.{statement}
-use Rattle.collector.proofs.nuxalder_list.Tie as tie
+use Rattle.nuxalder.proofs.nuxalder_list.Statement.{statement}
+use Rattle.nuxalder.proofs.nuxalder_list.Tie as tie
 
 list-requires : tie.Need-list-requires
 list-requires c κs = search needs

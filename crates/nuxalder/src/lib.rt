@@ -4,7 +4,7 @@ ghost use lib.ListN.{length};
 ghost use Rattle.definitions.specs.Run.{runReport, runBuffer};
 ghost use Rattle.definitions.specs.Listing.{listReport, listBuffer};
 ghost use Rattle.definitions.specs.Merge.{mergeReport, mergeBuffer};
-ghost use Rattle.collector.specs.Fields.{runFields, listFields, mergeFields};
+ghost use Rattle.nuxalder.specs.Fields.{runFields, listFields, mergeFields};
 
 // void nuxalder_run(const uint8_t *schedule, size_t length, uint8_t *rows, size_t length, uint64_t report[6])
 #[no_mangle]

@@ -1,0 +1,135 @@
+"""Tests of the library for C: the header's constants and words, the install, the example, threads and stack."""
+
+import os
+import re
+import shutil
+import subprocess
+
+import bench
+import library
+from checks import OUT, ROOT, VECTORS
+
+HOME = OUT / "c"
+HEADER = ROOT / "include" / "nuxalder.h"
+EXAMPLE = ROOT / "examples" / "step.c"
+LINES_MOST = 30
+STRICT = ["-Wall", "-Wextra", "-Wpedantic", "-Werror"]
+
+PRINTS = """thread 0, action 2, station 9: yes
+record 5 refused, 12: a step of an idle thread
+0 normal 9
+set 9
+"""
+
+# Prints what the header says, for comparison with the papers' numbers and the tool's words.
+ASKS = """#include <nuxalder.h>
+#include <stdio.h>
+int main(void) {
+    unsigned n;
+    printf("%d %d %d %d %d %d %d %d %d\\n", NUXALDER_FILE_VERSION, NUXALDER_ROW_SIZE, NUXALDER_RECORDS_MOST, NUXALDER_FILE_MOST,
+           NUXALDER_NODES_MOST, NUXALDER_STATIONS, NUXALDER_THREADS, NUXALDER_ROWS_BUFFER, NUXALDER_LIST_BUFFER);
+    printf("%d %d %d %d %d %d\\n", NUXALDER_STEP, NUXALDER_LOOKUP, NUXALDER_INSERT, NUXALDER_REMOVE, NUXALDER_SPLIT, NUXALDER_JOIN);
+    printf("%d %d %d %d %d %d %d %d\\n", NUXALDER_NO, NUXALDER_YES, NUXALDER_LACKING, NUXALDER_BLOCKED, NUXALDER_LOST,
+           NUXALDER_NEIGHBOUR_BLOCKED, NUXALDER_STOOD_DOWN, NUXALDER_STOPPED);
+    printf("%d.%d.%d %s\\n", NUXALDER_VERSION_MAJOR, NUXALDER_VERSION_MINOR, NUXALDER_VERSION_PATCH, NUXALDER_VERSION);
+    printf("%d\\n", NUXALDER_STACK);
+    for (n = 0; n < 40; n++) printf("%u %s\\n", n, nuxalder_refusal_words(n));
+    for (n = 0; n < 9; n++) printf("%u %s\\n", n, nuxalder_answer_words(n));
+    return 0;
+}
+"""
+
+
+def run(*command, env=None, cwd=None):
+    ran = subprocess.run([str(word) for word in command], capture_output=True, text=True, env={**os.environ, **(env or {})}, cwd=cwd)
+    return ran.returncode, ran.stdout, ran.stderr
+
+
+def header(checks):
+    checks.group("C: the header")
+    asks = HOME / "asks.c"
+    asks.write_text(ASKS)
+    compilers = [("cc", "-std=c99"), ("cc", "-std=c11"), ("c++", "-x", "c++", "-std=c++11")]
+    for command in compilers:
+        if command[0] == "c++" and not shutil.which("c++"):
+            continue
+        status, out, err = run(*command, *STRICT, "-I", ROOT / "include", asks, "-o", HOME / "asks")
+        checks.equal(f"{' '.join(command)} takes it with no warning", (status, err), (0, ""))
+    lines = run(HOME / "asks")[1].splitlines()
+    checks.equal("01's sizes", lines[0], "1 4 4096 8195 256 64 4 8192 4096")
+    checks.equal("01's actions", lines[1], "0 1 2 3 4 5")
+    checks.equal("answers", lines[2], "0 1 2 3 4 5 6 7")
+    checks.equal("the version is one", *lines[3].split())
+    words = dict(line.split(" ", 1) for line in lines[5:45])
+    told = {int(number): text for number, text in words.items() if text != "unknown"}
+    checks.equal("the words of refusals are the tool's", told, {0: "not refused", **bench.REFUSALS})
+    checks.that("each answer has words of its own", len({line[2:] for line in lines[45:]}) == 9, lines[45:])
+    checks.that("and no other has", lines[-1] == "8 unknown", lines[-1])
+    numbers = dict(re.findall(r"(NUXALDER_REFUSED_\w+) = (\d+)", HEADER.read_text()))
+    checks.equal("each refusal has a name", sorted(map(int, numbers.values())), sorted(told))
+
+
+def install(checks):
+    checks.group("C: install, pkg-config and the example")
+    prefix, packaged = HOME / "prefix", HOME / "packaged"
+    archive = library.OWN.name
+    files = {f"lib/{archive}", "include/nuxalder.h", "lib/pkgconfig/nuxalder.pc"}
+
+    def below(folder):
+        return {str(path.relative_to(folder)) for path in folder.rglob("*") if path.is_file()}
+
+    status, out, err = run(ROOT / "tools" / "install", "--prefix", prefix)
+    checks.equal("it installs three files", (status, err, below(prefix)), (0, "", files))
+    checks.that("and names each", all(str(prefix / name) in out for name in files), out)
+    run(ROOT / "tools" / "install", env={"PREFIX": "/opt/some", "DESTDIR": str(packaged)})
+    checks.equal("PREFIX and DESTDIR", below(packaged), {f"opt/some/{name}" for name in files})
+    package = (packaged / "opt/some/lib/pkgconfig/nuxalder.pc").read_text()
+    checks.that("the package file names the prefix alone", "prefix=/opt/some\n" in package, package)
+    checks.equal("the proved archive", (prefix / "lib" / archive).read_bytes(), library.own().read_bytes())
+    status, _, err = run(ROOT / "tools" / "install", "--prefix", "/dev/null/here")
+    checks.that("a prefix that cannot be", status == 1 and "/dev/null/here" in err and "Traceback" not in err, err)
+
+    env = {"PKG_CONFIG_PATH": str(prefix / "lib" / "pkgconfig")}
+    if shutil.which("pkg-config"):
+        words = run("pkg-config", "--cflags", "--libs", "nuxalder", env=env)[1].split()
+        version = run("pkg-config", "--modversion", "nuxalder", env=env)[1].strip()
+        checks.equal("pkg-config has the header's version", f'#define NUXALDER_VERSION "{version}"' in HEADER.read_text(), True)
+    else:
+        words = [f"-I{prefix}/include", f"-L{prefix}/lib", f"-l{archive[3:-2]}"]
+    status, _, err = run("cc", "-std=c99", *STRICT, EXAMPLE, *words, "-o", HOME / "step")
+    checks.equal("the example is built from the installed files", (status, err), (0, ""))
+    checks.equal("and prints", run(HOME / "step"), (0, PRINTS, ""))
+    code = EXAMPLE.read_text()
+    checks.that(f"it has at most {LINES_MOST} lines", len(code.splitlines()) <= LINES_MOST)
+    readme = (ROOT / "README.md").read_text()
+    checks.that("the README shows it", f"```c\n{code}```" in readme)
+    checks.that("and what it prints", PRINTS in readme)
+    run(ROOT / "tools" / "install", "--prefix", prefix, "--uninstall")
+    checks.equal("uninstall", below(prefix), set())
+
+
+def threads(checks):
+    checks.group("C: several threads at once, and the stack")
+    program = HOME / "threads"
+    built = run("cc", "-std=c11", "-O1", *STRICT, "-I", ROOT / "include", ROOT / "tests" / "c" / "threads.c", library.own(),
+                "-lpthread", "-o", program)  # fmt: skip
+    checks.equal("it is built", built, (0, "", ""))
+    files = sorted(VECTORS.glob("*.schedule"))
+    status, out, err = run(program, *files)
+    told = dict(zip(out.split()[::2], map(int, out.split()[1::2])))
+    checks.equal("every answer is that of a call alone", (status, told.get("wrong"), told.get("files")), (0, 0, len(files) + 1))
+    checks.that("a deep tree is among them", told["deepest"] >= 55, out)
+    checks.that("and merges that are not refused", told["merged"] >= 50, out)
+    stack = int(re.search(r"#define NUXALDER_STACK (\d+)", HEADER.read_text())[1])
+    most = max(told["run"], told["list"], told["merge"])
+    # A tree of 63 levels, the deepest there can be, is a few frames deeper than the one measured.
+    checks.that(f"the stack used is what the header says: {out.strip()}", stack / 4 < most and most + 2048 < stack)
+    checks.that("the header says that threads may call", "from several threads at once" in HEADER.read_text())
+
+
+def all_of(checks):
+    shutil.rmtree(HOME, ignore_errors=True)
+    HOME.mkdir(parents=True)
+    header(checks)
+    install(checks)
+    threads(checks)

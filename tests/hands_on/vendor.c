@@ -1,0 +1,43 @@
+/* A build under test, made of the proved library under other names and one fault, chosen by FAULT. */
+#include <stdio.h>
+#include <stdlib.h>
+#include <string.h>
+#include <unistd.h>
+
+#include "nuxalder.h"
+
+enum { GOOD, WRONG, CRASH, HANG, QUIT, CHATTY, SCRIBBLE, LIAR, LATE };
+
+void own_run(const uint8_t *, size_t, uint8_t *, size_t, uint64_t *);
+void own_list(const uint8_t *, size_t, uint8_t *, size_t, uint64_t *);
+void own_merge(const uint8_t *, size_t, const uint8_t *, size_t, uint8_t *, size_t, uint64_t *);
+
+void nuxalder_run(const uint8_t *schedule, size_t length, uint8_t *rows, size_t room, uint64_t *report)
+{
+    own_run(schedule, length, rows, room, report);
+    /* The printed run of 01 has 27 bytes, a join after it more. */
+    if (FAULT == WRONG && report[NUXALDER_RUN_ROWS] > 2) rows[11] ^= 1;
+    if (FAULT == CRASH && length > 40) abort();
+    if (FAULT == HANG && length > 40) for (;;) pause();
+    if (FAULT == QUIT && length > 40) exit(0);
+    if (FAULT == CHATTY) printf("whole 0 0 0 0\nend\n");
+    if (FAULT == SCRIBBLE) rows[room - 1] = 1;
+    if (FAULT == LIAR) report[NUXALDER_RUN_ROWS] = UINT64_MAX / 4;
+    if (FAULT == LATE && report[NUXALDER_RUN_REFUSAL] == NUXALDER_REFUSED_BUSY) report[NUXALDER_RUN_REFUSAL] = 12;
+}
+
+#ifndef NO_LIST
+void nuxalder_list(const uint8_t *schedule, size_t length, uint8_t *text, size_t room, uint64_t *report)
+{
+    own_list(schedule, length, text, room, report);
+    if (FAULT == LATE && report[NUXALDER_LIST_REFUSAL] == NUXALDER_REFUSED_BUSY) report[NUXALDER_LIST_REFUSAL] = 12;
+}
+
+void nuxalder_merge(const uint8_t *first, size_t first_length, const uint8_t *second, size_t second_length, uint8_t *out,
+                    size_t room, uint64_t *report)
+{
+    own_merge(first, first_length, second, second_length, out, room, report);
+    if (FAULT == WRONG && first_length > 3 && second_length > 3) out[4] ^= 1;
+    if (FAULT == CRASH) abort();
+}
+#endif

@@ -1,0 +1,64 @@
+"""A schedule as it is given, bytes or text, read up to a bound, and where in the text each record stands."""
+
+import sys
+from dataclasses import dataclass
+
+import text_form
+from faults import Fault
+
+BYTES_MOST = 16_384  # a little over the longest schedule, which has 8,195
+TEXT_MOST = 1 << 20
+
+
+@dataclass
+class Given:
+    """A schedule file, the name that it was given by and, where it was text, the line of each of its bytes."""
+
+    name: str
+    file: bytes
+    lines: list
+
+    def place(self, record):
+        """Where a record, counted from 1, stands: the name, and the line where there is one."""
+        at = text_form.HEADER + 2 * (record - 1)
+        return f"{self.name}:{self.lines[at]}" if at < len(self.lines) and self.lines[at] else self.name
+
+
+def _stream(name):
+    if name != "-":
+        return open(name, "rb")
+    if sys.stdin is None:
+        raise Fault("schedule: standard input is closed")
+    return sys.stdin.buffer
+
+
+def read(name, kind=None):
+    """The bytes of a file, or of standard input for '-', and whether they are 'text' or 'binary'."""
+    stream = _stream(name)
+    try:
+        data = stream.read(1)
+        kind = kind or text_form.kind_of(data)
+        most = BYTES_MOST if kind == "binary" else TEXT_MOST
+        while data and len(data) <= most:
+            more = stream.read(most + 1 - len(data))
+            if not more:
+                break
+            data += more
+    except OSError as error:
+        raise Fault(f"schedule: {name}: {error.strerror}") from None
+    finally:
+        if name != "-":
+            stream.close()
+    if len(data) > most:
+        longest = text_form.HEADER + 2 * text_form.RECORDS_MOST
+        what = f"the longest schedule has {longest:,} bytes" if kind == "binary" else "no more is read"
+        raise Fault(f"schedule: {name}: more than {most:,} bytes {'of text ' if kind == 'text' else ''}are given; {what}")
+    return data, kind
+
+
+def given(name, kind=None):
+    """The schedule that a file holds or, where it is text, encodes to."""
+    data, kind = read(name, kind)
+    if kind == "binary":
+        return Given(name, data, [])
+    return Given(name, *text_form.encode_with_lines(data, name))
