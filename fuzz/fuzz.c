@@ -1,18 +1,19 @@
-/* A libFuzzer target: each input as a schedule file, as it is and with its header put right, and its two halves
- * as two files to merge, as they are and with headers and threads put right, through the library and the reference. Any difference in a field or a byte, and any byte touched outside the memory
+/* A libFuzzer target: each input as a schedule file and as a history, as it is and with its header put right, and
+ * its two halves as two files to merge, as they are and with headers and threads put right, through the library
+ * and the reference. Any difference in a field or a byte, and any byte touched outside the memory
  * lent, ends the program. The reference is built with coverage counters, so that inputs grow towards places
  * not seen yet. */
 #define _DEFAULT_SOURCE
 #include "guard.h"
 #include "nuxalder.h"
 
-enum { MOST_RECORDS = 4096, MEMORY = 3 * GUARD_PAGE, BUFFER_MEMORY = MEMORY + GUARD_PAGE };
+enum { MOST_RECORDS = 4096, MEMORY = 3 * GUARD_PAGE, BUFFER_MEMORY = MEMORY + 2 * GUARD_PAGE };
 
 typedef void operation(const uint8_t *, size_t, uint8_t *, size_t, uint64_t *);
 
 /* The reference behind the same interface, under names of its own. */
-extern operation reference_run, reference_list;
-
+extern operation reference_run, reference_list, reference_history;
+extern void reference_judge(const uint8_t *, size_t, uint8_t *, uint64_t *);
 extern void reference_merge(const uint8_t *, size_t, const uint8_t *, size_t, uint8_t *, size_t, uint64_t *);
 
 static struct guard file_memory, second_memory, our_memory, their_memory;
@@ -34,14 +35,34 @@ static void compare(const char *name, operation *ours, operation *theirs, size_t
     }
 }
 
-/* Run and List with buffers just long enough, one byte short and longer. */
+/* The file as a history. */
+static void compare_judge(const uint8_t *file, size_t length)
+{
+    uint8_t our[NUXALDER_JUDGE_ORDER], their[NUXALDER_JUDGE_ORDER];
+    uint64_t our_report[NUXALDER_JUDGE_FIELDS], their_report[NUXALDER_JUDGE_FIELDS];
+    uint8_t *lent = guard_lend(file_memory, length, 0);
+    memcpy(lent, file, length);
+    nuxalder_judge(lent, length, our, our_report);
+    reference_judge(lent, length, their, their_report);
+    if (memcmp(our, their, sizeof our) != 0 || memcmp(our_report, their_report, sizeof our_report) != 0 ||
+        memcmp(lent, file, length) != 0) {
+        fprintf(stderr, "Judge differs from the reference\n");
+        abort();
+    }
+}
+
+/* Judge on the file, and Run, List and History with buffers just long enough, one byte short and longer. */
 static void compare_all(const uint8_t *file, size_t length)
 {
     size_t count = length < 3 ? 0 : (size_t)file[1] << 8 | file[2];
     size_t need = 2 * (count > MOST_RECORDS ? MOST_RECORDS : count);
     const size_t row_rooms[] = {need, need > 0 ? need - 1 : 0, need + 17};
     const size_t text_rooms[] = {NUXALDER_LIST_BUFFER, NUXALDER_LIST_BUFFER - 1, NUXALDER_LIST_BUFFER + 17};
+    const size_t event_rooms[] = {3 + 2 * need, 2 + 2 * need, 20 + 2 * need};
+    compare_judge(file, length);
     for (int i = 0; i < 3; i++) {
+        compare("History", nuxalder_history, reference_history, NUXALDER_HISTORY_FIELDS, file, length,
+                event_rooms[i], i & 1);
         compare("Run", nuxalder_run, reference_run, NUXALDER_RUN_FIELDS, file, length, row_rooms[i], i & 1);
         compare("List", nuxalder_list, reference_list, NUXALDER_LIST_FIELDS, file, length, text_rooms[i],
                 i & 1);
@@ -115,6 +136,10 @@ int LLVMFuzzerTestOneInput(const uint8_t *data, size_t size)
         repaired[1] = (uint8_t)(count >> 8);
         repaired[2] = (uint8_t)count;
         compare_all(repaired, 3 + 2 * count);
+        count = (size - 3) / 4 > MOST_RECORDS / 2 ? MOST_RECORDS / 2 : (size - 3) / 4;
+        repaired[1] = (uint8_t)(count >> 8);
+        repaired[2] = (uint8_t)count;
+        compare_judge(repaired, 3 + 4 * count);
     }
     return 0;
 }

@@ -1,9 +1,9 @@
 /* Nuxalder: a turn-by-turn bench for a lock-free contention adapting search tree.
  *
- * Run and List take a schedule file as bytes, carry it out on a fresh bench and hand back numbers in
- * `report` and bytes in a buffer that the caller lends. They keep no state between calls, allocate nothing,
- * read no byte outside the schedule and write no byte outside the buffer and the report. The lent memory
- * must not overlap, and no pointer is null, also where its length is 0.
+ * Run, List and History take a schedule file as bytes, carry it out on a fresh bench and hand back numbers in
+ * `report` and bytes in a buffer that the caller lends; Merge takes two, Judge takes a history. They keep no state
+ * between calls, allocate nothing, read no byte outside the files and write no byte outside the buffer and the
+ * report. The lent memory must not overlap, and no pointer is null, also where its length is 0.
  *
  * A schedule file: version byte 1, two-byte big-endian count, then `count` records of two bytes.
  * First byte: 16 * thread + action (0 step, 1 lookup, 2 insert, 3 remove, 4 split, 5 join).
@@ -21,6 +21,8 @@
  * Merge alone, in this order: 1 to 4 for a fault of the first file, then 1 to 4 for one of the second (2: any
  * version but 1), 17 for a thread that is not its file's, 3 for counts that total over 4,096, 18 for an output
  * buffer under 3 + 4 * the smaller count bytes.
+ * History: 1 to 4 and 7 to 13 as Run has them, 5 for a buffer under 3 + 4 * count bytes. Judge alone: 1, 2, 4, 21 to 23;
+ * they stand with nuxalder_judge.
  *
  * Answers of a lookup, an insert or a remove are 0 and 1, those of a split or a join 1 and 2 to 7:
  *    0  no                                    4  a swap lost, or the base gone from its parent
@@ -42,9 +44,10 @@
 #define NUXALDER_VERSION_PATCH 0
 #define NUXALDER_VERSION "1.0.0"
 
-/* The functions may be called from several threads at once, each with its own report and buffers; a schedule may be
- * shared. A call of nuxalder_run, nuxalder_list or nuxalder_merge uses at most NUXALDER_STACK bytes of stack. */
-#define NUXALDER_STACK 16384
+/* The functions may be called from several threads at once, each with its own report and buffers; a schedule
+ * or a history may be shared. A call of nuxalder_run, nuxalder_list, nuxalder_merge, nuxalder_history or nuxalder_judge
+ * uses at most NUXALDER_STACK bytes of stack. */
+#define NUXALDER_STACK 24576
 
 /* Sizes of a schedule file, its rows and the bench. */
 #define NUXALDER_FILE_VERSION 1
@@ -137,6 +140,8 @@ enum {
 #define NUXALDER_RUN_FIELDS 6
 #define NUXALDER_LIST_FIELDS 2
 #define NUXALDER_MERGE_FIELDS 4
+#define NUXALDER_HISTORY_FIELDS 2
+#define NUXALDER_JUDGE_FIELDS 3
 #define NUXALDER_LIST_BUFFER 4096 /* the text never needs more */
 
 /* Carries out the schedule. A row is four bytes: thread, action, station, answer, in order of finishing;
@@ -176,6 +181,50 @@ void nuxalder_merge(const uint8_t *first, size_t first_length,
                     const uint8_t *second, size_t second_length,
                     uint8_t *out, size_t out_length,
                     uint64_t report[NUXALDER_MERGE_FIELDS]);
+
+/* ---- histories
+ *
+ * A history file: version byte 1, two-byte big-endian count, then `count` events of four bytes: thread, action
+ * (1 lookup, 2 insert, 3 remove), station, and 0 for a start, 1 for a finish with no, 2 for a finish with yes. */
+
+/* What nuxalder_history writes to report[]. */
+enum {
+    NUXALDER_HISTORY_REFUSAL = 0, /* refusal number, 0 for none */
+    NUXALDER_HISTORY_LENGTH = 1   /* bytes of the history written */
+};
+
+#define NUXALDER_HISTORY_BUFFER 16387 /* no schedule's history needs more */
+
+/* Carries out the schedule and writes its run as a history: each accepted start and each row, in turn order. A
+ * finish's last byte is the row's answer and 1, also for splits and joins, which are written as they are (Judge
+ * then refuses the history with 21). `history` needs 3 + 4 * count bytes; on fewer the refusal is 5. On refusals
+ * 1 to 5 nothing is written and the length is 0. On refusals 7 to 13 the history is that of the records before
+ * the refused one. Bytes of `history` past the length are untouched. */
+void nuxalder_history(const uint8_t *schedule, size_t schedule_length,
+                      uint8_t *history, size_t history_length,
+                      uint64_t report[NUXALDER_HISTORY_FIELDS]);
+
+/* What nuxalder_judge writes to report[]. */
+enum {
+    NUXALDER_JUDGE_REFUSAL = 0,   /* refusal number, 0 for none */
+    NUXALDER_JUDGE_ACCEPTED = 1,  /* 1 where there is an order, else 0 */
+    NUXALDER_JUDGE_OPERATIONS = 2 /* operations of the history */
+};
+
+#define NUXALDER_JUDGE_ORDER 12 /* a history has at most so many operations */
+
+/* Judges a history: whether some order of all operations that keeps every finish before a start has these answers
+ * from a plain set that is empty at first. Operations are numbered from 0 by their starts; `order` gets the first
+ * such order, compared number by number, and 0 after it. Where there is none, ACCEPTED is 0 and every byte of
+ * `order` is 0. Refusals, in this order:
+ *    1  a file under three bytes             21  an event out of place: a field outside its range, a start of a busy
+ *    2  a version other than 1                   thread, a finish of an idle one or of another operation
+ *    4  a length other than 3 + 4 * count    22  more than 12 operations
+ *                                            23  an operation that is not finished
+ * On a refusal every other field and every byte of `order` is 0. */
+void nuxalder_judge(const uint8_t *history, size_t history_length,
+                    uint8_t order[NUXALDER_JUDGE_ORDER],
+                    uint64_t report[NUXALDER_JUDGE_FIELDS]);
 
 #ifdef __cplusplus
 }

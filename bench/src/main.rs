@@ -1,5 +1,8 @@
 //! Times Run, List and Merge of the library and of the reference on the same schedules, in turn, and prints the
-//! medians and their ratio for each size. Buffers are lent as they are, not cleared between calls.
+//! medians and their ratio for each size. Buffers are lent as they are, not cleared between calls. Then Judge, on hard
+//! histories. `speed judge` does only that; `speed search N SEED` looks for harder ones with N tries.
+
+mod judge;
 
 use differential::library;
 use differential::merges::whole;
@@ -63,6 +66,22 @@ fn compare(name: &str, size: usize, files: &[Vec<u8>], ours: Operation, theirs: 
 }
 
 fn main() {
+    let words: Vec<String> = std::env::args().skip(1).collect();
+    match words.iter().map(String::as_str).collect::<Vec<_>>()[..] {
+        [] => {
+            schedules();
+            judge::compare();
+        }
+        ["judge"] => judge::compare(),
+        ["search", rounds, seed] => judge::search(
+            rounds.parse().expect("a number of tries"),
+            seed.parse().expect("a seed"),
+        ),
+        _ => panic!("usage: speed [judge | search N SEED]"),
+    }
+}
+
+fn schedules() {
     println!(
         "medians of {SAMPLES} samples over {FILES} schedules, buffers not cleared between calls"
     );

@@ -354,6 +354,114 @@ static void headers(int at_start)
     }
 }
 
+/* History of the runs' first kinds with buffers of every length around what it needs; bytes after it stay. */
+static void histories(int at_start)
+{
+    static const struct {
+        uint8_t file[17];
+        size_t length;
+        uint64_t refusal;
+        uint8_t history[19];
+        size_t written;
+    } cases[] = {
+        {{1, 0, 0}, 3, 0, {1, 0, 0}, 3},
+        {{1, 0, 4, 2, 9, 0, 0, 0, 0, 0, 0}, 11, 0, {1, 0, 2, 0, 2, 9, 0, 0, 2, 9, 2}, 11},
+        {{1, 0, 6, 2, 3, 0, 0, 17, 3, 16, 0, 0, 0, 0, 0}, 15, 0,
+         {1, 0, 4, 0, 2, 3, 0, 1, 1, 3, 0, 1, 1, 3, 1, 0, 2, 3, 2}, 19},
+        {{1, 0, 4, 2, 3, 0, 0, 16, 0, 17, 3}, 11, 12, {1, 0, 1, 0, 2, 3, 0}, 7},
+        {{1, 0, 7, 2, 3, 0, 0, 0, 0, 0, 0, 4, 3, 0, 0, 0, 0}, 17, 0,
+         {1, 0, 4, 0, 2, 3, 0, 0, 2, 3, 2, 0, 4, 3, 0, 0, 4, 3, 3}, 19},
+        {{1, 0}, 2, 1, {0}, 0},
+        {{2, 0, 0}, 3, 2, {0}, 0},
+        {{1, 16, 1}, 3, 3, {0}, 0},
+        {{1, 0, 1}, 3, 4, {0}, 0},
+    };
+    for (size_t i = 0; i < sizeof cases / sizeof cases[0]; i++) {
+        size_t need = 3 + 4 * ((cases[i].length - 3) / 2);
+        for (size_t room = 0; room <= 40; room++) {
+            const uint8_t *copy = lend_file(cases[i].file, cases[i].length, at_start);
+            guard_fill(rows_memory);
+            uint8_t *buffer = guard_lend(rows_memory, room, at_start);
+            uint64_t report[NUXALDER_HISTORY_FIELDS + 1] = {99, 99, 99};
+            int refused = cases[i].refusal >= 1 && cases[i].refusal <= 4;
+            int is_short = !refused && room < need;
+            size_t written = refused || is_short ? 0 : cases[i].written;
+            nuxalder_history(copy, cases[i].length, buffer, room, report);
+            check(report[NUXALDER_HISTORY_REFUSAL] == (is_short ? 5 : cases[i].refusal) &&
+                      report[NUXALDER_HISTORY_LENGTH] == written && report[2] == 99,
+                  "history %zu with %zu bytes: refusal %" PRIu64 ", length %" PRIu64, i, room,
+                  report[NUXALDER_HISTORY_REFUSAL], report[NUXALDER_HISTORY_LENGTH]);
+            check(memcmp(buffer, cases[i].history, written) == 0 && guard_kept(rows_memory, buffer, written),
+                  "history %zu with %zu bytes: a byte is wrong or was written outside it", i, room);
+            file_kept(copy, cases[i].file, cases[i].length);
+        }
+    }
+}
+
+/* Judge on small histories: verdicts, the first order, and refusals in their order. */
+static void judged(int at_start)
+{
+    static const struct {
+        const char *name;
+        uint8_t file[27];
+        size_t length;
+        uint64_t report[NUXALDER_JUDGE_FIELDS];
+        uint8_t order[NUXALDER_JUDGE_ORDER];
+    } cases[] = {
+        {"no events", {1, 0, 0}, 3, {0, 1, 0}, {0}},
+        {"a lookup before the insert it overlaps",
+         {1, 0, 4, 0, 1, 5, 0, 1, 2, 5, 0, 0, 1, 5, 1, 1, 2, 5, 2}, 19, {0, 1, 2}, {0, 1}},
+        {"a lookup after the insert it overlaps",
+         {1, 0, 4, 0, 1, 5, 0, 1, 2, 5, 0, 0, 1, 5, 2, 1, 2, 5, 2}, 19, {0, 1, 2}, {1, 0}},
+        {"a lookup that misses a finished insert",
+         {1, 0, 4, 1, 2, 5, 0, 1, 2, 5, 2, 0, 1, 5, 0, 0, 1, 5, 1}, 19, {0, 0, 2}, {0}},
+        {"a remove between two inserts",
+         {1, 0, 6, 2, 3, 7, 0, 0, 2, 7, 0, 1, 2, 7, 0, 0, 2, 7, 2, 1, 2, 7, 2, 2, 3, 7, 2}, 27, {0, 1, 3}, {1, 0, 2}},
+        {"two bytes", {2, 0}, 2, {1, 0, 0}, {0}},
+        {"version 2", {2, 0, 9}, 3, {2, 0, 0}, {0}},
+        {"a length", {1, 0, 1, 4, 0, 0}, 6, {4, 0, 0}, {0}},
+        {"a thread over 3", {1, 0, 1, 4, 2, 5, 0}, 7, {21, 0, 0}, {0}},
+        {"an action under 1", {1, 0, 1, 0, 0, 5, 0}, 7, {21, 0, 0}, {0}},
+        {"an action over 3", {1, 0, 1, 0, 4, 5, 0}, 7, {21, 0, 0}, {0}},
+        {"a station over 63", {1, 0, 1, 0, 2, 64, 0}, 7, {21, 0, 0}, {0}},
+        {"a mark over 2", {1, 0, 1, 0, 2, 5, 3}, 7, {21, 0, 0}, {0}},
+        {"a finish of an idle thread", {1, 0, 1, 0, 2, 5, 1}, 7, {21, 0, 0}, {0}},
+        {"a start of a busy thread", {1, 0, 2, 0, 2, 5, 0, 0, 2, 5, 0}, 11, {21, 0, 0}, {0}},
+        {"a finish of another station", {1, 0, 2, 0, 2, 5, 0, 0, 2, 6, 2}, 11, {21, 0, 0}, {0}},
+        {"an unfinished operation", {1, 0, 1, 0, 2, 5, 0}, 7, {23, 0, 0}, {0}},
+    };
+    for (size_t i = 0; i < sizeof cases / sizeof cases[0]; i++) {
+        const uint8_t *copy = lend_file(cases[i].file, cases[i].length, at_start);
+        guard_fill(rows_memory);
+        uint8_t *order = guard_lend(rows_memory, NUXALDER_JUDGE_ORDER, at_start);
+        uint64_t report[NUXALDER_JUDGE_FIELDS + 1] = {99, 99, 99, 99};
+        nuxalder_judge(copy, cases[i].length, order, report);
+        check(memcmp(report, cases[i].report, sizeof cases[i].report) == 0 && report[NUXALDER_JUDGE_FIELDS] == 99,
+              "%s: %" PRIu64 " %" PRIu64 " %" PRIu64, cases[i].name, report[0], report[1], report[2]);
+        check(memcmp(order, cases[i].order, NUXALDER_JUDGE_ORDER) == 0 &&
+                  guard_kept(rows_memory, order, NUXALDER_JUDGE_ORDER),
+              "%s: another order, or a byte written outside it", cases[i].name);
+        file_kept(copy, cases[i].file, cases[i].length);
+    }
+    /* twelve operations one after another, thirteen, and thirteen with the last one open */
+    static uint8_t many[3 + 4 * 26];
+    for (size_t events = 24; events <= 26; events++) {
+        many[0] = 1;
+        many[2] = (uint8_t)events;
+        for (size_t e = 0; e < events; e++) {
+            const uint8_t event[] = {0, 1, 5, e % 2};
+            memcpy(many + 3 + 4 * e, event, sizeof event);
+        }
+        uint8_t order[NUXALDER_JUDGE_ORDER];
+        uint64_t report[NUXALDER_JUDGE_FIELDS];
+        nuxalder_judge(many, 3 + 4 * events, order, report);
+        int fine = report[0] == (events == 24 ? 0 : 22);
+        for (size_t n = 0; n < NUXALDER_JUDGE_ORDER; n++)
+            fine = fine && order[n] == (events == 24 ? n : 0);
+        check(fine, "%zu events of operations one after another get %" PRIu64, events, report[0]);
+    }
+}
+
 int main(void)
 {
     schedule_memory = guard_new(MEMORY);
@@ -366,6 +474,8 @@ int main(void)
     for (int at_start = 0; at_start <= 1; at_start++) {
         buffer_lengths(at_start);
         headers(at_start);
+        histories(at_start);
+        judged(at_start);
     }
     printf("%lu passed, %lu failed\n", passed, failed);
     return failed == 0 && passed > 0 ? EXIT_SUCCESS : EXIT_FAILURE;

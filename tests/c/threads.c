@@ -8,11 +8,14 @@
 #include <stdlib.h>
 #include <string.h>
 
-enum { THREADS = 8, FILES_MOST = 256, STACK = 1 << 18, PAINT = 0xC7, NEAR = 512, FUNCTIONS = 3 };
+enum { THREADS = 8, FILES_MOST = 256, STACK = 1 << 18, PAINT = 0xC7, NEAR = 512, FUNCTIONS = 5 };
+enum { EVENT = 4, EVENTS = 2 * NUXALDER_JUDGE_ORDER };
 
 struct answer {
     uint64_t run[NUXALDER_RUN_FIELDS], list[NUXALDER_LIST_FIELDS], merge[NUXALDER_MERGE_FIELDS];
+    uint64_t history[NUXALDER_HISTORY_FIELDS], judge[NUXALDER_JUDGE_FIELDS];
     uint8_t rows[NUXALDER_ROWS_BUFFER], text[NUXALDER_LIST_BUFFER], out[NUXALDER_FILE_MOST];
+    uint8_t events[NUXALDER_HISTORY_BUFFER], order[NUXALDER_JUDGE_ORDER];
 };
 
 struct part {
@@ -24,6 +27,7 @@ struct file {
     uint8_t bytes[NUXALDER_FILE_MOST + 1];
     size_t length;
     struct part parts[2]; /* two files to merge, made of it */
+    uint8_t judged[NUXALDER_HEADER_SIZE + EVENT * EVENTS]; /* a history, made of it */
     struct answer alone;
 };
 
@@ -54,7 +58,18 @@ static void call_merge(const struct file *file, struct answer *answer)
     nuxalder_merge(first->bytes, first->length, second->bytes, second->length, answer->out, sizeof answer->out, answer->merge);
 }
 
-static void (*const calls[FUNCTIONS])(const struct file *, struct answer *) = {call_run, call_list, call_merge};
+static void call_history(const struct file *file, struct answer *answer)
+{
+    nuxalder_history(file->bytes, file->length, answer->events, sizeof answer->events, answer->history);
+}
+
+static void call_judge(const struct file *file, struct answer *answer)
+{
+    nuxalder_judge(file->judged, sizeof file->judged, answer->order, answer->judge);
+}
+
+static void (*const calls[FUNCTIONS])(const struct file *, struct answer *) = {call_run, call_list, call_merge, call_history,
+                                                                               call_judge};
 
 /* Paints the stack below this frame, calls, and gives how far down the paint is gone. */
 __attribute__((noinline)) static size_t measured(struct thread *thread, const struct file *file,
@@ -148,11 +163,43 @@ static void make_parts(struct file *file)
     }
 }
 
+/* Twelve operations on four threads, of which up to four are open at once, with the answers of a plain set in the order of
+ * their starts; in every other file the last answer is the opposite. */
+static void make_history(struct file *file, int changed)
+{
+    uint8_t operations[NUXALDER_JUDGE_ORDER][EVENT];
+    int present[4] = {0, 0, 0, 0}, k, started = 0;
+    uint8_t *event = file->judged;
+
+    *event++ = NUXALDER_FILE_VERSION;
+    *event++ = 0;
+    *event++ = EVENTS;
+    for (k = 0; k < NUXALDER_JUDGE_ORDER; k++) {
+        uint8_t byte = file->bytes[7 * k];
+        int action = 1 + (byte / 4 + k) % 3, station = (byte + k / 5) % 4, was = present[station];
+
+        present[station] = action == NUXALDER_INSERT || (was && action == NUXALDER_LOOKUP);
+        operations[k][0] = (uint8_t)(k % NUXALDER_THREADS);
+        operations[k][1] = (uint8_t)action;
+        operations[k][2] = (uint8_t)station;
+        operations[k][3] = (uint8_t)(1 + (action == NUXALDER_INSERT ? !was : was));
+    }
+    if (changed) operations[NUXALDER_JUDGE_ORDER - 1][3] ^= 3;
+    for (k = 0; k < NUXALDER_JUDGE_ORDER; k++) {
+        for (; started < NUXALDER_JUDGE_ORDER && started < k + NUXALDER_THREADS; started++, event += EVENT) {
+            memcpy(event, operations[started], EVENT);
+            event[3] = 0;
+        }
+        memcpy(event, operations[k], EVENT);
+        event += EVENT;
+    }
+}
+
 int main(int argc, char **argv)
 {
     static struct thread threads[THREADS];
     pthread_t ids[THREADS];
-    size_t i, k, merged = 0, most[FUNCTIONS] = {0, 0, 0};
+    size_t i, k, merged = 0, written = 0, accepted = 0, most[FUNCTIONS] = {0};
     unsigned long wrong = 0;
     const uint8_t *line;
     int deepest = 0;
@@ -166,8 +213,11 @@ int main(int argc, char **argv)
     }
     for (i = 0; i < count; i++) {
         make_parts(&files[i]);
+        make_history(&files[i], i % 2 == 1);
         for (k = 0; k < FUNCTIONS; k++) calls[k](&files[i], &files[i].alone);
         merged += files[i].alone.merge[NUXALDER_MERGE_REFUSAL] == NUXALDER_REFUSED_NOT;
+        written += files[i].alone.history[NUXALDER_HISTORY_LENGTH] > NUXALDER_HEADER_SIZE;
+        accepted += files[i].alone.judge[NUXALDER_JUDGE_ACCEPTED] == 1;
     }
     for (line = files[0].alone.text; *line != 's'; line = (const uint8_t *)strchr((const char *)line, '\n') + 1)
         if (atoi((const char *)line) > deepest) deepest = atoi((const char *)line);
@@ -185,7 +235,7 @@ int main(int argc, char **argv)
         for (k = 0; k < FUNCTIONS; k++)
             if (threads[i].most[k] > most[k]) most[k] = threads[i].most[k];
     }
-    printf("files %zu merged %zu deepest %d wrong %lu run %zu list %zu merge %zu\n", count, merged, deepest, wrong, most[0],
-           most[1], most[2]);
+    printf("files %zu merged %zu written %zu accepted %zu deepest %d wrong %lu run %zu list %zu merge %zu history %zu judge %zu\n",
+           count, merged, written, accepted, deepest, wrong, most[0], most[1], most[2], most[3], most[4]);
     return 0;
 }

@@ -120,8 +120,10 @@ def threads(checks):
     checks.equal("every answer is that of a call alone", (status, told.get("wrong"), told.get("files")), (0, 0, len(files) + 1))
     checks.that("a deep tree is among them", told["deepest"] >= 55, out)
     checks.that("and merges that are not refused", told["merged"] >= 50, out)
+    checks.that("and runs written as histories", told["written"] >= 50, out)
+    checks.that("and histories of both verdicts", len(files) // 2 <= told["accepted"] < len(files), out)
     stack = int(re.search(r"#define NUXALDER_STACK (\d+)", HEADER.read_text())[1])
-    most = max(told["run"], told["list"], told["merge"])
+    most = max(told[name] for name in ("run", "list", "merge", "history", "judge"))
     # A tree of 63 levels, the deepest there can be, is a few frames deeper than the one measured.
     checks.that(f"the stack used is what the header says: {out.strip()}", stack / 4 < most and most + 2048 < stack)
     checks.that("the header says that threads may call", "from several threads at once" in HEADER.read_text())

@@ -60,9 +60,9 @@ def links(checks):
 
 def ignored(checks):
     checks.group("documents: what git ignores")
-    written = set(re.findall(r"(?:-o|--html) (\S+)", "\n".join(command for command, _ in blocks())))
+    written = set(re.findall(r"(?:-o|--html|--svg) (\S+)", "\n".join(command for command, _ in blocks())))
     for name in ("README.md", "CONTRIBUTING.md"):
-        written |= set(re.findall(r"(?:-o|--html) ([\w.-]+\.\w+)", (ROOT / name).read_text()))
+        written |= set(re.findall(r"(?:-o|--html|--svg) ([\w.-]+\.\w+)", (ROOT / name).read_text()))
     written |= {"mine.txt", "target/x", "tools/lib/__pycache__/x.pyc"}
     checks.that("the guides write files", len(written) >= 5, written)
     folder = OUT / "ignored"

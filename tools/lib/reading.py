@@ -8,6 +8,9 @@ from faults import Fault
 
 BYTES_MOST = 16_384  # a little over the longest schedule, which has 8,195
 TEXT_MOST = 1 << 20
+# Kinds of files: the name, the length of the longest, and a little more, up to which one is read.
+SCHEDULE = ("schedule", text_form.HEADER + 2 * text_form.RECORDS_MOST, BYTES_MOST)
+HISTORY = ("history", text_form.HEADER + 4 * text_form.COUNT_MOST, 1 << 18)
 
 
 @dataclass
@@ -32,13 +35,14 @@ def _stream(name):
     return sys.stdin.buffer
 
 
-def read(name, kind=None):
-    """The bytes of a file, or of standard input for '-', and whether they are 'text' or 'binary'."""
+def read(name, kind=None, longest=SCHEDULE):
+    """The bytes of a file, or of standard input for '-', and whether they are 'text' or 'binary'; `longest` is what bytes may be."""
+    of, length, bytes_most = longest
     stream = _stream(name)
     try:
         data = stream.read(1)
         kind = kind or text_form.kind_of(data)
-        most = BYTES_MOST if kind == "binary" else TEXT_MOST
+        most = bytes_most if kind == "binary" else TEXT_MOST
         while data and len(data) <= most:
             more = stream.read(most + 1 - len(data))
             if not more:
@@ -50,8 +54,7 @@ def read(name, kind=None):
         if name != "-":
             stream.close()
     if len(data) > most:
-        longest = text_form.HEADER + 2 * text_form.RECORDS_MOST
-        what = f"the longest schedule has {longest:,} bytes" if kind == "binary" else "no more is read"
+        what = f"the longest {of} has {length:,} bytes" if kind == "binary" else "no more is read"
         raise Fault(f"schedule: {name}: more than {most:,} bytes {'of text ' if kind == 'text' else ''}are given; {what}")
     return data, kind
 

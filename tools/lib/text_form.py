@@ -149,6 +149,8 @@ class _Line:
 class _Encoder:
     """What the lines so far have given."""
 
+    WHAT = "schedule"
+
     def __init__(self, finisher):
         self.records = bytearray()
         self.tail = bytearray()
@@ -270,13 +272,14 @@ def _has_words(raw):
     return bool(raw.split(b"#", 1)[0].strip())
 
 
-def encode_with_lines(text, name):
-    """Text (bytes) to the schedule file and the line of each of its bytes, 0 for those of the header."""
+def encode_with_lines(text, name, kind=_Encoder):
+    """Text (bytes) to the file that this kind of encoder makes, a schedule if none is given, and the line of each of its bytes,
+    0 for those of the header."""
     for mark, encoding in ENCODINGS.items():
         if text.startswith(mark):
             raise BadText([f"{name}:1:1: {encoding} text, by its first bytes {mark.hex(' ')}: save it as UTF-8"])
     finisher = _Finisher()
-    encoder = _Encoder(finisher)
+    encoder = kind(finisher)
     messages = []
     lines = text.removeprefix(BOM).split(b"\n")
     try:
@@ -294,7 +297,7 @@ def encode_with_lines(text, name):
         finisher.close()
     if messages:
         if text[0] < 32 and text[:1] not in b"\t\n\r":
-            messages.append(f"{name}: it starts with byte {text[0]:02x}, no version: --as binary takes it as a schedule file")
+            messages.append(f"{name}: it starts with byte {text[0]:02x}, no version: --as binary takes it as a {encoder.WHAT} file")
         raise BadText(messages)
     file = encoder.file()
     return file, [0] * (len(file) - len(encoder.lines)) + encoder.lines

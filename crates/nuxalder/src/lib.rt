@@ -1,10 +1,13 @@
-// Run, List and Merge for a C host; include/nuxalder.h says what each number means.
+// Run, List, Merge, History and Judge for a C host; include/nuxalder.h says what each number means.
 ghost use mathlib.Core.Path.{_≡_};
 ghost use lib.ListN.{length};
 ghost use Rattle.definitions.specs.Run.{runReport, runBuffer};
 ghost use Rattle.definitions.specs.Listing.{listReport, listBuffer};
 ghost use Rattle.definitions.specs.Merge.{mergeReport, mergeBuffer};
-ghost use Rattle.nuxalder.specs.Fields.{runFields, listFields, mergeFields};
+ghost use Rattle.definitions.specs.Written.{writtenReport, writtenBuffer};
+ghost use Rattle.definitions.specs.Judgement.{Judgement, once};
+ghost use Rattle.definitions.specs.declared.Judged.{Judged};
+ghost use Rattle.nuxalder.specs.Fields.{runFields, listFields, mergeFields, writtenFields, judgedFields};
 
 // void nuxalder_run(const uint8_t *schedule, size_t length, uint8_t *rows, size_t length, uint64_t report[6])
 #[no_mangle]
@@ -47,4 +50,32 @@ pub extern "C" fn nuxalder_merge<'a>(
         return;
     }
     *report = [0, 0, (first.len() - n) as u64, n as u64];
+}
+
+// void nuxalder_history(const uint8_t *schedule, size_t length, uint8_t *history, size_t length, uint64_t report[2])
+#[no_mangle]
+pub extern "C" fn nuxalder_history(schedule: &[u8], history: &mut [u8], report: &mut [u64; 2])
+    ensures { λ _. ⌜ (now (report .exit) ≡ writtenFields (writtenReport (now (schedule .entry)) (length (now (history .entry))))) × (now (history .exit) ≡ writtenBuffer (now (schedule .entry)) (now (history .entry))) ⌝ }
+{
+    let w = history::history(schedule, history);
+    *report = [w.refusal, w.length];
+}
+
+// 1 for yes.
+fn flag(yes: bool) -> u64
+    ensures { λ r. ⌜ r ≡ once yes ⌝ }
+{
+    if yes { 1 } else { 0 }
+}
+
+// void nuxalder_judge(const uint8_t *history, size_t length, uint8_t order[12], uint64_t report[3])
+#[no_mangle]
+pub extern "C" fn nuxalder_judge(history: &[u8], order: &mut [u8; 12], report: &mut [u64; 3])
+    ensures { λ _. ⌜ ((r : Judged) × Judgement (now (history .entry)) r × (now (order .exit) ≡ r .order) × (now (report .exit) ≡ judgedFields r)) ⌝ }
+{
+    let r = judge::judge(history);
+    let yes = flag(r.accepted);
+    let numbers = r.order;
+    *order = numbers;
+    *report = [r.refusal, yes, r.operations];
 }

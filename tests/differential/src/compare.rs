@@ -3,7 +3,7 @@
 use crate::guard::Guarded;
 use crate::library;
 use crate::rng::Rng;
-use reference::{Counter, Observer, LIST_BUFFER, MAX_RECORDS};
+use reference::{Counter, Observer, EVENT, HISTORY_HEADER, LIST_BUFFER, MAX_RECORDS};
 use std::fmt::Debug;
 
 /// The most a buffer is longer than it need be.
@@ -25,14 +25,14 @@ impl Comparer {
     pub fn new(longest: usize) -> Self {
         Comparer {
             file: Guarded::new(longest),
-            buffer: Guarded::new(2 * MAX_RECORDS + SLACK),
+            buffer: Guarded::new(HISTORY_HEADER + EVENT * MAX_RECORDS + SLACK),
             twin: Vec::new(),
             counter: Counter::new(),
             records: 0,
         }
     }
 
-    /// Compares Run and List on a file, with buffers of several lengths; the first difference ends it.
+    /// Compares Run, List and History on a file, with buffers of several lengths; the first difference ends it.
     pub fn file(&mut self, file: &[u8], rng: &mut Rng) -> Result<(), String> {
         let need = 2 * claimed(file);
         self.run(file, need, rng, true)?;
@@ -44,7 +44,12 @@ impl Comparer {
         self.list(file, LIST_BUFFER, rng)?;
         self.list(file, LIST_BUFFER + 1 + rng.below(SLACK), rng)?;
         self.list(file, LIST_BUFFER - 1, rng)?;
-        self.list(file, rng.below(LIST_BUFFER), rng)
+        self.list(file, rng.below(LIST_BUFFER), rng)?;
+        let need = HISTORY_HEADER + 2 * need;
+        self.history(file, need, rng)?;
+        self.history(file, need + 1 + rng.below(SLACK), rng)?;
+        self.history(file, need - 1, rng)?;
+        self.history(file, rng.below(need), rng)
     }
 
     fn run(&mut self, file: &[u8], room: usize, rng: &mut Rng, counts: bool) -> Result<(), String> {
@@ -89,6 +94,21 @@ impl Comparer {
             self.counter.refusal(6, 0);
         }
         self.judge("List", room, file, place, (got, expected))
+    }
+
+    fn history(&mut self, file: &[u8], room: usize, rng: &mut Rng) -> Result<(), String> {
+        let place = prepare(
+            &mut self.file,
+            &mut self.buffer,
+            &mut self.twin,
+            file,
+            room,
+            rng,
+        );
+        let expected = reference::history(file, &mut self.twin[place.buffer.clone()]);
+        let lent = &mut self.buffer.bytes_mut()[place.buffer.clone()];
+        let got = library::history(&self.file.bytes()[place.file.clone()], lent);
+        self.judge("History", room, file, place, (got, expected))
     }
 
     fn judge<R: Debug + PartialEq>(

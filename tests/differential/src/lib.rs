@@ -4,6 +4,7 @@ pub mod answers;
 pub mod compare;
 pub mod coverage;
 pub mod guard;
+pub mod histories;
 pub mod library;
 pub mod merges;
 pub mod plan;

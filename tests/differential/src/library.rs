@@ -1,6 +1,6 @@
 //! The library through include/nuxalder.h.
 
-use reference::{ListReport, MergeReport, RunReport};
+use reference::{HistoryReport, JudgeReport, ListReport, MergeReport, RunReport, MAX_OPERATIONS};
 
 extern "C" {
     fn nuxalder_run(
@@ -26,6 +26,14 @@ extern "C" {
         out_length: usize,
         report: *mut u64,
     );
+    fn nuxalder_history(
+        file: *const u8,
+        length: usize,
+        history: *mut u8,
+        history_length: usize,
+        report: *mut u64,
+    );
+    fn nuxalder_judge(history: *const u8, length: usize, order: *mut u8, report: *mut u64);
 }
 
 type Raw = unsafe extern "C" fn(*const u8, usize, *mut u8, usize, *mut u64);
@@ -101,5 +109,41 @@ pub fn merge(first: &[u8], second: &[u8], out: &mut [u8]) -> MergeReport {
         file,
         start,
         length,
+    }
+}
+
+#[inline]
+pub fn history(file: &[u8], history: &mut [u8]) -> HistoryReport {
+    let [refusal, length] = call::<2, 4>(nuxalder_history, file, history);
+    HistoryReport { refusal, length }
+}
+
+/// Judges; the order stands between bytes that must stay, and so does the report.
+#[inline]
+pub fn judge(history: &[u8]) -> JudgeReport {
+    const MARK: u8 = 0xA5;
+    let mut words = [CANARY; 5];
+    let mut bytes = [MARK; MAX_OPERATIONS + 2];
+    // The slices are valid for their lengths and do not overlap.
+    unsafe {
+        nuxalder_judge(
+            history.as_ptr(),
+            history.len(),
+            bytes[1..].as_mut_ptr(),
+            words[1..].as_mut_ptr(),
+        );
+    }
+    assert!(
+        words[0] == CANARY
+            && words[4] == CANARY
+            && bytes[0] == MARK
+            && bytes[MAX_OPERATIONS + 1] == MARK,
+        "the library wrote outside its report"
+    );
+    JudgeReport {
+        refusal: words[1],
+        accepted: words[2],
+        operations: words[3],
+        order: std::array::from_fn(|i| bytes[i + 1]),
     }
 }

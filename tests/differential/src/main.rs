@@ -2,10 +2,11 @@
 //!
 //! `differential [--files N] [--records N] [--seed S] [--trace] [--write PATH]`: the systematic files, then
 //! random ones until there are N files and N records carried out; then pairs of files to merge, N of them at
-//! random. `--trace` names each file before it is run;
+//! random, and histories. `--trace` names each file before it is run;
 //! `--write` puts them all into one file, each after its length in four bytes, the low one first.
 
 use differential::compare::Comparer;
+use differential::histories::Histories;
 use differential::merges::Merger;
 use differential::rng::Rng;
 use differential::{answers, coverage, random, systematic};
@@ -57,6 +58,7 @@ fn options() -> Result<Options, String> {
 
 struct Session {
     comparer: Comparer,
+    histories: Histories,
     rng: Rng,
     trace: bool,
     written: Option<BufWriter<File>>,
@@ -78,6 +80,7 @@ impl Session {
             let put = out.write_all(&length).and_then(|()| out.write_all(file));
             put.expect("the files cannot be written");
         }
+        self.histories.run_of(file, &mut self.rng);
         let rule = answers::check(file.get(3..).unwrap_or(&[]));
         match rule.and_then(|()| self.comparer.file(file, &mut self.rng)) {
             Ok(()) => self.passed += 1,
@@ -110,6 +113,7 @@ fn main() -> ExitCode {
     };
     let mut session = Session {
         comparer: Comparer::new(random::LONGEST_FILE),
+        histories: Histories::new(),
         rng: Rng::new(!options.seed),
         trace: options.trace,
         written: options
@@ -142,8 +146,18 @@ fn main() -> ExitCode {
         }
     }
     println!("{} pairs of files merged or refused", merger.pairs);
+    session.histories.edges(&mut session.rng);
+    for _ in 0..options.files {
+        session.histories.round(&mut session.rng);
+        let schedule = random::short(&mut rng);
+        session.histories.run_of(&schedule, &mut session.rng);
+    }
+    for why in session.histories.failures.iter().take(MOST_FAILURES as usize) {
+        println!("FAILED: file of a history: {why}");
+    }
     let mut missing = coverage::report(&session.comparer.counter);
     missing.extend(merger.missing());
+    missing.extend(session.histories.report());
     for what in &missing {
         println!("FAILED: {what} was never reached");
     }
@@ -151,12 +165,14 @@ fn main() -> ExitCode {
         "seed {}: {systematic} systematic and {files} random files, {} records",
         options.seed, session.comparer.records
     );
-    let mut failed = session.failed + missing.len() as u64;
+    let mut failed = session.failed + (missing.len() + session.histories.failures.len()) as u64;
     if systematic == 0 || files == 0 {
         println!("FAILED: there were no files of one kind");
         failed += 1;
     }
-    println!("{} passed, {failed} failed", session.passed);
+    println!("{} histories", session.histories.passed);
+    let passed = session.passed + session.histories.passed;
+    println!("{passed} passed, {failed} failed");
     if failed == 0 {
         ExitCode::SUCCESS
     } else {

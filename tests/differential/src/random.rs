@@ -3,7 +3,7 @@
 use crate::plan::Plan;
 use crate::rng::Rng;
 use crate::systematic;
-use reference::{INSERT, LOOKUP, MAX_RECORDS, SPLIT};
+use reference::{INSERT, LOOKUP, MAX_OPERATIONS, MAX_RECORDS, SPLIT};
 
 /// The longest file that is made: the most records that a header can state, and a few bytes.
 pub const LONGEST_FILE: usize = 3 + 2 * 65535 + 8;
@@ -47,6 +47,26 @@ pub fn steady(rng: &mut Rng, count: usize) -> Vec<u8> {
         spare: 16,
     };
     turns(&mut plan, rng, &style, count);
+    plan.file()
+}
+
+/// A file whose history must pass: only lookups, inserts and removes, at most twelve of them, all finished.
+pub fn short(rng: &mut Rng) -> Vec<u8> {
+    let mut plan = Plan::new();
+    let mut left = rng.below(MAX_OPERATIONS + 1);
+    let stations = 1 + rng.below(4);
+    while left > 0 {
+        let thread = rng.below(4) as u8;
+        if plan.is_idle(thread) {
+            plan.start(thread, LOOKUP + rng.below(3) as u8, rng.below(stations) as u8);
+            left -= 1;
+        } else {
+            plan.advance(thread);
+        }
+    }
+    while (0..4).any(|thread| !plan.is_idle(thread)) {
+        plan.advance(rng.below(4) as u8);
+    }
     plan.file()
 }
 

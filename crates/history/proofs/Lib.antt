@@ -1,0 +1,5 @@
+pub mod Turned
+pub mod Outlook
+pub mod Cases
+pub mod Loop
+pub mod Whole

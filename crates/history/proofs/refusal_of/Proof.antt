@@ -1,0 +1,27 @@
+-- `history::refusal_of` meets its contract. Assumes nothing.
+use native.Mathlib.Omega.{arith}
+use Rattle.history.proofs.Cases.{refusal-file, refusal-room, refusal-none}
+use borrow.Author.Needs.{needs}
+use Rattle.history.proofs.refusal_of.Statement.{statement}
+use Rattle.history.proofs.refusal_of.Tie as tie
+
+file-refusal-requires : tie.Need-file-refusal-requires
+file-refusal-requires c κs = search needs
+
+count-of-requires : tie.Need-count-of-requires
+count-of-requires c κs = c .before .file-refusal .ensures .1 (c .if1 .taken) .header
+
+history-room-requires : tie.Need-history-room-requires
+history-room-requires c κs = let p = c .before .before .file-refusal .ensures .1 (c .before .if1 .taken) in omega (arith, p, c .count-of .ensures)
+
+returns : tie.Need-returns
+returns c = let n = c .before .before in (refusal-room _ _ (n .before .before .file-refusal .ensures .0) (n .before .if1 .taken) (n .count-of .ensures) (c .before .history-room .ensures .0) (c .if2 .taken), λ e. absurd (omega arith))
+
+returns-2 : tie.Need-returns-2
+returns-2 c = let n = c .before .before in (refusal-none _ _ (n .before .before .file-refusal .ensures .0) (n .before .if1 .taken) (n .count-of .ensures) (c .before .history-room .ensures .0) (c .if2 .left), λ e. n .before .before .file-refusal .ensures .1 (n .before .if1 .taken))
+
+returns-3 : tie.Need-returns-3
+returns-3 c = (refusal-file _ _ (c .before .file-refusal .ensures .0) (c .if1 .left), λ e. absurd (c .if1 .left e))
+
+pub refusal-of-spec : {M : Type 1} → statement M
+refusal-of-spec = tie.close (tie.spec file-refusal-requires count-of-requires history-room-requires returns returns-2 returns-3)

@@ -1,0 +1,10 @@
+pub mod Tools
+pub mod Rest
+pub mod Cases
+pub mod Table
+pub mod Lengths
+pub mod Walk
+pub mod Noting
+pub mod Whole
+pub mod Unique
+pub mod Exists

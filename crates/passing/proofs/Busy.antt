@@ -1,0 +1,166 @@
+-- A step that does not finish leaves its thread busy. Assumes nothing.
+use mathlib.Core.Path.{_≡_, refl}
+use mathlib.Core.Bool.{Bool, true, false}
+use Prim.Native.Nat.{ℕ, _+_}
+use native.Mathlib.Omega.{arith}
+use lib.Dec.{eqb}
+use borrow.Author.Tests.{ne-eqb}
+use Rattle.definitions.specs.declared.Quarter.{Quarter}
+use Rattle.definitions.specs.Records.{isIdle}
+use Rattle.container.specs.Choice.{ite}
+use Rattle.definitions.specs.declared.Link.{Link}
+use Rattle.definitions.specs.declared.Link.the-variants.{Nil, To}
+use Rattle.definitions.specs.declared.Node.{Node}
+use Rattle.definitions.specs.declared.Action.{Action}
+use Rattle.definitions.specs.declared.Action.the-variants.{Lookup, Insert, Remove, Split, Join}
+use Rattle.definitions.specs.declared.Spot.{Spot}
+use Rattle.definitions.specs.declared.Probe.{Probe}
+use Rattle.definitions.specs.declared.Probe.the-variants.{Hit, Next, Miss}
+use Rattle.definitions.specs.declared.Check.{Check}
+use Rattle.definitions.specs.declared.Thread.{Thread}
+use Rattle.definitions.specs.declared.Turn.{Turn}
+use Rattle.definitions.specs.declared.Turn.the-variants.{Moves, Finishes, Full}
+use Rattle.definitions.specs.Nodes.{childFor, check}
+use Rattle.definitions.specs.Bench.{Store}
+use Rattle.definitions.specs.Places.{Swap, own, found, united, quarterNumber, firstOf, number, Place, nowhere, p1, p2, p3, p15, p16, p20, p21, p22, p23, p24, p25, p30, p31, p32, p33, p34, p35, p36, p37, p38, p40, p45, p46, p47, p48, p49, p50, p51, swap}
+use Rattle.definitions.specs.Steps.{backOut, atLeaf, reached, helpBy, blockedAs, blocked, lostAs, lost, joinUnder, clearedAs, cleared, probe, replacedAs, replaced, ownBy, foundBy, unitedBy, beside, grandMarking, cutAt, cutOn, cutRight, freeing, step}
+
+abbrev pub Stays : Turn → Type 0
+Stays (Moves th' e) = isIdle th' ≡ false
+Stays (Finishes e a) = Unit {0}
+Stays Full = Unit {0}
+
+number-busy : (k : Swap) (q : Quarter) → eqb (firstOf k + quarterNumber q) 0 ≡ false
+number-busy own q = ne-eqb (10 + quarterNumber q) 0 (λ e. omega arith)
+number-busy found q = ne-eqb (26 + quarterNumber q) 0 (λ e. omega arith)
+number-busy united q = ne-eqb (41 + quarterNumber q) 0 (λ e. omega arith)
+
+back-busy : (l : Link) → eqb (number (backOut l)) 0 ≡ false
+back-busy Nil = refl
+back-busy (To g) = refl
+
+fork : (th : Thread) (c : Bool) (o o' : Turn) → Stays o → Stays o' → Stays (ite c o o')
+unfolding ite
+fork th true o o' p q = p
+fork th false o o' p q = q
+
+module _ (s : Store) (th : Thread) (busy : isIdle th ≡ false) where
+  leaf : (a : Action) (x : ℕ) → Stays (atLeaf a (s .nodes) th x)
+  leaf Lookup x = tt
+  leaf Insert x = refl
+  leaf Remove x = refl
+  leaf Split x = refl
+  leaf Join x = refl
+
+  reach : (x : ℕ) → Stays (reached (s .nodes) th x)
+  unfolding reached
+  reach x = fork th _ _ _ refl (leaf (th .action) x)
+
+  lose : (a : Action) → Stays (lostAs a th)
+  lose Lookup = tt
+  lose Insert = refl
+  lose Remove = refl
+  lose Split = tt
+  lose Join = tt
+
+  help : (c : Check) → Stays (helpBy c th)
+  help Check.Replaceable = refl
+  help (Check.Preparing m) = refl
+  help (Check.Completing m) = refl
+  help Check.Stale = refl
+
+  block : (a : Action) (c : Check) → Stays (blockedAs a c th)
+  block Lookup c = tt
+  block Insert c = help c
+  block Remove c = help c
+  block Split c = tt
+  block Join c = tt
+
+  link : (l : Link) → Stays (joinUnder l th)
+  link Nil = tt
+  link (To p) = refl
+
+  clear : (a : Action) → Stays (clearedAs a (s .nodes (th .base)) th)
+  clear Lookup = tt
+  clear Insert = refl
+  clear Remove = refl
+  clear Split = refl
+  clear Join = link (s .nodes (th .base) .parent)
+
+  replace : (a : Action) (v : Spot) → Stays (replacedAs a v (s .nodes (th .base)) (s .used) th)
+  replace Lookup v = tt
+  replace Insert v = fork th _ _ _ tt tt
+  replace Remove v = fork th _ _ _ tt tt
+  replace Split v = fork th _ _ _ tt tt
+  replace Join v = tt
+
+  by-own : (o : Probe) → Stays (ownBy o (s .nodes (th .base)) (s .used) th)
+  unfolding replaced lost
+  by-own (Hit v) = replace (th .action) v
+  by-own (Next q) = number-busy own q
+  by-own Miss = lose (th .action)
+
+  by-found : (o : Probe) → Stays (foundBy o (s .nodes (th .found)) (s .used) th)
+  by-found (Hit v) = fork th _ _ _ refl tt
+  by-found (Next q) = number-busy found q
+  by-found Miss = refl
+
+  by-united : (o : Probe) (m : Node) → Stays (unitedBy o m th)
+  by-united (Hit v) m = refl
+  by-united (Next q) m = number-busy united q
+  by-united Miss m = refl
+
+  grand : (l : Link) → Stays (grandMarking l (s .nodes) th)
+  grand Nil = refl
+  grand (To g) = fork th _ _ _ refl refl
+
+  at-46 : (l : Link) (m : Node) → Stays (cutAt l m (s .nodes) (s .root) th)
+  at-46 Nil m = fork th _ _ _ refl refl
+  at-46 (To g) m = fork th _ _ _ refl refl
+
+  at-47 : (d : Bool) (l : Link) (m : Node) → Stays (cutOn d l m (s .nodes) th)
+  at-47 d Nil m = refl
+  at-47 d (To g) m = fork th _ _ _ refl refl
+
+  at-48 : (l : Link) (m : Node) → Stays (cutRight l m (s .nodes) th)
+  at-48 Nil m = refl
+  at-48 (To g) m = fork th _ _ _ refl refl
+
+  at-50 : (l : Link) → Stays (freeing l (s .nodes) th)
+  at-50 Nil = refl
+  at-50 (To g) = fork th _ _ _ refl refl
+
+  pub stays-busy : (p : Place) → Stays (step p s th)
+  unfolding step beside cleared blocked lost
+  stays-busy nowhere = busy
+  stays-busy p1 = reach (s .root)
+  stays-busy p2 = reach (childFor (th .station) (s .nodes (th .route)))
+  stays-busy p3 = fork th _ _ _ tt (fork th _ _ _ (clear (th .action)) (block (th .action) (check (s .nodes) (th .base))))
+  stays-busy (swap own q) = by-own (probe q (s .nodes (th .base) .parent) (s .nodes) (s .root) (th .base))
+  stays-busy p15 = help (check (s .nodes) (th .base))
+  stays-busy p16 = fork th _ _ _ refl refl
+  stays-busy p20 = fork th _ _ _ refl refl
+  stays-busy p21 = fork th _ _ _ refl tt
+  stays-busy p22 = fork th _ _ _ refl refl
+  stays-busy p23 = fork th _ _ _ refl refl
+  stays-busy p24 = fork th _ _ _ refl tt
+  stays-busy p25 = fork th _ _ _ (fork th _ _ _ refl tt) tt
+  stays-busy (swap found q) = by-found (probe q (s .nodes (th .found) .parent) (s .nodes) (s .root) (th .found))
+  stays-busy p30 = fork th _ _ _ refl refl
+  stays-busy p31 = fork th _ _ _ refl (fork th _ _ _ refl refl)
+  stays-busy p32 = fork th _ _ _ refl (fork th _ _ _ refl refl)
+  stays-busy p33 = grand (th .grandparent)
+  stays-busy p34 = refl
+  stays-busy p35 = fork th _ _ _ (fork th _ _ _ refl tt) (back-busy (th .grandparent))
+  stays-busy p36 = refl
+  stays-busy p37 = refl
+  stays-busy p38 = tt
+  stays-busy p40 = fork th _ _ _ (fork th _ _ _ tt refl) refl
+  stays-busy (swap united q) = by-united (probe q (s .nodes (s .nodes (th .main) .neighbour) .parent) (s .nodes) (s .root) (s .nodes (th .main) .neighbour)) (s .nodes (th .main))
+  stays-busy p45 = refl
+  stays-busy p46 = at-46 (s .nodes (th .main) .grandparent) (s .nodes (th .main))
+  stays-busy p47 = at-47 true (s .nodes (th .main) .grandparent) (s .nodes (th .main))
+  stays-busy p48 = at-48 (s .nodes (th .main) .grandparent) (s .nodes (th .main))
+  stays-busy p49 = at-47 false (s .nodes (th .main) .grandparent) (s .nodes (th .main))
+  stays-busy p50 = at-50 (s .nodes (th .main) .grandparent)
+  stays-busy p51 = fork th _ _ _ tt refl

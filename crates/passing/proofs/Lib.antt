@@ -1,0 +1,13 @@
+pub mod Standing
+pub mod Busy
+pub mod Did
+pub mod Fold
+pub mod Tidy
+pub mod Linked
+pub mod Part
+pub mod Pass
+pub mod Course
+pub mod Bytes
+pub mod RunRows
+pub mod RunEvents
+pub mod RunPasses
