@@ -1,13 +1,13 @@
 /* A libFuzzer target: each input as a schedule file and as a history, as it is and with its header put right, and
  * its two halves as two files to merge, as they are and with headers and threads put right, through the library
- * and the reference. Any difference in a field or a byte, and any byte touched outside the memory
+ * and the reference; the header is put right for either version. Any difference in a field or a byte, and any byte touched outside the memory
  * lent, ends the program. The reference is built with coverage counters, so that inputs grow towards places
  * not seen yet. */
 #define _DEFAULT_SOURCE
 #include "guard.h"
 #include "nuxalder.h"
 
-enum { MOST_RECORDS = 4096, MEMORY = 3 * GUARD_PAGE, BUFFER_MEMORY = MEMORY + 2 * GUARD_PAGE };
+enum { MOST_RECORDS = 4096, MEMORY = 5 * GUARD_PAGE, BUFFER_MEMORY = 8 * GUARD_PAGE };
 
 typedef void operation(const uint8_t *, size_t, uint8_t *, size_t, uint64_t *);
 
@@ -18,18 +18,41 @@ extern void reference_merge(const uint8_t *, size_t, const uint8_t *, size_t, ui
 
 static struct guard file_memory, second_memory, our_memory, their_memory;
 
+/* The bytes looked at of a buffer's memory: the buffer and some beside it. */
+enum { BESIDE = 512 };
+
+static struct guard seen(struct guard g, size_t room, int at_start)
+{
+    size_t size = room + BESIDE < g.size ? (room + BESIDE + 255) / 256 * 256 : g.size;
+    if (size > g.size)
+        size = g.size;
+    struct guard part = {at_start ? g.bytes : g.bytes + (g.size - size), size};
+    return part;
+}
+
+static void fill_both(size_t room, int at_start)
+{
+    guard_fill(seen(our_memory, room, at_start));
+    guard_fill(seen(their_memory, room, at_start));
+}
+
+static int both_same(size_t room, int at_start)
+{
+    struct guard ours = seen(our_memory, room, at_start), theirs = seen(their_memory, room, at_start);
+    return memcmp(ours.bytes, theirs.bytes, ours.size) == 0;
+}
+
 static void compare(const char *name, operation *ours, operation *theirs, size_t fields, const uint8_t *file,
                     size_t length, size_t room, int at_start)
 {
     uint64_t our[NUXALDER_RUN_FIELDS] = {0}, their[NUXALDER_RUN_FIELDS] = {0};
     uint8_t *lent = guard_lend(file_memory, length, at_start);
     memcpy(lent, file, length);
-    guard_fill(our_memory);
-    guard_fill(their_memory);
+    fill_both(room, at_start);
     ours(lent, length, guard_lend(our_memory, room, at_start), room, our);
     theirs(lent, length, guard_lend(their_memory, room, at_start), room, their);
     if (memcmp(our, their, fields * sizeof our[0]) != 0 || memcmp(lent, file, length) != 0 ||
-        memcmp(our_memory.bytes, their_memory.bytes, BUFFER_MEMORY) != 0) {
+        !both_same(room, at_start)) {
         fprintf(stderr, "%s differs from the reference with a buffer of %zu bytes\n", name, room);
         abort();
     }
@@ -55,10 +78,13 @@ static void compare_judge(const uint8_t *file, size_t length)
 static void compare_all(const uint8_t *file, size_t length)
 {
     size_t count = length < 3 ? 0 : (size_t)file[1] << 8 | file[2];
-    size_t need = 2 * (count > MOST_RECORDS ? MOST_RECORDS : count);
+    if (count > MOST_RECORDS)
+        count = MOST_RECORDS;
+    int deep = length > 0 && file[0] == NUXALDER_DEEP_FILE_VERSION;
+    size_t need = (deep ? 7 : 2) * count, text = deep ? 8192 : 4096, events = 3 + 4 * count;
     const size_t row_rooms[] = {need, need > 0 ? need - 1 : 0, need + 17};
-    const size_t text_rooms[] = {NUXALDER_LIST_BUFFER, NUXALDER_LIST_BUFFER - 1, NUXALDER_LIST_BUFFER + 17};
-    const size_t event_rooms[] = {3 + 2 * need, 2 + 2 * need, 20 + 2 * need};
+    const size_t text_rooms[] = {text, text - 1, text + 17};
+    const size_t event_rooms[] = {events, events - 1, events + 17};
     compare_judge(file, length);
     for (int i = 0; i < 3; i++) {
         compare("History", nuxalder_history, reference_history, NUXALDER_HISTORY_FIELDS, file, length,
@@ -77,12 +103,11 @@ static void compare_merge(const uint8_t *first, size_t length, const uint8_t *se
     uint8_t *other = guard_lend(second_memory, second_length, at_start);
     memcpy(one, first, length);
     memcpy(other, second, second_length);
-    guard_fill(our_memory);
-    guard_fill(their_memory);
+    fill_both(room, at_start);
     nuxalder_merge(one, length, other, second_length, guard_lend(our_memory, room, at_start), room, our);
     reference_merge(one, length, other, second_length, guard_lend(their_memory, room, at_start), room, their);
     if (memcmp(our, their, sizeof our) != 0 || memcmp(one, first, length) != 0 ||
-        memcmp(other, second, second_length) != 0 || memcmp(our_memory.bytes, their_memory.bytes, BUFFER_MEMORY) != 0) {
+        memcmp(other, second, second_length) != 0 || !both_same(room, at_start)) {
         fprintf(stderr, "Merge differs from the reference with a buffer of %zu bytes\n", room);
         abort();
     }
@@ -118,7 +143,7 @@ static void compare_merges(const uint8_t *data, size_t size)
 
 int LLVMFuzzerTestOneInput(const uint8_t *data, size_t size)
 {
-    static uint8_t repaired[3 + 2 * MOST_RECORDS];
+    static uint8_t repaired[3 + 4 * MOST_RECORDS];
     if (file_memory.bytes == NULL) {
         file_memory = guard_new(MEMORY);
         second_memory = guard_new(MEMORY);
@@ -140,6 +165,12 @@ int LLVMFuzzerTestOneInput(const uint8_t *data, size_t size)
         repaired[1] = (uint8_t)(count >> 8);
         repaired[2] = (uint8_t)count;
         compare_judge(repaired, 3 + 4 * count);
+        count = (size - 3) / 4 > MOST_RECORDS ? MOST_RECORDS : (size - 3) / 4;
+        memcpy(repaired, data, 3 + 4 * count);
+        repaired[0] = NUXALDER_DEEP_FILE_VERSION;
+        repaired[1] = (uint8_t)(count >> 8);
+        repaired[2] = (uint8_t)count;
+        compare_all(repaired, 3 + 4 * count);
     }
     return 0;
 }

@@ -5,23 +5,38 @@
  * between calls, allocate nothing, read no byte outside the files and write no byte outside the buffer and the
  * report. The lent memory must not overlap, and no pointer is null, also where its length is 0.
  *
- * A schedule file: version byte 1, two-byte big-endian count, then `count` records of two bytes.
- * First byte: 16 * thread + action (0 step, 1 lookup, 2 insert, 3 remove, 4 split, 5 join).
- * Second byte: the station, 0 to 63; for a step, 0.
+ * A schedule file: version byte, 1 or 2, two-byte big-endian count, then `count` records of two bytes in version 1,
+ * of four in version 2, which has a depth, 0 to 9,999 mm, beside each station. Byte 0 of a record: 16 * thread + action
+ * (0 step, 1 lookup, 2 insert, 3 remove, 4 split, 5 join). Byte 1: the station, 0 to 63; for a step, 0. Bytes 2 and 3,
+ * in version 2: an insert's depth, big-endian; else 0. An insert of a station that is present says no and replaces its
+ * depth. What the versions differ in:
+ *                                                              version 1       version 2
+ *    record                                                    2 bytes         4 bytes
+ *    file                                                      3 + 2 * count   3 + 4 * count
+ *    row: 0 thread, 1 action, 2 station, 3 answer              4 bytes         14 bytes
+ *         4 and 5 depth, big-endian: a lookup's find, else 0   -
+ *         6 to 13 set, big-endian, bit s for station s: 0      -
+ *    row buffer                                                2 * count       7 * count
+ *    text buffer                                               4,096 bytes     8,192 bytes
+ *    a station in a line of the listing                        3               3=640
  *
- * Refusal numbers:
+ * Refusal numbers; where the versions differ, the second is version 2's:
  *    0  none
- *    1  a file under three bytes              7  a thread over 3
- *    2  a version other than 1                8  an action over 5
- *    3  a count over 4,096                    9  a start with a station over 63
- *    4  a length other than 3 + 2 * count    10  a step whose second byte is not 0
- *    5  a row buffer under 2 * count bytes   11  a start of a busy thread
- *    6  a text buffer under 4,096 bytes      12  a step of an idle thread
- *                                            13  a swap that needs more node numbers than are left
+ *    1  a file under three bytes                 7  a thread over 3
+ *    2  a version other than 1 and 2             8  an action over 5
+ *    3  a count over 4,096                       9  a start with a station over 63
+ *    4  a length other than 3 + 2 * count,      10  unused bytes that are not 0: a step's, or in version 2 the
+ *       3 + 4 * count                               last two of a start that is no insert
+ *    5  a row buffer under 2 * count bytes,     11  a start of a busy thread
+ *       7 * count                               12  a step of an idle thread
+ *    6  a text buffer under 4,096 bytes,        13  a swap that needs more node numbers than are left
+ *       8,192                                   14  an insert with a depth over 9,999
+ * A record is refused in this order: 7, 8; a start then for 9, 14 or 10, 11; a step for 10, 12, 13.
  * Merge alone, in this order: 1 to 4 for a fault of the first file, then 1 to 4 for one of the second (2: any
  * version but 1), 17 for a thread that is not its file's, 3 for counts that total over 4,096, 18 for an output
  * buffer under 3 + 4 * the smaller count bytes.
- * History: 1 to 4 and 7 to 13 as Run has them, 5 for a buffer under 3 + 4 * count bytes. Judge alone: 1, 2, 4, 21 to 23;
+ * History: 1, 3, 4 and 7 to 13 as Run has them for version 1, 2 for any version but 1, 5 for a buffer under
+ * 3 + 4 * count bytes. Judge alone: 1, 2, 4, 21 to 23;
  * they stand with nuxalder_judge.
  *
  * Answers of a lookup, an insert or a remove are 0 and 1, those of a split or a join 1 and 2 to 7:
@@ -40,23 +55,27 @@
 
 /* The version of this interface. */
 #define NUXALDER_VERSION_MAJOR 1
-#define NUXALDER_VERSION_MINOR 0
+#define NUXALDER_VERSION_MINOR 1
 #define NUXALDER_VERSION_PATCH 0
-#define NUXALDER_VERSION "1.0.0"
+#define NUXALDER_VERSION "1.1.0"
 
 /* The functions may be called from several threads at once, each with its own report and buffers; a schedule
  * or a history may be shared. A call of nuxalder_run, nuxalder_list, nuxalder_merge, nuxalder_history or nuxalder_judge
  * uses at most NUXALDER_STACK bytes of stack. */
-#define NUXALDER_STACK 24576
+#define NUXALDER_STACK 65536
 
-/* Sizes of a schedule file, its rows and the bench. */
+/* Sizes of a schedule file, its rows and the bench; DEEP is version 2. */
 #define NUXALDER_FILE_VERSION 1
+#define NUXALDER_DEEP_FILE_VERSION 2
 #define NUXALDER_HEADER_SIZE 3
 #define NUXALDER_RECORD_SIZE 2
+#define NUXALDER_DEEP_RECORD_SIZE 4
 #define NUXALDER_RECORDS_MOST 4096
-#define NUXALDER_FILE_MOST (NUXALDER_HEADER_SIZE + NUXALDER_RECORD_SIZE * NUXALDER_RECORDS_MOST)
+#define NUXALDER_FILE_MOST (NUXALDER_HEADER_SIZE + NUXALDER_DEEP_RECORD_SIZE * NUXALDER_RECORDS_MOST) /* of either version */
 #define NUXALDER_ROW_SIZE 4
-#define NUXALDER_ROWS_BUFFER (2 * NUXALDER_RECORDS_MOST) /* enough for every schedule */
+#define NUXALDER_DEEP_ROW_SIZE 14
+#define NUXALDER_ROWS_BUFFER (7 * NUXALDER_RECORDS_MOST) /* enough for every schedule of either version */
+#define NUXALDER_DEPTH_MOST 9999
 #define NUXALDER_STATIONS 64
 #define NUXALDER_THREADS 4
 #define NUXALDER_NODES_MOST 256
@@ -86,10 +105,11 @@ enum nuxalder_refusal {
     NUXALDER_REFUSED_THREAD = 7,
     NUXALDER_REFUSED_ACTION = 8,
     NUXALDER_REFUSED_STATION = 9,
-    NUXALDER_REFUSED_STEP_BYTE = 10,
+    NUXALDER_REFUSED_STEP_BYTE = 10, /* unused bytes */
     NUXALDER_REFUSED_BUSY = 11,
     NUXALDER_REFUSED_IDLE = 12,
     NUXALDER_REFUSED_NUMBERS = 13,
+    NUXALDER_REFUSED_DEPTH = 14,
     NUXALDER_REFUSED_OTHER_THREAD = 17,
     NUXALDER_REFUSED_OUTPUT_BUFFER = 18,
     NUXALDER_REFUSED_EVENT = 21,
@@ -105,7 +125,7 @@ extern "C" {
 enum {
     NUXALDER_RUN_REFUSAL = 0, /* refusal number, 0 for none */
     NUXALDER_RUN_RECORDS = 1, /* records done */
-    NUXALDER_RUN_ROWS = 2,    /* rows written, four bytes each */
+    NUXALDER_RUN_ROWS = 2,    /* rows written, four bytes each, in version 2 fourteen */
     NUXALDER_RUN_SET = 3,     /* bit s is set where station s is in the tree */
     NUXALDER_RUN_STORED = 4,  /* stored count: stations inside their base's range, as many as the set has */
     NUXALDER_RUN_USED = 5     /* node numbers used */
@@ -142,18 +162,23 @@ enum {
 #define NUXALDER_MERGE_FIELDS 4
 #define NUXALDER_HISTORY_FIELDS 2
 #define NUXALDER_JUDGE_FIELDS 3
-#define NUXALDER_LIST_BUFFER 4096 /* the text never needs more */
+#define NUXALDER_LIST_BUFFER 8192 /* enough for every schedule of either version; version 1 never needs more than 4,096 */
 
-/* Carries out the schedule. A row is four bytes: thread, action, station, answer, in order of finishing;
- * `rows` needs 2 * count bytes. On refusals 1 to 5 every other field is 0 and `rows` is untouched.
- * On refusals 7 to 13 the run ends before the refused record, and the fields and rows are as they then stood.
+/* The depth in a row of version 2: what a lookup found, else 0. */
+#define NUXALDER_ROW_DEPTH(row) (256u * (row)[4] + (row)[5])
+
+/* Carries out the schedule. A row is four bytes: thread, action, station, answer, in order of finishing; fourteen in
+ * version 2, as the table above says. `rows` needs 2 * count bytes, in version 2 7 * count. On refusals 1 to 5 every
+ * other field is 0 and `rows` is untouched.
+ * On refusals 7 to 14 the run ends before the refused record, and the fields and rows are as they then stood.
  * Bytes of `rows` after the rows written are untouched. */
 void nuxalder_run(const uint8_t *schedule, size_t schedule_length,
                   uint8_t *rows, size_t rows_length,
                   uint64_t report[NUXALDER_RUN_FIELDS]);
 
 /* Carries out the schedule and lists the tree where the run ended, also after a refused record: a line for
- * each node (depth, kind, key or container), then the set. On refusals 1, 2, 3, 4 and 6 nothing is written
+ * each node (level, kind, key or container), then the set; in version 2 a station has its depth, `3=640`. `text` needs
+ * 4,096 bytes, in version 2 8,192. On refusals 1, 2, 3, 4 and 6 nothing is written
  * and the length is 0. Bytes of `text` past the length are untouched; no byte 0 is added. */
 void nuxalder_list(const uint8_t *schedule, size_t schedule_length,
                    uint8_t *text, size_t text_length,
@@ -236,18 +261,19 @@ static inline const char *nuxalder_refusal_words(uint64_t refusal)
     switch (refusal) {
     case NUXALDER_REFUSED_NOT: return "not refused";
     case NUXALDER_REFUSED_SHORT_FILE: return "a file under three bytes";
-    case NUXALDER_REFUSED_VERSION: return "a version other than 1";
+    case NUXALDER_REFUSED_VERSION: return "a version other than 1 and 2, or than 1 where only that is taken";
     case NUXALDER_REFUSED_COUNT: return "a count over 4,096";
-    case NUXALDER_REFUSED_LENGTH: return "a length other than 3 + 2 * count";
-    case NUXALDER_REFUSED_ROWS_BUFFER: return "a row buffer under 2 * count bytes";
-    case NUXALDER_REFUSED_TEXT_BUFFER: return "a text buffer under 4,096 bytes";
+    case NUXALDER_REFUSED_LENGTH: return "a length other than 3 + 2 * count, in version 2 other than 3 + 4 * count";
+    case NUXALDER_REFUSED_ROWS_BUFFER: return "a row buffer under 2 * count bytes, in version 2 under 7 * count";
+    case NUXALDER_REFUSED_TEXT_BUFFER: return "a text buffer under 4,096 bytes, in version 2 under 8,192";
     case NUXALDER_REFUSED_THREAD: return "a thread over 3";
     case NUXALDER_REFUSED_ACTION: return "an action over 5";
     case NUXALDER_REFUSED_STATION: return "a start with a station over 63";
-    case NUXALDER_REFUSED_STEP_BYTE: return "a step whose second byte is not 0";
+    case NUXALDER_REFUSED_STEP_BYTE: return "unused bytes that are not 0";
     case NUXALDER_REFUSED_BUSY: return "a start of a busy thread";
     case NUXALDER_REFUSED_IDLE: return "a step of an idle thread";
     case NUXALDER_REFUSED_NUMBERS: return "a swap that needs more node numbers than are left";
+    case NUXALDER_REFUSED_DEPTH: return "an insert with a depth over 9,999";
     case NUXALDER_REFUSED_OTHER_THREAD: return "a thread that is not its file's";
     case NUXALDER_REFUSED_OUTPUT_BUFFER: return "an output buffer under 3 + 4 * the smaller count bytes";
     case NUXALDER_REFUSED_EVENT: return "an event out of place";

@@ -1,5 +1,5 @@
-//! Times Run, List and Merge of the library and of the reference on the same schedules, in turn, and prints the
-//! medians and their ratio for each size. Buffers are lent as they are, not cleared between calls. Then Judge, on hard
+//! Times Run and List, on files of either version, and Merge of the library and of the reference on the same schedules,
+//! in turn, and prints the medians and their ratio for each size. Buffers are lent as they are, not cleared between calls. Then Judge, on hard
 //! histories. `speed judge` does only that; `speed search N SEED` looks for harder ones with N tries.
 
 mod judge;
@@ -8,7 +8,7 @@ use differential::library;
 use differential::merges::whole;
 use differential::random::steady;
 use differential::rng::Rng;
-use reference::LIST_BUFFER;
+use reference::sizes;
 use std::hint::black_box;
 use std::time::{Duration, Instant};
 
@@ -87,27 +87,11 @@ fn schedules() {
     );
     println!("      records   library ns   reference ns   library ns/record   ratio");
     let mut rng = Rng::new(SEED);
-    for size in SIZES {
-        let files: Vec<Vec<u8>> = (0..FILES).map(|_| steady(&mut rng, size)).collect();
-        assert!(files
-            .iter()
-            .all(|file| reference::run(file, &mut vec![0; 2 * size]).records == size as u64));
-        let (mut rows, mut rows2) = (vec![0; 2 * size], vec![0; 2 * size]);
-        compare(
-            "Run",
-            size,
-            &files,
-            &mut |file| library::run(file, &mut rows).set,
-            &mut |file| reference::run(file, &mut rows2).set,
-        );
-        let (mut text, mut text2) = (vec![0; LIST_BUFFER], vec![0; LIST_BUFFER]);
-        compare(
-            "List",
-            size,
-            &files,
-            &mut |file| library::list(file, &mut text).length,
-            &mut |file| reference::list(file, &mut text2).length,
-        );
+    for version in [1, 2] {
+        println!("version {version}");
+        for size in SIZES {
+            runs_and_lists(version, size, &mut rng);
+        }
     }
     for size in MERGES {
         // both files of a pair, one after the other
@@ -129,4 +113,29 @@ fn schedules() {
             },
         );
     }
+}
+
+/// Run and List on files of one version and size.
+fn runs_and_lists(version: u8, size: usize, rng: &mut Rng) {
+    let [_, _, room, text_room] = sizes(version);
+    let files: Vec<Vec<u8>> = (0..FILES).map(|_| steady(rng, version, size)).collect();
+    assert!(files
+        .iter()
+        .all(|file| reference::run(file, &mut vec![0; room * size]).records == size as u64));
+    let (mut rows, mut rows2) = (vec![0; room * size], vec![0; room * size]);
+    compare(
+        "Run",
+        size,
+        &files,
+        &mut |file| library::run(file, &mut rows).set,
+        &mut |file| reference::run(file, &mut rows2).set,
+    );
+    let (mut text, mut text2) = (vec![0; text_room], vec![0; text_room]);
+    compare(
+        "List",
+        size,
+        &files,
+        &mut |file| library::list(file, &mut text).length,
+        &mut |file| reference::list(file, &mut text2).length,
+    );
 }

@@ -8,7 +8,10 @@
 #include <inttypes.h>
 #include <stdarg.h>
 
-enum { MEMORY = 4 * GUARD_PAGE };
+enum { MEMORY = 8 * GUARD_PAGE };
+
+/* What List needs for a schedule of version 1. */
+enum { LIST_ROOM = 4096 };
 
 static unsigned long passed, failed;
 static struct guard schedule_memory, rows_memory, text_memory;
@@ -63,7 +66,8 @@ static void call_run(const uint8_t *file, size_t length, size_t room, int at_sta
     memcpy(run, around + 1, sizeof run);
     rows = buffer;
     check(around[0] == canary && around[NUXALDER_RUN_FIELDS + 1] == canary, "Run wrote outside its report");
-    size_t written = 4 * (size_t)run[NUXALDER_RUN_ROWS];
+    size_t row = length > 0 && file[0] == 2 ? NUXALDER_DEEP_ROW_SIZE : NUXALDER_ROW_SIZE;
+    size_t written = row * (size_t)run[NUXALDER_RUN_ROWS];
     check(written <= room && guard_kept(rows_memory, buffer, written), "Run touched bytes after its rows");
     file_kept(copy, file, length);
 }
@@ -116,7 +120,7 @@ static void expect_list(const char *name, uint64_t refusal, const char *expected
 static void call_both(const struct plan *p)
 {
     call_run(p->file, p->length, 2 * plan_count(p), 0);
-    call_list(p->file, p->length, NUXALDER_LIST_BUFFER, 0);
+    call_list(p->file, p->length, LIST_ROOM, 0);
 }
 
 static uint64_t bit(unsigned station)
@@ -186,7 +190,7 @@ static void examples(void)
 
     plan_printed_run(&p);
     plan_alone(&p, 0, JOIN, 3, 7);
-    call_list(p.file, p.length, NUXALDER_LIST_BUFFER, 0);
+    call_list(p.file, p.length, LIST_ROOM, 0);
     expect_list("join under way", 0, "0 route 9\n1 main 3\n1 normal 9\nset 3 9\n");
     plan_alone(&p, 1, INSERT, 4, 8);
     call_both(&p);
@@ -316,7 +320,7 @@ static void buffer_lengths(int at_start)
     }
     for (size_t i = 0; i < sizeof rooms / sizeof rooms[0]; i++) {
         call_list(p.file, p.length, rooms[i], at_start);
-        if (rooms[i] < NUXALDER_LIST_BUFFER)
+        if (rooms[i] < LIST_ROOM)
             expect_list("short text buffer", 6, "");
         else
             expect_list("text buffer", 0, "0 route 9\n1 normal 3\n1 normal 9\nset 3 9\n");
@@ -326,7 +330,7 @@ static void buffer_lengths(int at_start)
         call_run(p.file, length, refusal == 0 ? need : 0, at_start);
         check(run[NUXALDER_RUN_REFUSAL] == refusal, "a file cut to %zu bytes gets %" PRIu64, length,
               run[NUXALDER_RUN_REFUSAL]);
-        call_list(p.file, length, refusal == 0 ? NUXALDER_LIST_BUFFER : 0, at_start);
+        call_list(p.file, length, refusal == 0 ? LIST_ROOM : 0, at_start);
         check(listing[NUXALDER_LIST_REFUSAL] == refusal, "a listed file cut to %zu bytes gets %" PRIu64, length,
               listing[NUXALDER_LIST_REFUSAL]);
     }
@@ -339,7 +343,7 @@ static void headers(int at_start)
         uint8_t file[5];
         size_t length;
         uint64_t refusal;
-    } cases[] = {{{2, 255, 255}, 2, 1}, {{2, 255, 255}, 3, 2},     {{0, 0, 0}, 3, 2},
+    } cases[] = {{{2, 255, 255}, 2, 1}, {{3, 255, 255}, 3, 2},     {{0, 0, 0}, 3, 2},
                  {{255, 0, 0}, 4, 2},   {{1, 16, 1}, 3, 3},        {{1, 255, 255}, 3, 3},
                  {{1, 16, 0}, 3, 4},    {{1, 0, 1, 64, 0}, 4, 4},  {{1, 0, 0}, 4, 4},
                  {{1, 0, 1}, 3, 4},     {{1, 0, 1, 64, 0}, 5, 7}};
@@ -349,7 +353,7 @@ static void headers(int at_start)
         expect_run("header", expected, 0, 0, 0, 0, 0);
         call_list(cases[i].file, cases[i].length, 0, at_start);
         expect_list("header", cases[i].refusal == 7 ? 6 : cases[i].refusal, "");
-        call_list(cases[i].file, cases[i].length, NUXALDER_LIST_BUFFER, at_start);
+        call_list(cases[i].file, cases[i].length, LIST_ROOM, at_start);
         expect_list("header", cases[i].refusal, cases[i].refusal == 7 ? "0 normal -\nset -\n" : "");
     }
 }
@@ -373,6 +377,7 @@ static void histories(int at_start)
          {1, 0, 4, 0, 2, 3, 0, 0, 2, 3, 2, 0, 4, 3, 0, 0, 4, 3, 3}, 19},
         {{1, 0}, 2, 1, {0}, 0},
         {{2, 0, 0}, 3, 2, {0}, 0},
+        {{2, 0, 1, 2, 9, 0, 0}, 7, 2, {0}, 0},
         {{1, 16, 1}, 3, 3, {0}, 0},
         {{1, 0, 1}, 3, 4, {0}, 0},
     };
@@ -462,6 +467,110 @@ static void judged(int at_start)
     }
 }
 
+static void expect_deep_row(const char *name, size_t index, unsigned thread, unsigned action, unsigned station,
+                            unsigned answer, unsigned depth)
+{
+    const uint8_t expected[NUXALDER_DEEP_ROW_SIZE] = {(uint8_t)thread, (uint8_t)action, (uint8_t)station,
+                                                      (uint8_t)answer, (uint8_t)(depth >> 8), (uint8_t)depth};
+    const uint8_t *row = rows + NUXALDER_DEEP_ROW_SIZE * index;
+    check(index < run[NUXALDER_RUN_ROWS] && memcmp(row, expected, sizeof expected) == 0, "%s: row %zu", name, index);
+    check(NUXALDER_ROW_DEPTH(row) == depth, "%s: the depth in row %zu", name, index);
+}
+
+static void call_deep(const struct deep_plan *p, int at_start)
+{
+    call_run(p->file, p->length, 7 * deep_count(p), at_start);
+    call_list(p->file, p->length, NUXALDER_LIST_BUFFER, at_start);
+}
+
+/* Version 2: depths in rows and lines, a second insert, a split and a join that carry them. */
+static void depths(int at_start)
+{
+    static struct deep_plan p;
+    deep_empty(&p);
+    call_deep(&p, at_start);
+    expect_run("empty, version 2", 0, 0, 0, 0, 0, 1);
+    expect_list("empty, version 2", 0, "0 normal -\nset -\n");
+    deep_alone(&p, 0, INSERT, 3, 640, 3);
+    deep_alone(&p, 0, INSERT, 9, 9999, 3);
+    deep_alone(&p, 0, SPLIT, 3, 0, 3);
+    deep_alone(&p, 1, LOOKUP, 9, 0, 2);
+    call_deep(&p, at_start);
+    expect_run("printed run with depths", 0, 15, 4, bit(3) | bit(9), 2, 6);
+    expect_deep_row("printed run with depths", 0, 0, INSERT, 3, 1, 0);
+    expect_deep_row("printed run with depths", 2, 0, SPLIT, 3, 1, 0);
+    expect_deep_row("printed run with depths", 3, 1, LOOKUP, 9, 1, 9999);
+    expect_list("printed run with depths", 0,
+                "0 route 9\n1 normal 3=640\n1 normal 9=9999\nset 3=640 9=9999\n");
+    deep_alone(&p, 2, LOOKUP, 3, 0, 1);
+    deep_alone(&p, 0, JOIN, 3, 0, 21);
+    call_deep(&p, at_start);
+    expect_list("join with depths", 0, "0 neighbour 3=640 9=9999\nset 3=640 9=9999\n");
+    deep_alone(&p, 1, INSERT, 3, 0, 3);
+    deep_alone(&p, 2, STEP, 0, 0, 0);
+    call_deep(&p, at_start);
+    expect_deep_row("a second insert", 5, 1, INSERT, 3, 0, 0);
+    expect_deep_row("a lookup that is late", 6, 2, LOOKUP, 3, 1, 640);
+    expect_list("a second insert", 0, "0 normal 3=0 9=9999\nset 3=0 9=9999\n");
+}
+
+/* Every length of the buffers around those that version 2 needs, and of its file; headers and records that are refused. */
+static void deep_lengths(int at_start)
+{
+    static const size_t rooms[] = {0, 4095, 4096, 8191, 8192, 8193, 9000};
+    static struct deep_plan p;
+    deep_empty(&p);
+    deep_alone(&p, 0, INSERT, 9, 640, 3);
+    deep_alone(&p, 1, LOOKUP, 9, 0, 1);
+    size_t need = 7 * deep_count(&p);
+    for (size_t room = 0; room <= 3 * need; room++) {
+        call_run(p.file, p.length, room, at_start);
+        if (room < need)
+            expect_run("short row buffer, version 2", 5, 0, 0, 0, 0, 0);
+        else
+            expect_run("row buffer, version 2", 0, 6, 2, bit(9), 1, 2);
+    }
+    for (size_t i = 0; i < sizeof rooms / sizeof rooms[0]; i++) {
+        call_list(p.file, p.length, rooms[i], at_start);
+        if (rooms[i] < 8192)
+            expect_list("short text buffer, version 2", 6, "");
+        else
+            expect_list("text buffer, version 2", 0, "0 normal 9=640\nset 9=640\n");
+    }
+    for (size_t length = 0; length <= p.length + 4; length++) {
+        uint64_t refusal = length < 3 ? 1 : length == p.length ? 0 : 4;
+        call_run(p.file, length, refusal == 0 ? need : 0, at_start);
+        check(run[NUXALDER_RUN_REFUSAL] == refusal, "version 2 cut to %zu bytes gets %" PRIu64, length,
+              run[NUXALDER_RUN_REFUSAL]);
+    }
+    static const uint8_t many[] = {2, 255, 255};
+    call_run(many, sizeof many, 0, at_start);
+    expect_run("a count over 4,096, version 2", 3, 0, 0, 0, 0, 0);
+}
+
+/* The refusals of a record in their order, several faults in one; thread 0 is busy. */
+static void deep_refusals(int at_start)
+{
+    static const struct {
+        unsigned first, second, extra, refusal;
+    } cases[] = {
+        {0x42, 64, 10000, 7}, {0x06, 64, 10000, 8}, {0x02, 64, 10000, 9}, {0x01, 64, 1, 9},  {0x12, 63, 10000, 14},
+        {0x02, 63, 65535, 14}, {0x01, 63, 1, 10},   {0x13, 63, 256, 10},  {0x04, 63, 9999, 10}, {0x15, 63, 10000, 10},
+        {0x02, 63, 9999, 11}, {0x05, 63, 0, 11},    {0x00, 1, 0, 10},     {0x00, 0, 256, 10},   {0x00, 0, 1, 10},
+        {0x10, 0, 1, 10},     {0x10, 0, 0, 12},     {0x12, 63, 9999, 0},  {0x13, 63, 0, 0},
+    };
+    static struct deep_plan p;
+    for (size_t i = 0; i < sizeof cases / sizeof cases[0]; i++) {
+        deep_empty(&p);
+        deep_record(&p, 0x02, 5, 9999);
+        deep_record(&p, cases[i].first, cases[i].second, cases[i].extra);
+        deep_record(&p, 0x30, 0, 0);
+        call_deep(&p, at_start);
+        uint64_t done = cases[i].refusal == 0 ? 2 : 1;
+        expect_run("refused record, version 2", cases[i].refusal == 0 ? 12 : cases[i].refusal, done, 0, 0, 0, 1);
+    }
+}
+
 int main(void)
 {
     schedule_memory = guard_new(MEMORY);
@@ -476,6 +585,9 @@ int main(void)
         headers(at_start);
         histories(at_start);
         judged(at_start);
+        depths(at_start);
+        deep_lengths(at_start);
+        deep_refusals(at_start);
     }
     printf("%lu passed, %lu failed\n", passed, failed);
     return failed == 0 && passed > 0 ? EXIT_SUCCESS : EXIT_FAILURE;

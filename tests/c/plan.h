@@ -57,4 +57,39 @@ static inline void plan_printed_run(struct plan *p)
     plan_alone(p, 0, SPLIT, 3, 3);
 }
 
+/* The same in version 2, each record with its depth. */
+struct deep_plan {
+    uint8_t file[3 + 4 * (MOST_RECORDS + 1)];
+    size_t length;
+};
+
+static inline size_t deep_count(const struct deep_plan *p)
+{
+    return (p->length - 3) / 4;
+}
+
+static inline void deep_empty(struct deep_plan *p)
+{
+    static const uint8_t header[3] = {2, 0, 0};
+    memcpy(p->file, header, sizeof header);
+    p->length = sizeof header;
+}
+
+static inline void deep_record(struct deep_plan *p, unsigned first, unsigned second, unsigned extra)
+{
+    const uint8_t record[4] = {(uint8_t)first, (uint8_t)second, (uint8_t)(extra >> 8), (uint8_t)extra};
+    memcpy(p->file + p->length, record, sizeof record);
+    p->length += sizeof record;
+    p->file[1] = (uint8_t)(deep_count(p) >> 8);
+    p->file[2] = (uint8_t)deep_count(p);
+}
+
+static inline void deep_alone(struct deep_plan *p, unsigned thread, unsigned action, unsigned station, unsigned depth,
+                              unsigned steps)
+{
+    deep_record(p, 16 * thread + action, station, depth);
+    while (steps-- > 0)
+        deep_record(p, 16 * thread, 0, 0);
+}
+
 #endif

@@ -122,7 +122,8 @@ static void operation(struct file *file, int action, int station)
     do {
         append(file, NUXALDER_STEP, 0);
         call_run(file, &file->alone);
-    } while (file->alone.run[NUXALDER_RUN_ROWS] == rows && file->length < NUXALDER_FILE_MOST);
+    } while (file->alone.run[NUXALDER_RUN_ROWS] == rows &&
+             file->length < NUXALDER_HEADER_SIZE + NUXALDER_RECORD_SIZE * NUXALDER_RECORDS_MOST);
 }
 
 /* The tree as deep as a schedule's records allow: stations from above, each split off the lowest leaf. */

@@ -1,4 +1,5 @@
-//! Links libnuxalder.a from NUXALDER_LIB_DIR, or from target/staticlib of the repository.
+//! Links libnuxalder.a from NUXALDER_LIB_DIR, or from target/staticlib of the repository; libnuxalder.so where there is
+//! no such archive.
 
 use std::env;
 use std::path::{Path, PathBuf};
@@ -12,5 +13,10 @@ fn main() {
         folder.join("libnuxalder.a").display()
     );
     println!("cargo:rustc-link-search=native={}", folder.display());
-    println!("cargo:rustc-link-lib=static=nuxalder");
+    let kind = if folder.join("libnuxalder.a").exists() || !folder.join("libnuxalder.so").exists() {
+        "static"
+    } else {
+        "dylib"
+    };
+    println!("cargo:rustc-link-lib={kind}=nuxalder");
 }

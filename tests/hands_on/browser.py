@@ -163,3 +163,11 @@ class Page:
         os.close(self.reader)
         os.close(self.writer)
         self.log.close()
+
+
+if __name__ == "__main__":
+    # only sees to it that there is one
+    try:
+        find(subprocess.DEVNULL)
+    except BrowserError as error:
+        raise SystemExit(str(error))

@@ -7,7 +7,7 @@ import bench
 from checks import OUT, ROOT
 
 FOLDER = OUT / "builds"
-FAULTS = ("GOOD", "WRONG", "CRASH", "HANG", "QUIT", "CHATTY", "SCRIBBLE", "LIAR", "LATE")
+FAULTS = ("GOOD", "WRONG", "CRASH", "HANG", "QUIT", "CHATTY", "SCRIBBLE", "LIAR", "LATE", "DEEP")
 SHARED = ("GOOD", "WRONG", "HANG", "QUIT")
 
 

@@ -107,7 +107,7 @@ def file_of(path):
 
 def cut(file, records):
     """The schedule file with its first records only."""
-    return file[:1] + records.to_bytes(2, "big") + file[3 : 3 + 2 * records]
+    return file[:1] + records.to_bytes(2, "big") + file[3 : 3 + text_form.RECORD[text_form.version_of(file)] * records]
 
 
 class Expected:
@@ -129,9 +129,10 @@ class Expected:
     def open_operations(self, file, records):
         """Each thread's open operation and its own steps, from accepted records and the number of rows."""
         starts = {thread: [] for thread in range(4)}
-        for first, second in text_form.records_of(file)[: min(records, self.done)]:
+        for first, second, *depth in text_form.records_of(file)[: min(records, self.done)]:
             if first & 15:
-                starts[first >> 4].append([f"{text_form.ACTIONS[first & 15]} {second}", 0])
+                deep = f" {256 * depth[0] + depth[1]}" if depth and first & 15 == text_form.INSERT else ""
+                starts[first >> 4].append([f"{text_form.ACTIONS[first & 15]} {second}{deep}", 0])
             else:
                 starts[first >> 4][-1][1] += 1
         finished = {thread: sum(row.startswith(f"t{thread} ") for row in self.rows) for thread in starts}

@@ -9,6 +9,7 @@ import time
 
 import bench
 import builds
+import check
 from checks import EXAMPLES, OUT, TOOL, VECTORS, examples, running, tool
 
 PRINTED_RUN = EXAMPLES / "printed-run.txt"
@@ -104,6 +105,15 @@ def gallery(checks, made):
         checks.that(f"{name}: in time", time.time() - since < 20)
     checks.equal("no build is left running", running(HELPERS), [])
 
+    deep = [EXAMPLES / f"depth-{name}.txt" for name in ("lookup", "replaced")]
+    status, out, _ = tool("check", "--library", made["deep.a"], EXAMPLES / "join.txt", *deep)
+    says = [f"{deep[0]}:11: record 15, t1 step", "expected  row t1 lookup 9, answer 1, depth 0\n", "got       row t1 lookup 9, answer 1, depth 1\n"]
+    checks.equal("a set in a row", check.row_words(0, 1, 3, 1, 640, 8), "row t0 lookup 3, answer 1, depth 640, set 8")
+    checks.that("another depth in a row", status == 1 and all(word in out.decode() for word in says), out)
+    checks.that("version 1 has none, and a run without lookups passes", out.endswith(b"2 passed, 1 failed\n"), out)
+    printed = tool("run", deep[0], "--library", made["deep.a"])[1]
+    checks.that("the depth that the build found is printed", b"t2 lookup 3 yes 814\nt3 lookup 4 no\n" in printed, printed)
+
     status, out, _ = tool("check", "--library", made["late.a"], EXAMPLES / "refused-11-busy.txt")
     says = ["expected  refused, 11: a start of a busy thread", "got       refused, 12: a step of an idle thread", "record "]
     checks.that("another refusal", status == 1 and all(word in out.decode() for word in says), out)
@@ -135,6 +145,10 @@ def interrupted(checks, made):
         out, err = process.communicate(timeout=20)
         fine = (process.returncode, out) == (130, b"") and err.endswith(b"schedule: interrupted\n")
         checks.that(f"{number.name}", fine and len(err.splitlines()) == 2, (process.returncode, out, err))
+        # what was killed may take a moment to go
+        end = time.time() + 20
+        while running(HELPERS) and time.time() < end:
+            time.sleep(0.02)
         checks.equal(f"{number.name}: nothing goes on", running(HELPERS), [])
 
 

@@ -77,6 +77,7 @@ def verdicts(checks):
         checks.equal(f"judge {path.stem} as bytes", tool("judge", "--as", "binary", binary), (0, out, ""))
         comment = [line for line in path.read_text().splitlines() if line.startswith("#")]
         checks.that(f"{path.name} says what to look at", any("Look at" in line for line in comment))
+    checks.equal("a schedule's byte of version 2", tool("judge", "-", stdin=b"\x02\0\0"), (0, b"refused, 2: a version other than 1\n", ""))
     checks.equal("judge on standard input", tool("judge", "-", stdin=b"t0 insert 1\nt0 insert 1 yes\n")[1].decode().splitlines()[1], "order 0")
 
 
@@ -116,6 +117,11 @@ def runs(checks):
         checks.equal(f"history {name}", tool("history", path), (0, text.encode(), ""))
         judged = tool("judge", "-", stdin=text.encode())[1].decode()
         checks.that(f"judge accepts {name}", judged.startswith("accepted"), judged)
+    deep = "refused, 2: a version other than 1: an event has no depth, so only a schedule of version 1 has a history"
+    status, out, error = tool("history", "-", stdin=b"t0 insert 3 640\nt0 finish")
+    checks.that("a run with depths has none, and what to do is said", (status, out) == (1, b"") and deep in error and "without its depths" in error, error)
+    status, out, error = tool("history", "-", stdin=b"version 3")
+    checks.equal("nor has another version", (status, out, error), (1, b"", "-: refused, 2: a version other than 1\n"))
     written = OUT / "run.history"
     for path in examples():
         file = file_of(path)

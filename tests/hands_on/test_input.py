@@ -28,7 +28,7 @@ UNREADABLE = [
     ("an old line end", b"t0 step\rt0 step", "1:8", "a carriage return"),
     ("a bell", b"t0\x07 step", "1:3", "^G (U+0007)"),
     ("zero bytes", b"\0\0\0\0", "1:1", "a zero byte"),
-    ("version 2", b"\x02\0\0", "1:1", "^B (U+0002)"),
+    ("version 3", b"\x03\0\0", "1:1", "^C (U+0003)"),
     ("version 9", b"\x09\0\0", "1:2", "a zero byte"),
 ]
 
@@ -36,13 +36,15 @@ UNREADABLE = [
 def kinds(checks):
     checks.group("input: bytes or text")
     for name, data, place, says in UNREADABLE:
-        for command in (("run",), ("encode",)) if name in ("Latin-1", "version 2") else (("run",),):
+        for command in (("run",), ("encode",)) if name in ("Latin-1", "version 3") else (("run",),):
             status, out, err = tool(*command, "-", stdin=data)
             fine = (status, out) == (1, b"") and err.startswith(f"-:{place}: ") and says in err and "refus" not in err
             checks.that(f"{command[0]}: {name}", fine, (status, out, err))
-    said = tool("run", "-", stdin=b"\x02\0\0")[2]
-    checks.that("what to do with another version is said", "starts with byte 02" in said and "--as binary" in said, said)
-    checks.equal("--as binary", tool("run", "-", "--as", "binary", stdin=b"\x02\0\0")[:2], (3, b"records 0 of 0 refusal 2\n"))
+    said = tool("run", "-", stdin=b"\x03\0\0")[2]
+    checks.that("what to do with another version is said", "starts with byte 03" in said and "--as binary" in said, said)
+    checks.equal("--as binary", tool("run", "-", "--as", "binary", stdin=b"\x03\0\0")[:2], (3, b"records 0 of 0 refusal 2\n"))
+    empty = b"records 0 of 0 refusal 0\n0 normal -\nset -\nstored 0 used 1\n"
+    checks.equal("version 2 is bytes", tool("run", "-", stdin=b"\x02\0\0"), (0, empty, ""))
     status, out, err = tool("run", "-", "--as", "text", stdin=file_of(PATH))
     checks.that("--as text", (status, out) == (1, b"") and err.startswith("-:1:1: "), (status, out, err))
     checks.equal("encode --as text too", tool("encode", "-", "--as", "text", stdin=b"\x01")[0], 1)
@@ -77,7 +79,8 @@ def bounds(checks):
     checks.group("input: endless, and the longest that is read")
     for what, first, again, says in (
         ("text", b"t0 insert 9\n", b"# and so on\n" * 4096, f"more than {reading.TEXT_MOST:,} bytes of text"),
-        ("bytes", b"\x01\x10\x00", bytes(1 << 15), f"more than {reading.BYTES_MOST:,} bytes"),
+        ("bytes", b"\x01\x10\x00", bytes(1 << 15), "more than 16,384 bytes are given; the longest schedule has 8,195 bytes"),
+        ("bytes of version 2", b"\x02\x10\x00", bytes(1 << 15), "more than 32,766 bytes are given; the longest schedule has 16,387 bytes"),
         ("zeros", b"\0", bytes(1 << 15), f"more than {reading.TEXT_MOST:,} bytes of text"),
     ):
         status, out, err, took = fed(["run", "-"], first, again)
@@ -89,6 +92,9 @@ def bounds(checks):
     longest = b"\x01\x10\x00" + b"\x31\x09\x30\x00" * 2048
     checks.equal("the longest schedule", tool("run", "-", stdin=longest)[1][:30], b"records 4096 of 4096 refusal 0")
     checks.equal("a byte more is 01's", tool("run", "-", stdin=longest + b"\0")[:2], (3, b"records 0 of 0 refusal 4\n"))
+    longest = b"\x02\x10\x00" + b"\x31\x09\0\0\x30\x00\0\0" * 2048
+    checks.equal("the longest of version 2", tool("run", "-", stdin=longest)[1][:30], b"records 4096 of 4096 refusal 0")
+    checks.equal("a byte more is 02's", tool("run", "-", stdin=longest + b"\0")[:2], (3, b"records 0 of 0 refusal 4\n"))
     filled = b"t0 insert 9\n".ljust(reading.TEXT_MOST, b"\n")
     checks.equal("the longest text", tool("encode", "-", stdin=filled), (0, b"\x01\0\x01\x02\x09", ""))
     checks.equal("a byte more", tool("encode", "-", stdin=filled + b"\n")[:2], (1, b""))

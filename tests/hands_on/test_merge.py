@@ -63,6 +63,16 @@ def refusals(checks):
     for number, bad in [(1, b"\x01\x00"), (2, b"\x02\x00\x00"), (2, b"\x03\x00\x00"), (3, b"\x01\x10\x01"), (4, good[:-1])]:
         refused(f"a first file with {number}", bad, fine, f"{first}: ", f"refused with {number}: ")
         refused(f"a second file with {number}", good, bad, f"{second}: ", f"refused with {number}: ")
+    deep = b"\x02\x00\x01\x02\x03\x02\x80"
+    said = "the file is refused with 2: a version other than 1; only version 1 can be merged"
+    more = ": without its depths and its version line this one is of version 1"
+    refused("depths in the first file", deep, fine, f"{first}: {said}{more}\n")
+    refused("depths in the second file", good, deep, f"{second}: {said}{more}\n")
+    refused("a version that there is not", good, b"\x03\x00\x00", f"{second}: {said}\n")
+    text = OUT / "merge" / "deep.txt"
+    text.write_text("t0 insert 3 640\n")
+    second.write_bytes(fine)
+    checks.equal("a text with depths", tool("merge", text, second, "-o", out), (1, b"", f"{text}: {said}{more}\n"))
     refused("the first file's fault comes first", b"", b"\x02\x00\x00", f"{first}: ", "refused with 1: ")
     stray = schedule([b"\x02\x09", b"\x00\x00", b"\x21\x05", b"\x30\x00"])
     refused("a thread of the second in the first", stray, fine, f"{first}: record 3, 't2 lookup 5'", "17", "t0 and t1")

@@ -2,14 +2,15 @@
 
 import text_form
 from browser import BrowserError, Page
-from checks import EXAMPLES, OUT, REASONS, VECTORS, Expected, file_of, least, tool
+from checks import EXAMPLES, OUT, REASONS, VECTORS, Expected, cut, file_of, least, tool
 
 OPEN_MILLISECONDS_MOST = 3000  # 4,096 records, on a machine that does other work too
 STEP_MILLISECONDS_MOST = 60
 BYTES_MOST = 1_500_000
 
 STEPPED = ["printed-run", "killed-join", "reasons", "late-lookup", "lost-insert", "helped-join", "deep-join", "refused-11-busy"]
-REFUSED_FILES = {"refused-1-short": 1, "refused-2-version": 2, "refused-3-count": 3, "refused-4-length": 4}
+STEPPED += ["depth-lookup", "depth-during-join", "refused-14-depth"]
+REFUSED_FILES = {"refused-1-short": 1, "refused-2-version": 2, "refused-3-count": 3, "refused-4-length": 4, "refused-4-length-2": 4}
 PICTURE = ("helped-join", 52)
 
 # All that a reader sees, taken from the page's elements.
@@ -21,8 +22,10 @@ READ = """(() => {
     turn: Number(document.body.dataset.turn), heading: text("turn"), name: text("name"), caption: text("caption"),
     listing: text("listing"), set: text("set"), stored: text("stored"), used: text("used"),
     cells: texts(document, "#grid .in").join(" ") || "-",
+    titles: [...document.querySelectorAll("#grid [title]")].map((e) => e.title).filter((title) => title),
     rows: [...document.querySelectorAll("#rows li")].filter(seen).map((row) => texts(row, ".badge, span, .answer").join(" ")),
     reason: texts(document, "#caption .why").join(" "),
+    found: texts(document, "#caption .found").join(" "), hint: text("hint"),
     reasons: [...document.querySelectorAll("#rows li")].filter(seen).flatMap((row) => texts(row, ".why")),
     threads: [...document.querySelectorAll(".thread")].map((t) => [texts(t, ".operation")[0], texts(t, ".note")[0]]),
     now: [...document.querySelectorAll("#records .now")].map((e) => Number(e.dataset.turn)),
@@ -33,7 +36,7 @@ READ = """(() => {
     nodes: [...document.querySelectorAll("#canvas .node")].map((g) => {
       const box = g.querySelector(".shape").getBBox();
       return { line: [g.dataset.depth, texts(g, ".word")[0], ...texts(g, ".value, .station")].join(" "),
-        inside: texts(g, ".station:not(.outside):not(.none)").map(Number),
+        inside: texts(g, ".station:not(.outside):not(.none)"),
         box: [box.x, box.y, box.x + box.width, box.y + box.height] }; }),
     slider: Number(document.getElementById("slider").value),
   };
@@ -57,6 +60,11 @@ LUMINANCES = """(() => {
 })()"""
 
 
+def station_of(word):
+    """The station of a word of a container or the set, which in version 2 has a depth behind it."""
+    return int(word.split("=")[0])
+
+
 def compare(checks, page, name, file, turn):
     """The page at a turn against the printed run of the schedule cut there."""
     shown, expected = page.evaluate(READ), Expected(file, turn)
@@ -65,14 +73,16 @@ def compare(checks, page, name, file, turn):
     checks.that(f"{what}: the record is in sight", shown["nowSeen"])
     checks.equal(f"{what}: listing", shown["listing"].splitlines(), expected.listing)
     checks.equal(f"{what}: drawing", [node["line"] for node in shown["nodes"]], expected.listing[:-1])
-    inside = sorted(station for node in shown["nodes"] for station in node["inside"])
-    checks.equal(f"{what}: stations not struck out", " ".join(map(str, inside)) or "-", expected.set)
+    inside = sorted((word for node in shown["nodes"] for word in node["inside"]), key=station_of)
+    checks.equal(f"{what}: stations not struck out", " ".join(inside) or "-", expected.set)
     checks.equal(f"{what}: stations stored", str(len(inside)), expected.stored)
     checks.equal(
         f"{what}: set and counts",
         [shown[key] for key in ("set", "cells", "stored", "used")],
-        [expected.set, expected.set, expected.stored, expected.used],
+        [expected.set, " ".join(str(station_of(word)) for word in expected.set.split() if word != "-") or "-", expected.stored, expected.used],
     )
+    titles = [f"station {word.replace('=', ': ')} mm" for word in expected.set.split() if "=" in word]
+    checks.equal(f"{what}: the depths in the set", shown["titles"], titles)
     checks.equal(f"{what}: rows", shown["rows"], expected.rows)
     operations = [given[0] if given else "idle" for given in expected.open.values()]
     checks.equal(f"{what}: threads", [thread[0] for thread in shown["threads"]], operations)
@@ -156,6 +166,24 @@ def reasons(checks, page):
     finish(checks, page, "reasons")
 
 
+def depths(checks, page):
+    checks.group("page: depths")
+    url = show(checks, EXAMPLES / "depth-lookup.txt")
+    for turn, row, found in ((15, "t1 lookup 9 yes 0", "0"), (44, "t1 lookup 3 yes 640", "640"), (46, "t2 lookup 3 yes 815", "815"), (48, "t3 lookup 4 no", "")):
+        page.open(f"{url}#at={turn}")
+        shown = page.evaluate(READ)
+        checks.equal(f"the row of turn {turn}", (shown["rows"][-1], shown["found"]), (row, found))
+        checks.that(f"its caption at turn {turn}", shown["caption"].endswith("".join(row.split()[3:])), shown["caption"])
+    checks.that("what the words mean is said", "3=640: station 3 at a depth of 640 mm" in shown["hint"], shown["hint"])
+    checks.that("a depth is told with its unit", "mm" in page.evaluate("getComputedStyle(document.querySelector('.found'), '::after').content"))
+    records = page.evaluate("[...document.querySelectorAll('#records span')].map((e) => e.textContent).filter((text) => /^insert/.test(text))")
+    checks.equal("the records with their depths", records, ["insert 3 640", "insert 9 0", "insert 3 815"])
+    finish(checks, page, "depth-lookup")
+    page.open(show(checks, EXAMPLES / "late-lookup.txt") + "#at=41")
+    shown = page.evaluate(READ)
+    checks.equal("version 1 has none of it", (shown["rows"][-1], shown["found"], "640" in shown["hint"]), ("t1 lookup 3 yes", "", False))
+
+
 def moved(checks, page):
     checks.group("page: keys, slider, list and address on 4,096 records")
     path = EXAMPLES / "full-schedule.txt"
@@ -215,7 +243,7 @@ def vectors(checks, page):
     for path in sorted(VECTORS.glob("*.schedule"))[::6]:
         file = path.read_bytes()
         url = show(checks, path)
-        if file[:1] != b"\x01" or len(file) != 3 + 2 * int.from_bytes(file[1:3], "big"):
+        if file[:1] not in (b"\x01", b"\x02") or len(cut(file, int.from_bytes(file[1:3], "big"))) != len(file):
             continue
         last = last_turn(file)
         for turn in sorted({last // 3, 2 * last // 3, last}):
@@ -266,7 +294,7 @@ def all_of(checks):
     (OUT / "page").mkdir(parents=True, exist_ok=True)
     try:
         with Page(OUT / "browser") as page:
-            for test in (stepped, reasons, moved, vectors, refused_files, looks):
+            for test in (stepped, reasons, depths, moved, vectors, refused_files, looks):
                 test(checks, page)
     except BrowserError as error:
         checks.that("the browser goes on", False, error)

@@ -7,6 +7,16 @@ from checks import EXAMPLES, OUT, examples, file_of, tool
 
 STATUS = 3
 
+# What is said of a file of one version, and for version 2 what would be right.
+WORDS = {
+    "refused-2-version": "a version other than 1 and 2",
+    "refused-4-length": "a length other than 3 + 2 * count",
+    "refused-4-length-2": "a length other than 3 + 4 * count: a record of version 2 has four bytes",
+    "refused-10-step-byte": "a step whose second byte is not 0",
+    "refused-10-depth": "unused bytes that are not 0: only an insert has a depth, and a step has no station",
+    "refused-14-depth": "an insert with a depth over 9,999: a depth is 0 to 9999 mm",
+}
+
 # A run that is refused at its 33rd record, on line 17.
 MINE = """# A schedule whose seventh operation
 # is stepped too far.
@@ -41,14 +51,14 @@ def gallery(checks):
             checks.equal(f"run {path.name}: a whole run", (status, err), (0, ""))
             continue
         seen.add(refusal)
-        words = bench.REFUSALS[refusal]
+        words = WORDS.get(path.stem) or bench.REFUSALS[refusal]
         if refusal <= 4:
             right = f"{path}: refused, {refusal}: {words}\n"
         else:
             line = re.match(rf"{re.escape(str(path))}:(\d+): ", err)
             right = f"{path}:{line[1] if line else '?'}: record {done + 1} refused, {refusal}: {words}\n"
         checks.equal(f"run {path.name}: the refusal", (status, err), (STATUS, right))
-    checks.equal("each refusal of a file or record is there", seen, {1, 2, 3, 4, 7, 8, 9, 10, 11, 12, 13})
+    checks.equal("each refusal of a file or record is there", seen, {1, 2, 3, 4, 7, 8, 9, 10, 11, 12, 13, 14})
 
 
 def places(checks):
@@ -68,6 +78,13 @@ def places(checks):
     checks.that("bytes have no lines", status == STATUS and err.startswith(f"{binary}: record ") and "refused, 11" in err, err)
     mine.write_text("count 2\nt0 insert 3\nraw-byte 10\n# a record in two parts\nraw-byte 00\n")
     checks.equal("a record of raw bytes", tool("run", mine)[2], f"{mine}:3: record 2 {words}\n")
+    mine.write_text("t0 insert 3 640\n\nt0 step 3\n# and one too many\nt0 step\n")
+    checks.equal("version 2", tool("run", mine)[2], f"{mine}:5: record 5 {words}\n")
+    mine.write_text("version 2\ncount 2\nt0 insert 3\nraw-byte 10\nraw-byte 00\n# in parts\nraw-byte 00\nraw-byte 00\n")
+    checks.equal("version 2: a record of raw bytes", tool("run", mine)[2], f"{mine}:4: record 2 {words}\n")
+    mine.write_text("version 2\nt0 insert 3 640\nt0 step 3\nt0 insert 3\nraw 00 00 00 01\n")
+    said = WORDS["refused-10-depth"]
+    checks.equal("version 2: a step's last byte", tool("run", mine)[2], f"{mine}:5: record 6 refused, 10: {said}\n")
     mine.write_text("no-header\nraw 01 00\nraw-byte 01\nraw-byte 10\nraw-byte 00\n")
     checks.equal("no header", tool("run", mine)[2], f"{mine}:4: record 1 {words}\n")
 

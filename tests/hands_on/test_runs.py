@@ -24,6 +24,14 @@ FIGURES = {
     "late-lookup": ["own step 21, row: t0 join 3 yes", "own step 2, row: t1 lookup 3 yes"],
     "lost-insert": ["own step 21, row: t0 join 3 yes", "own step 9, row: t1 insert 4 yes"],
     "helped-join": ["own step 19, row: t1 insert 10 yes", "own step 18, row: t0 join 12 yes"],
+    "depth-replaced": ["own step 3, row: t0 insert 3 yes", "insert 3 815, own step 3, row: t0 insert 3 no\n           - 0 normal 3=640\n"],
+    "depth-lookup": ["row: t1 lookup 9 yes 0\n", "own step 2, row: t1 lookup 3 yes 640\n", "row: t2 lookup 3 yes 815\n", "row: t3 lookup 4 no\n"],
+    "depth-split-join": ["join 3, own step 21, row: t0 join 3 yes", "+ 1 normal 9=1200", "+ 0 neighbour 3=640 9=1200"],
+    "depth-during-join": ["insert 3 815, own step 9, row: t1 insert 3 no", "own step 16, row: t0 join 3 no (stood down)"],
+    "refused-14-depth": ["raw 02 09 27 10", "refused 14: an insert with a depth over 9,999: a depth is 0 to 9999 mm"],
+    "refused-10-depth": ["raw 01 03 02 80", "refused 10: unused bytes that are not 0: only an insert has a depth"],
+    "refused-4-length-2": ["refused 4: a length other than 3 + 4 * count: a record of version 2 has four bytes"],
+    "refused-2-version": ["refused 2: a version other than 1 and 2"],
     "refused-7-thread": ["raw 40 00", "refused 7: a thread over 3"],
     "refused-12-idle": ["refused 12: a step of an idle thread"],
     "refused-13-numbers": ["turn 1024  t0 step         refused 13", "records 1023 of 1024 refusal 13"],
@@ -37,9 +45,12 @@ BYTES = {
     "refused-7-thread": "0100014000",
     "refused-12-idle": "0100013000",
     "refused-8-action": "0100010600",
+    "depth-replaced": "020008" + "02030280" + "00" * 12 + "0203032f" + "00" * 12,
+    "refused-4-length-2": "02000202030000",
 }
 
-TRACED = ["printed-run", "killed-join", "reasons", "late-lookup", "helped-join", "refused-11-busy", "full-schedule"]
+TRACED = ["depth-lookup", "depth-during-join", "refused-14-depth"]
+TRACED += ["printed-run", "killed-join", "reasons", "late-lookup", "helped-join", "refused-11-busy", "full-schedule"]
 
 
 def runs(checks):
@@ -166,6 +177,7 @@ def errors(checks):
     refused("a turn too far", "turns 0 to 12", "trace", example, "--at", "13")
     refused("a turn before the first", "turns 0 to 12", "trace", example, "--at", "-1")
     refused("a turn of a refused file", "refused 4", "trace", EXAMPLES / "refused-4-length.txt", "--at", "0")
+    refused("a turn of a refused file of version 2", "refused 4: a length other than 3 + 4", "trace", EXAMPLES / "refused-4-length-2.txt", "--at", "0")
     refused("a schedule file given to encode", "schedule decode", "encode", VECTORS / "0000.schedule")
     refused("text given to decode", "text already", "decode", example)
     refused("a page that cannot be written", "nowhere", "show", example, "--html", "/nowhere/page.html")

@@ -19,7 +19,22 @@ BAD_LINES = [
     ("t0 lookup \u0663", 1, "\u0663", "0 to 63"),
     ("t0 insert", 1, "insert", "a station"),
     ("t0", 1, "t0", "step, finish, lookup, insert, remove, split or join"),
-    ("t0 insert 3 4", 1, "4", "nothing may follow '3'"),
+    ("t0 lookup 3 4", 1, "4", "nothing may follow '3'"),
+    ("t0 insert 3 4 5", 1, "5", "nothing may follow '4'"),
+    ("t0 insert 3 10000", 1, "10000", "a depth is a number of millimetres, 0 to 9999"),
+    ("t0 insert 3 -1", 1, "-1", "0 to 9999"),
+    ("t0 step\nt0 insert 3 deep", 2, "deep", "0 to 9999"),
+    ("version 1\n\nt0 insert 3 640", 3, "640", "a depth needs version 2, and the text says version 1"),
+    ("version 9\nt0 insert 3 640", 2, "640", "a depth needs version 2, and the text says version 9"),
+    ("no-header\nt0 insert 3 640", 2, "640", "a depth needs version 2, and with no-header there is no version"),
+    ("version 2\nt0 lookup 3 640", 2, "640", "only an insert has a depth"),
+    ("t0 insert 3 640\nt0 remove 3 0", 2, "0", "only an insert has a depth"),
+    ("t0 insert 3 640\nversion 2", 2, "version", "before the first record"),
+    ("version 2\nt0 step 4096\nt1 step", 3, "t1", "at most 4096"),
+    ("version 2\nraw 40 00", 2, "00", "a raw record of version 2 is four bytes"),
+    ("version 2\nraw 40 00 0g 00", 2, "0g", "a raw record of version 2 is four bytes"),
+    ("version 2\nraw 40 00 00 01 02", 2, "02", "nothing may follow '01'"),
+    ("raw 02 09 27 10", 1, "27", "a line `version 2` before the records says so"),
     ("t0 step 0", 1, "0", "1 to 4096"),
     ("t0 step 4097", 1, "4097", "1 to 4096"),
     ("t0 step 2 2", 1, "2", "nothing may follow"),
@@ -50,19 +65,32 @@ SPELLINGS = [
     ("\ufefft3 join 63", "010001353f"),
     ("t1 lookup 0\nt2 remove 7\nt3 split 5", "010003110023073405"),
     ("raw fF Ab", "010001ffab"),
-    ("version 2\ncount 513\nt0 step\nraw-byte 07", "020201000007"),
+    ("version 3\ncount 513\nt0 step\nraw-byte 07", "030201000007"),
+    ("version 2", "020000"),
+    ("version 2\ncount 513\nt0 step\nraw-byte 07", "0202010000000007"),
+    ("t0 insert 3 640\nt1 step", "020002" + "02030280" + "10000000"),
+    ("t1 lookup 9\nt0 insert 3 0 # a depth of 0 is one", "020002" + "11090000" + "02030000"),
+    ("version 2\nt0 insert 9\nt3 join 63", "020002" + "02090000" + "353f0000"),
+    ("# at 9,999 mm\r\n\tt2  insert\t63   09999\r\n", "020001" + "223f270f"),
+    ("version 2\nraw fF Ab 00 01", "020001ffab0001"),
+    ("version 1\nt0 insert 9 # 640", "0100010209"),
+    ("count 1\nt0 insert 9 640", "02000102090280"),
     ("no-header", ""),
     ("no-header\nraw-byte 01", "01"),
     ("no-header\nraw 01 00\nraw-byte 00", "010000"),
 ]
 
 
-def random_record(rng):
-    """A record that is a well-formed operation, and its text."""
+def random_record(rng, version=1):
+    """A record of a version that is a well-formed operation, and its text."""
     thread, action = rng.randrange(4), rng.randrange(6)
     station = rng.randrange(64) if action else 0
     word = ("step", "lookup", "insert", "remove", "split", "join")[action]
-    return bytes([16 * thread + action, station]), f"t{thread} {word}" + (f" {station}" if action else "")
+    record, text = bytes([16 * thread + action, station]), f"t{thread} {word}" + (f" {station}" if action else "")
+    if version == 1:
+        return record, text
+    depth = rng.choice((0, 1, 255, 256, 9998, 9999, rng.randrange(10000))) if word == "insert" else 0
+    return record + depth.to_bytes(2, "big"), text + (f" {depth}" if word == "insert" else "")
 
 
 def spellings(checks):
@@ -90,8 +118,27 @@ def round_trips(checks):
         file = rng.randbytes(size)
         decoded = text_form.decode(file).encode()
         checks.that(f"round trip of {size} bytes of any kind", text_form.encode(decoded, "text") == file, file)
+    deep_round_trips(checks, rng)
     long = b"\x01" + (4097).to_bytes(2, "big") + bytes(2 * 4097)
     checks.that("round trip of 4097 steps", text_form.encode(text_form.decode(long).encode(), "text") == long)
+
+
+def deep_round_trips(checks, rng):
+    """Version 2: operations, records of any bytes, and files of any length that start with its byte."""
+    for size in [0, 1, 2, 4095, 4096] + [rng.randrange(80) for _ in range(300)]:
+        made = [random_record(rng, 2) for _ in range(size)]
+        file = b"\x02" + size.to_bytes(2, "big") + b"".join(record for record, _ in made)
+        text = "version 2\n" + "".join(f"{line}\n" for _, line in made)
+        checks.that(f"encode of {size} operations, version 2", text_form.encode(text.encode(), "text") == file, text)
+        decoded = text_form.decode(file)
+        checks.that(f"version 2: {size} operations decode to their text", "raw" not in decoded and "version 2\n" in decoded, decoded)
+        checks.that(f"round trip of {size} operations, version 2", text_form.encode(decoded.encode(), "text") == file, decoded)
+    for size in [0, 1, 4096] + [rng.randrange(80) for _ in range(300)]:
+        file = b"\x02" + size.to_bytes(2, "big") + rng.randbytes(4 * size)
+        checks.that(f"round trip of {size} records of any bytes, version 2", text_form.encode(text_form.decode(file).encode(), "text") == file)
+    for size in [0, 1, 2, 3, 4, 5, 6, 7, 8197, 16388, 32762, 32765] + [rng.randrange(60) for _ in range(300)]:
+        file = b"\x02" + rng.randbytes(size)
+        checks.that(f"round trip of version 2 and {size} bytes", text_form.encode(text_form.decode(file).encode(), "text") == file, file[:9])
 
 
 def commands(checks):

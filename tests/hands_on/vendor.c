@@ -6,7 +6,7 @@
 
 #include "nuxalder.h"
 
-enum { GOOD, WRONG, CRASH, HANG, QUIT, CHATTY, SCRIBBLE, LIAR, LATE };
+enum { GOOD, WRONG, CRASH, HANG, QUIT, CHATTY, SCRIBBLE, LIAR, LATE, DEEP };
 
 void own_run(const uint8_t *, size_t, uint8_t *, size_t, uint64_t *);
 void own_list(const uint8_t *, size_t, uint8_t *, size_t, uint64_t *);
@@ -17,6 +17,10 @@ void nuxalder_run(const uint8_t *schedule, size_t length, uint8_t *rows, size_t 
     own_run(schedule, length, rows, room, report);
     /* The printed run of 01 has 27 bytes, a join after it more. */
     if (FAULT == WRONG && report[NUXALDER_RUN_ROWS] > 2) rows[11] ^= 1;
+    /* The depth that a lookup finds, in version 2. */
+    if (FAULT == DEEP && length > 3 && schedule[0] == NUXALDER_DEEP_FILE_VERSION)
+        for (uint64_t i = 0; i < report[NUXALDER_RUN_ROWS]; i++)
+            if (rows[NUXALDER_DEEP_ROW_SIZE * i + 1] == NUXALDER_LOOKUP) rows[NUXALDER_DEEP_ROW_SIZE * i + 5] ^= 1;
     if (FAULT == CRASH && length > 40) abort();
     if (FAULT == HANG && length > 40) for (;;) pause();
     if (FAULT == QUIT && length > 40) exit(0);

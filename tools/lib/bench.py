@@ -11,7 +11,7 @@ import asking
 import library as library_module
 import processes
 from faults import BenchError
-from text_form import ACTIONS
+from text_form import ACTIONS, DEEP, DEPTH_MOST, VERSION, version_of
 
 ROOT = library_module.ROOT
 PROGRAM = Path(os.environ.get("NUXALDER_BENCH") or ROOT / "target" / "bin" / "bench")
@@ -20,23 +20,37 @@ FILE_MOST = 1 << 18
 # What each refusal of a file or a record says, as include/nuxalder.h has it.
 REFUSALS = {
     1: "a file under three bytes",
-    2: "a version other than 1",
+    2: "a version other than 1 and 2, or than 1 where only that is taken",
     3: "a count over 4,096",
-    4: "a length other than 3 + 2 * count",
-    5: "a row buffer under 2 * count bytes",
-    6: "a text buffer under 4,096 bytes",
+    4: "a length other than 3 + 2 * count, in version 2 other than 3 + 4 * count",
+    5: "a row buffer under 2 * count bytes, in version 2 under 7 * count",
+    6: "a text buffer under 4,096 bytes, in version 2 under 8,192",
     7: "a thread over 3",
     8: "an action over 5",
     9: "a start with a station over 63",
-    10: "a step whose second byte is not 0",
+    10: "unused bytes that are not 0",
     11: "a start of a busy thread",
     12: "a step of an idle thread",
     13: "a swap that needs more node numbers than are left",
+    14: "an insert with a depth over 9,999",
     17: "a thread that is not its file's",
     18: "an output buffer under 3 + 4 * the smaller count bytes",
     21: "an event out of place",
     22: "more than 12 operations",
     23: "an operation that is not finished",
+}
+# What they say of a file of one version, and for version 2 what would be right.
+OF_VERSION = {
+    VERSION: {
+        2: "a version other than 1 and 2",
+        4: "a length other than 3 + 2 * count",
+        10: "a step whose second byte is not 0",
+    },
+    DEEP: {
+        4: "a length other than 3 + 4 * count: a record of version 2 has four bytes",
+        10: "unused bytes that are not 0: only an insert has a depth, and a step has no station",
+        14: f"an insert with a depth over 9,999: a depth is 0 to {DEPTH_MOST} mm",
+    },
 }
 FILE_REFUSALS = (1, 2, 3, 4)  # those of the whole file: no record was looked at
 
@@ -94,11 +108,18 @@ def helper(name="turns"):
     return asking.helper(f"{name}.c", library())
 
 
-def row_of(thread, action, station, answer):
+def words(refusal, file):
+    """What a refusal says of this file."""
+    return OF_VERSION[version_of(file)].get(refusal) or REFUSALS.get(refusal, "unknown")
+
+
+def row_of(thread, action, station, answer, *more):
+    """A row as the program prints it; `more` is what a row of version 2 has, the depth found and a set."""
     reason = REASONS.get(answer, "")
     if isinstance(reason, dict):
         reason = reason[ACTIONS[action]]
-    return Row(f"t{thread} {ACTIONS[action]} {station} {'yes' if answer == YES else 'no'}", answer, reason)
+    found = f" {more[0]}" if more and (ACTIONS[action], answer) == ("lookup", YES) else ""
+    return Row(f"t{thread} {ACTIONS[action]} {station} {'yes' if answer == YES else 'no'}{found}", answer, reason)
 
 
 def answers(file, first=0, last=None, path=None, limit=None):

@@ -22,13 +22,14 @@ class Difference(Exception):
         super().__init__(f"{where}\n    expected  {expected}\n    got       {got}")
 
 
-def row_words(thread, action, station, answer):
-    """A row with its answer's number, which says more than yes or no."""
-    return f"row t{thread} {text_form.ACTIONS[action]} {station}, answer {answer}"
+def row_words(thread, action, station, answer, *more):
+    """A row with its answer's number, which says more than yes or no, and in version 2 its depth and a set that is not empty."""
+    words = f"row t{thread} {text_form.ACTIONS[action]} {station}, answer {answer}"
+    return words + "".join(f", {name} {value}" for name, value in zip(("depth", "set"), more) if value or name == "depth")
 
 
-def end_words(refusal):
-    return f"refused, {refusal}: {bench.REFUSALS.get(refusal, 'unknown')}" if refusal else "carried out"
+def end_words(refusal, file):
+    return f"refused, {refusal}: {bench.words(refusal, file)}" if refusal else "carried out"
 
 
 class Told:
@@ -44,7 +45,7 @@ class Told:
         listing, turn = [], None
         for word, numbers, text in parts:
             if word in ("whole", "refused"):
-                self.end, self.done = self.end or end_words(numbers[0]), numbers[1]
+                self.end, self.done = self.end or end_words(numbers[0], file), numbers[1]
             elif word == "turn":
                 turn = {"rows": [], "listing": listing, "counts": [f"stored {numbers[1]} used {numbers[2]}"]}
                 self.turns.append(turn)
@@ -62,7 +63,7 @@ def whole_end(path, file, limit):
     """How a build ends the whole file, and after how many records."""
     try:
         run = bench.answers(file, 1, 0, path, limit)
-        return end_words(run.refusal), run.whole.number
+        return end_words(run.refusal, file), run.whole.number
     except asking.NoAnswer as error:
         return error.reason, None
 

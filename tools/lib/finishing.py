@@ -9,6 +9,7 @@ import asking
 import bench
 import library
 import processes
+import text_form
 from faults import BenchError
 
 IDLE = 12
@@ -31,23 +32,25 @@ class Finisher:
             self.process.wait()
             self.process = None
 
-    def _ask(self, records, thread):
+    def _ask(self, version, records, thread):
         if self.process is None:
             program = asking.helper("finish.c", library.own())
             self.process = subprocess.Popen([program], stdin=subprocess.PIPE, stdout=subprocess.PIPE)
-        self.process.stdin.write(bytes([thread]) + (len(records) // 2).to_bytes(2, "big") + records)
+        count = len(records) // text_form.RECORD[version]
+        self.process.stdin.write(bytes([thread, version]) + count.to_bytes(2, "big") + records)
         self.process.stdin.flush()
         numbers = self.process.stdout.readline().split()
         if len(numbers) != 6:
             raise BenchError(f"schedule: the library gave no answer: {processes.ended(self.process.wait())}")
         return [int(number) for number in numbers]
 
-    def steps(self, records, thread, most):
-        """How many steps end the operation that `thread` has open after `records`; Endless where none do."""
-        before, left = len(records) // 2, most - len(records) // 2
-        refusal, done, rows, refusal_on, done_on, rows_on = self._ask(bytes(records), thread)
+    def steps(self, version, records, thread, most):
+        """How many steps end the operation that `thread` has open after `records` of a version; Endless where none do."""
+        before = len(records) // text_form.RECORD[version]
+        left = most - before
+        refusal, done, rows, refusal_on, done_on, rows_on = self._ask(version, bytes(records), thread)
         if refusal:
-            words = bench.REFUSALS.get(refusal, "unknown")
+            words = bench.words(refusal, bytes([version]))
             raise Endless(f"record {done + 1} above is refused, {refusal}: {words}; no record after it is carried out")
         if left == 0:
             raise Endless(f"the schedule has its {most} records, and none is left for a step")
@@ -56,7 +59,7 @@ class Finisher:
                 raise Endless(f"t{thread} is idle here: it has no operation to finish")
             return done_on - before
         if refusal_on:
-            words = bench.REFUSALS.get(refusal_on, "unknown")
+            words = bench.words(refusal_on, bytes([version]))
             raise Endless(f"step {done_on - before + 1} of t{thread} here is refused, {refusal_on}: {words}")
         if rows_on > rows:
             return left

@@ -17,6 +17,9 @@ class _Encoder(text_form._Encoder):
 
     WHAT = "history"
 
+    def prepare(self, lines):
+        """No event has a depth."""
+
     def record_line(self, first, line):
         if self.tail:
             raise text_form._wrong(first, "no event may follow a raw-byte line")

@@ -14,7 +14,8 @@ import processes
 import text_form
 from faults import Fault
 
-REFUSALS = {**bench.REFUSALS, 4: "a length other than 3 + 4 * count"}
+REFUSALS = {**bench.REFUSALS, 2: "a version other than 1", 4: "a length other than 3 + 4 * count"}
+NO_DEPTHS = "an event has no depth, so only a schedule of version 1 has a history; without its depths and its version line it is one"
 
 
 @dataclass
@@ -60,6 +61,13 @@ def history_of(schedule):
     if word != "history" or len(history) != int(numbers[1]):
         raise asking.NoAnswer("its history is not whole")
     return int(numbers[0]), history
+
+
+def no_history(refusal, schedule):
+    """Why a schedule that is refused whole has no history."""
+    if refusal != 2:
+        return bench.words(refusal, schedule)
+    return REFUSALS[2] + (f": {NO_DEPTHS}" if text_form.version_of(schedule) == text_form.DEEP else "")
 
 
 def judged(histories):

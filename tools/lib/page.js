@@ -27,15 +27,19 @@ const threadTurns = [[], [], [], []];
 run.deeds.forEach(([thread], at) => threadTurns[thread].push([at + 1]));
 
 const badge = (thread) => `<b class="badge b${thread}">t${thread}</b>`;
-const answer = ({ row }) => { const word = row.split(" ").pop(); return `<em class="answer ${word}">${word}</em>`; };
+// A row's words: thread, action, station, answer and, for a lookup's yes in version 2, the depth found.
+const wordsOf = ({ row }) => row.split(" ");
+const answer = (given) => { const word = wordsOf(given)[3]; return `<em class="answer ${word}">${word}</em>`; };
+const found = (given) => { const depth = wordsOf(given)[4]; return depth === undefined ? "" : `<span class="found">${depth}</span>`; };
 // Why a split or join did nothing.
 const why = ({ reason }) => (reason ? `<small class="why" title="${reason}">${reason}</small>` : "");
 // "t0 insert 3" with the thread as a badge; a raw record stands as it is.
 const withBadge = (text) => (/^t[0-3] /.test(text) ? `${badge(text[1])}<span>${text.slice(3)}</span>` : `<span>${text}</span>`);
-const rowHtml = (given) => `${withBadge(given.row.replace(/ \w+$/, ""))}${why(given)}${answer(given)}`;
+const rowHtml = (given) => `${withBadge(wordsOf(given).slice(0, 3).join(" "))}${why(given)}${answer(given)}${found(given)}`;
 
 // ---- The listing as a tree ----
 
+// A container and the set are words, "3" or in version 2 "3=640": a station and its depth.
 function parse(listing) {
   const lines = listing.trimEnd().split("\n");
   const set = lines.pop();
@@ -48,11 +52,11 @@ function parse(listing) {
       made.left = node();
       made.right = node();
     } else {
-      made.stations = rest[0] === "-" ? [] : rest.map(Number);
+      made.stations = rest[0] === "-" ? [] : rest;
     }
     return made;
   };
-  return { root: node(), set: set === "set -" ? [] : set.split(" ").slice(1).map(Number) };
+  return { root: node(), set: set === "set -" ? [] : set.split(" ").slice(1) };
 }
 
 const nameOf = (node) => `${node.kind} ${node.content}`;
@@ -64,10 +68,12 @@ function namesIn(node, into = new Set()) {
 
 // ---- The drawing ----
 
-const CELL = 25, LINE = 20, LEVEL = 94, GAP = 18, RADIUS = 24, EDGE = 12;
+const LINE = 20, LEVEL = 94, GAP = 18, RADIUS = 24, EDGE = 12;
+// The width of a station, the most in a line, and how much wider than high a container is.
+const [CELL, COLUMNS, SPREAD] = run.deep ? [62, 4, 0.7] : [25, 8, 1.7];
 
 function measure(base) {
-  const columns = Math.max(1, Math.min(8, Math.ceil(Math.sqrt(base.stations.length * 1.7))));
+  const columns = Math.max(1, Math.min(COLUMNS, Math.ceil(Math.sqrt(base.stations.length * SPREAD))));
   base.columns = columns;
   base.width = Math.max(82, columns * CELL + 14);
   base.height = 26 + Math.max(1, Math.ceil(base.stations.length / columns)) * LINE + 6;
@@ -118,11 +124,13 @@ function drawRoute(node) {
 function drawBase(node, low, high) {
   const box = (name, out) => `<rect class="${name}" x="${node.x - node.width / 2 - out}" y="${node.y - out}" width="${node.width + 2 * out}" height="${node.height + 2 * out}" rx="${9 + out}"/>`;
   const across = Math.min(node.columns, node.stations.length || 1);
-  const stations = node.stations.map((station, at) => {
+  const stations = node.stations.map((word, at) => {
+    const [station, depth] = word.split("=");
     const x = node.x + ((at % node.columns) - (across - 1) / 2) * CELL;
     const y = node.y + 38 + Math.floor(at / node.columns) * LINE;
-    const outside = station < low || station >= high;
-    return `<text class="station${outside ? " outside" : ""}" x="${x}" y="${y}">${station}</text>`;
+    const outside = Number(station) < low || Number(station) >= high;
+    const deep = depth === undefined ? "" : `<tspan class="depth">=${depth}</tspan>`;
+    return `<text class="station${outside ? " outside" : ""}" x="${x}" y="${y}">${station}${deep}</text>`;
   });
   const empty = `<text class="station none" x="${node.x}" y="${node.y + 38}">-</text>`;
   return `${box("ring", 5)}${box("shape", 0)}<text class="word" x="${node.x}" y="${node.y + 17}">${node.kind}</text>${stations.join("") || empty}`;
@@ -163,8 +171,12 @@ function showTree(turn) {
   part("listing").innerHTML = text.trimEnd().split("\n")
     .map((line) => `<span class="${linesBefore.has(line) ? "" : "new"}">${line}\n</span>`).join("");
   drawTree(tree, textBefore === text ? null : namesIn(parse(textBefore).root));
-  const inSet = new Set(tree.set);
-  [...part("grid").children].forEach((cell, station) => cell.classList.toggle("in", inSet.has(station)));
+  const depthOf = new Map(tree.set.map((word) => word.split("=")));
+  [...part("grid").children].forEach((cell, station) => {
+    const stored = depthOf.has(String(station));
+    cell.classList.toggle("in", stored);
+    if (run.deep) cell.title = stored ? `station ${station}: ${depthOf.get(String(station))} mm` : "";
+  });
   part("set").textContent = tree.set.join(" ") || "-";
   part("size").textContent = `${tree.set.length} of 64 stations`;
   const [stored, used] = valueAt(run.counts, turn);
@@ -282,6 +294,7 @@ function setUp() {
   }).join("");
   part("rows").innerHTML = run.rows.map(([turn, row, reason]) => `<li hidden data-turn="${turn}">${rowHtml({ row, reason })}<i>${turn}</i></li>`).join("");
   part("grid").innerHTML = Array.from({ length: 64 }, (_, station) => `<i>${station}</i>`).join("");
+  if (run.deep) part("hint").textContent += " 3=640: station 3 at a depth of 640 mm.";
   if (run.refusal) {
     const left = run.records.length - lastTurn;
     part("refusal").textContent = refusedFile ? `The file is ${run.why}.`

@@ -5,7 +5,7 @@ from pathlib import Path
 
 import bench
 import story
-from text_form import record_text, records_of
+from text_form import DEEP, record_text, records_of, version_of
 
 PARTS = Path(__file__).resolve().parent
 
@@ -34,11 +34,12 @@ def page_data(file, name, where=""):
         "done": run.whole.number,
         "refusal": run.refusal,
         "where": where,
-        "why": story.refusal_text(run.refusal) if run.refusal else "",
+        "why": story.refusal_text(run.refusal, file) if run.refusal else "",
         "deeds": [[deed.thread, deed.operation, deed.own_steps] for deed in deeds],
         "rows": [[turn.number, row.text, row.reason] for turn in run.turns for row in turn.rows],
         "listings": _changes(run.turns, lambda turn: turn.listing),
         "counts": _changes(run.turns, lambda turn: [turn.stored, turn.used]),
+        **({"deep": True} if version_of(file) == DEEP else {}),
     }
 
 

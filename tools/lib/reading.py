@@ -6,11 +6,20 @@ from dataclasses import dataclass
 import text_form
 from faults import Fault
 
-BYTES_MOST = 16_384  # a little over the longest schedule, which has 8,195
 TEXT_MOST = 1 << 20
-# Kinds of files: the name, the length of the longest, and a little more, up to which one is read.
-SCHEDULE = ("schedule", text_form.HEADER + 2 * text_form.RECORDS_MOST, BYTES_MOST)
-HISTORY = ("history", text_form.HEADER + 4 * text_form.COUNT_MOST, 1 << 18)
+
+
+def _schedule(version):
+    """A schedule of a version: the length of the longest, and that of the longest that a text of it can be."""
+    width = text_form.RECORD[version]
+    most = text_form.HEADER + width * text_form.RECORDS_REFUSED_MOST + width - 1
+    return "schedule", text_form.HEADER + width * text_form.RECORDS_MOST, most
+
+
+# Kinds of files, by what their first byte says: the name, the length of the longest, and a little more, up to which one is read.
+SCHEDULE = {version: _schedule(version) for version in text_form.VERSIONS}
+HISTORY = {text_form.VERSION: ("history", text_form.HEADER + 4 * text_form.COUNT_MOST, 1 << 18)}
+BYTES_MOST = SCHEDULE[text_form.VERSION][2]
 
 
 @dataclass
@@ -23,7 +32,7 @@ class Given:
 
     def place(self, record):
         """Where a record, counted from 1, stands: the name, and the line where there is one."""
-        at = text_form.HEADER + 2 * (record - 1)
+        at = text_form.HEADER + text_form.RECORD[text_form.version_of(self.file)] * (record - 1)
         return f"{self.name}:{self.lines[at]}" if at < len(self.lines) and self.lines[at] else self.name
 
 
@@ -37,11 +46,11 @@ def _stream(name):
 
 def read(name, kind=None, longest=SCHEDULE):
     """The bytes of a file, or of standard input for '-', and whether they are 'text' or 'binary'; `longest` is what bytes may be."""
-    of, length, bytes_most = longest
     stream = _stream(name)
     try:
         data = stream.read(1)
         kind = kind or text_form.kind_of(data)
+        of, length, bytes_most = longest.get(text_form.version_of(data), longest[text_form.VERSION])
         most = bytes_most if kind == "binary" else TEXT_MOST
         while data and len(data) <= most:
             more = stream.read(most + 1 - len(data))

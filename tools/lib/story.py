@@ -4,7 +4,7 @@ import difflib
 from dataclasses import dataclass
 
 import bench
-from text_form import ACTIONS, STEP, record_text, records_of
+from text_form import ACTIONS, DEEP, INSERT, STEP, record_text, records_of, version_of
 
 MARGIN = " " * 11
 
@@ -21,41 +21,43 @@ class Deed:
 def deeds_of(records):
     """The deeds of accepted records: all that is used is that an accepted start opens its thread's operation."""
     operation, steps, deeds = {}, {}, []
-    for first, second in records:
+    for first, second, *more in records:
         thread, action = first >> 4, first & 15
         if action == STEP:
             steps[thread] += 1
         else:
-            operation[thread], steps[thread] = f"{ACTIONS[action]} {second}", 0
+            depth = f" {int.from_bytes(bytes(more), 'big')}" if more and action == INSERT else ""
+            operation[thread], steps[thread] = f"{ACTIONS[action]} {second}{depth}", 0
         deeds.append(Deed(thread, operation[thread], steps[thread]))
     return deeds
 
 
-def refusal_text(refusal):
-    return f"refused {refusal}: {bench.REFUSALS.get(refusal, 'unknown')}"
+def refusal_text(refusal, file):
+    return f"refused {refusal}: {bench.words(refusal, file)}"
 
 
-def _head(number, text, done):
-    return f"turn {number:<4}  {text:<14}  {done}"
+def _head(number, text, done, file):
+    room = len("t0 insert 63 9999") if version_of(file) == DEEP else len("t0 insert 63  ")
+    return f"turn {number:<4}  {text:<{room}}  {done}"
 
 
 def _deed_text(deed):
     return f"{deed.operation}, own step {deed.own_steps}" if deed.own_steps else f"opens {deed.operation}"
 
 
-def _turn_head(records, deeds, turn):
+def _turn_head(file, records, deeds, turn):
     """The line of a turn that was carried out, with its row."""
     if turn.number == 0:
-        return _head(0, "", "fresh bench")
+        return _head(0, "", "fresh bench", file)
     text = record_text(*records[turn.number - 1])
     row = f", row: {turn.rows[-1].told()}" if turn.rows else ""
-    return _head(turn.number, text, _deed_text(deeds[turn.number - 1]) + row)
+    return _head(turn.number, text, _deed_text(deeds[turn.number - 1]) + row, file)
 
 
-def _refused_lines(run, records):
+def _refused_lines(file, run, records):
     at = run.whole.number
     after = len(records) - at - 1
-    yield _head(at + 1, record_text(*records[at]), refusal_text(run.refusal))
+    yield _head(at + 1, record_text(*records[at]), refusal_text(run.refusal, file), file)
     yield f"{MARGIN}the run ends here: {after} more record{'' if after == 1 else 's'} not carried out"
 
 
@@ -78,13 +80,13 @@ def trace_lines(file):
     """The whole run."""
     run = bench.answers(file)
     if not run.turns:
-        yield refusal_text(run.refusal)
+        yield refusal_text(run.refusal, file)
         return
     records = records_of(file)
     deeds = deeds_of(records[: run.whole.number])
     before = bench.Turn(-1, 0, 0)
     for turn in run.turns:
-        yield _turn_head(records, deeds, turn)
+        yield _turn_head(file, records, deeds, turn)
         for mark, line in _marked_lines(before.listing, turn.listing) if turn.listing != before.listing else ():
             if mark != " ":
                 yield f"{MARGIN}{mark} {line}"
@@ -92,7 +94,7 @@ def trace_lines(file):
             yield f"{MARGIN}{_counts_line(turn)}"
         before = turn
     if run.refusal:
-        yield from _refused_lines(run, records)
+        yield from _refused_lines(file, run, records)
     yield f"records {run.whole.number} of {len(records)} refusal {run.refusal}"
 
 
@@ -114,16 +116,16 @@ def turn_lines(file, number):
     done = run.whole.number
     last = done + (1 if run.refusal else 0)
     if run.refusal in bench.FILE_REFUSALS:
-        raise bench.BenchError(f"the run has no turns: {refusal_text(run.refusal)}")
+        raise bench.BenchError(f"the run has no turns: {refusal_text(run.refusal, file)}")
     if not 0 <= number <= last:
         raise bench.BenchError(f"there is no turn {number}: the run has turns 0 to {last}")
     turn = run.turns[-1]
     before = run.turns[0].listing if number else ""
     deeds = deeds_of(records[:done])
     if number > done:
-        yield from _refused_lines(run, records)
+        yield from _refused_lines(file, run, records)
     else:
-        yield _turn_head(records, deeds, turn)
+        yield _turn_head(file, records, deeds, turn)
     rows = [row for given in run.turns for row in given.rows]
     yield f"{MARGIN}open: {', '.join(_open_operations(deeds[:number], rows)) or '-'}"
     for mark, line in _marked_lines(before, turn.listing):

@@ -1,4 +1,4 @@
-"""The text form of a schedule: text to the file of document 01 and back.
+"""The text form of a schedule: text to the file of document 01, or of document 02 (a) for version 2, and back.
 
 docs/SCHEDULES.md describes the form. Every file, also one that 01 refuses, has a text that encodes to it.
 """
@@ -10,12 +10,16 @@ import unicodedata
 from faults import Fault
 
 VERSION = 1
-VERSIONS = (1,)  # a file that starts with one of these bytes is a schedule file, any other is text
+DEEP = 2  # the version whose inserts have depths
+VERSIONS = (VERSION, DEEP)  # a file that starts with one of these bytes is a schedule file, any other is text
+RECORD = {VERSION: 2, DEEP: 4}  # bytes of a record; those of version 1 where there is no such version
 HEADER = 3
 ACTIONS = ("step", "lookup", "insert", "remove", "split", "join")
 STEP = 0
+INSERT = 2
 THREADS = 4
 STATIONS = 64
+DEPTH_MOST = 9999
 RECORDS_MOST = 4096
 COUNT_MOST = 0xFFFF
 RECORDS_REFUSED_MOST = 8190  # for a file that is refused on purpose
@@ -37,6 +41,7 @@ SYNONYMS = {
 # How the first bytes of text in another encoding look.
 ENCODINGS = {b"\xff\xfe\0\0": "UTF-32", b"\0\0\xfe\xff": "UTF-32", b"\xff\xfe": "UTF-16", b"\xfe\xff": "UTF-16"}
 BOM = b"\xef\xbb\xbf"
+DEPTH_LINE = re.compile(rb"[ \t]*t[0-3][ \t]+insert[ \t]+[^ \t#]+[ \t]+[^ \t\r#]")
 
 
 class BadText(Fault):
@@ -134,8 +139,7 @@ class _Line:
             raise _wrong(word, right)
         return int(word)
 
-    def byte(self):
-        right = "a byte is two hexadecimal digits, 00 to ff"
+    def byte(self, right="a byte is two hexadecimal digits, 00 to ff"):
         word = self.take(right)
         if not re.fullmatch("[0-9a-fA-F]{2}", word):
             raise _wrong(word, right)
@@ -158,6 +162,24 @@ class _Encoder:
         self.lines = []  # the line of each byte of the records and the tail
         self.finisher = finisher
         self.sound = True  # whether all lines so far were good
+        self.deep_line = 0  # the first line that gives an insert's depth, 0 for none
+
+    def prepare(self, lines):
+        """What must be known of the whole text before its first line: whether a depth is given."""
+        self.deep_line = next((number for number, raw in enumerate(lines, 1) if DEPTH_LINE.match(raw)), 0)
+
+    def version(self):
+        """The version of the file: the one that a line says or, where none does, that of the depths."""
+        if "no-header" in self.header:
+            return VERSION
+        return self.header.get("version", DEEP if self.deep_line else VERSION)
+
+    def width(self):
+        return RECORD.get(self.version(), RECORD[VERSION])
+
+    def runs(self):
+        """Whether the header is one that a schedule that is carried out has."""
+        return set(self.header) <= {"version"} and self.version() in VERSIONS
 
     def line(self, number, raw):
         words = _words(raw)
@@ -199,26 +221,49 @@ class _Encoder:
             raise _wrong(first, "no record may follow a raw-byte line")
         times = 1
         if first == "raw":
-            record = [line.byte(), line.byte()]
+            record = self.raw_record(line)
         else:
             word = line.choice(ACTION_WORDS, "an action is step, finish, lookup, insert, remove, split or join")
             action = STEP if word == FINISH else ACTIONS.index(word)
-            record = [16 * int(first[1]) + action, 0]
+            record = [16 * int(first[1]) + action, *[0] * (self.width() - 1)]
             if word == FINISH:
                 times = self.steps_left(word, int(first[1]))
             elif action != STEP:
                 record[1] = line.number(0, STATIONS - 1, f"a station is a number 0 to {STATIONS - 1}")
+                if line.more():
+                    record[2:] = self.depth(action, line).to_bytes(2, "big")
             elif line.more():
                 times = self.step_count(line)
-        before = len(self.records) // 2
+        before = len(self.records) // self.width()
         self.records += bytes(record) * times
-        most = RECORDS_REFUSED_MOST if self.header else RECORDS_MOST
+        most = RECORDS_MOST if self.runs() else RECORDS_REFUSED_MOST
         if before <= most < before + times:
             raise _wrong(
                 first,
                 f"this line brings the records to {before + times} and a schedule holds at most {RECORDS_MOST}"
                 f" (a count line before the records allows {RECORDS_REFUSED_MOST}, for a file that is refused on purpose)",
             )
+
+    def raw_record(self, line):
+        if self.width() == RECORD[VERSION]:
+            record = [line.byte() for _ in range(RECORD[VERSION])]
+            if len(line.words) == 1 + RECORD[DEEP]:
+                more = f"nothing may follow '{line.words[line.at - 1]}' on this line: a raw record of four bytes is of version {DEEP}"
+                raise _wrong(line.words[line.at], f"{more}, and a line `version {DEEP}` before the records says so")
+            return record
+        right = f"a raw record of version {DEEP} is four bytes, each two hexadecimal digits, 00 to ff"
+        return [line.byte(right) for _ in range(RECORD[DEEP])]
+
+    def depth(self, action, line):
+        """The depth of an insert, in a text whose version has them."""
+        if action != INSERT:
+            if self.version() != DEEP:
+                line.end()
+            raise _wrong(line.words[line.at], "only an insert has a depth")
+        if self.version() != DEEP:
+            told = f"the text says version {self.version()}" if "version" in self.header else "with no-header there is no version"
+            raise _wrong(line.words[line.at], f"a depth needs version {DEEP}, and {told}")
+        return line.number(0, DEPTH_MOST, f"a depth is a number of millimetres, 0 to {DEPTH_MOST}")
 
     @staticmethod
     def step_count(line):
@@ -232,22 +277,28 @@ class _Encoder:
 
     def steps_left(self, word, thread):
         """The steps that end the thread's operation here; nothing is asked after a line that is wrong."""
-        if self.header:
-            raise _wrong(word, "a file with a version, count or no-header line is not run, so no end can be found")
-        if not self.sound or len(self.records) > 2 * RECORDS_MOST:
+        if not self.runs():
+            raise _wrong(word, self.not_run())
+        if not self.sound or len(self.records) > self.width() * RECORDS_MOST:
             return 0
         import finishing  # it asks the library, and only a text with this word needs one
 
         try:
-            return self.finisher.steps(self.records, thread, RECORDS_MOST)
+            return self.finisher.steps(self.version(), self.records, thread, RECORDS_MOST)
         except finishing.Endless as error:
             raise _BadLine(word.column, f"'{word}' finds no end: {error}") from None
+
+    def not_run(self):
+        """Why a text with this header is not run."""
+        if set(self.header) == {"version"}:
+            return f"a file of version {self.version()} is not run, so no end can be found"
+        return "a file with a count or no-header line is not run, so no end can be found"
 
     def file(self):
         if "no-header" in self.header:
             return bytes(self.records + self.tail)
-        count = self.header.get("count", len(self.records) // 2)
-        header = bytes([self.header.get("version", VERSION)]) + count.to_bytes(2, "big")
+        count = self.header.get("count", len(self.records) // self.width())
+        header = bytes([self.version()]) + count.to_bytes(2, "big")
         return bytes(header + self.records + self.tail)
 
 
@@ -282,6 +333,7 @@ def encode_with_lines(text, name, kind=_Encoder):
     encoder = kind(finisher)
     messages = []
     lines = text.removeprefix(BOM).split(b"\n")
+    encoder.prepare(lines)
     try:
         for number, raw in enumerate(lines, 1):
             if len(messages) == ERRORS_SHOWN:
@@ -308,19 +360,28 @@ def encode(text, name):
     return encode_with_lines(text, name)[0]
 
 
-def record_text(first, second):
-    """One record as a line of text."""
+def record_text(first, second, *more):
+    """One record as a line of text; `more` is what a record of version 2 has, two bytes of depth."""
     thread, action = first >> 4, first & 15
-    if thread < THREADS and action == STEP and second == 0:
+    depth = int.from_bytes(bytes(more), "big")
+    if thread < THREADS and action == STEP and second == depth == 0:
         return f"t{thread} step"
-    if thread < THREADS and STEP < action < len(ACTIONS) and second < STATIONS:
+    if thread < THREADS and action == INSERT and second < STATIONS and more and depth <= DEPTH_MOST:
+        return f"t{thread} {ACTIONS[action]} {second} {depth}"
+    if thread < THREADS and STEP < action < len(ACTIONS) and second < STATIONS and depth == 0:
         return f"t{thread} {ACTIONS[action]} {second}"
-    return f"raw {first:02x} {second:02x}"
+    return f"raw {bytes((first, second, *more)).hex(' ')}"
+
+
+def version_of(file):
+    """The version whose forms a file has: that of depths where it says so, else 1."""
+    return DEEP if file[:1] == bytes([DEEP]) else VERSION
 
 
 def records_of(file):
-    """The pairs of bytes after the header."""
-    return list(zip(file[HEADER::2], file[HEADER + 1 :: 2]))
+    """The bytes of each record after the header."""
+    width = RECORD[version_of(file)]
+    return [tuple(file[at : at + width]) for at in range(HEADER, len(file) - width + 1, width)]
 
 
 def decode(file):
@@ -342,7 +403,7 @@ def decode(file):
         if not folds:
             lines.append(f"{text} {steps}" if steps > 1 else text)
             steps = 0
-    lines += [f"raw-byte {byte:02x}" for byte in file[HEADER + 2 * len(records) :]]
+    lines += [f"raw-byte {byte:02x}" for byte in file[HEADER + RECORD[version_of(file)] * len(records) :]]
     return "\n".join(lines) + "\n"
 
 

@@ -9,7 +9,7 @@
  * After each of the first two come the rows that are new since the one before (the whole file and turn FROM:
  * all rows) and the listing where it is not the same as at the one before:
  *
- *     row THREAD ACTION STATION ANSWER
+ *     row THREAD ACTION STATION ANSWER          and in version 2 the row's DEPTH and SET
  *     list LENGTH, a newline and that many bytes of text
  *
  * With `scan` the whole file is not asked for, so that a build that comes to grief on it is followed up to there. A
@@ -25,11 +25,17 @@
 
 #include "nuxalder.h"
 
-enum { RECORDS_MOST = 4096, HEADER = 3, FILE_ROOM = 1 << 18, ROW = 4, ACTIONS = 6, THREADS = 4, UNTOUCHED = 0xA5 };
+enum { RECORDS_MOST = 4096, HEADER = 3, FILE_ROOM = 1 << 18, ACTIONS = 6, THREADS = 4, UNTOUCHED = 0xA5 };
+
+/* What the versions of a schedule file differ in: bytes of a record, of a row, of both buffers. */
+struct sizes { size_t record, row, rows, text; };
+
+static const struct sizes one = {2, 4, 2 * RECORDS_MOST, 4096}, two = {4, 14, 7 * RECORDS_MOST, 8192};
+static const struct sizes *is = &one; /* those of the file that is asked for */
 
 static uint8_t schedule[FILE_ROOM];
-static uint8_t rows[2 * RECORDS_MOST];
-static uint8_t text[2][NUXALDER_LIST_BUFFER];
+static uint8_t rows[7 * RECORDS_MOST];
+static uint8_t text[2][8192];
 static uint64_t report[NUXALDER_RUN_FIELDS];
 static FILE *out;
 
@@ -52,15 +58,33 @@ static int untouched(const uint8_t *buffer, size_t from, size_t length) {
 static void run(size_t length) {
     uint64_t i;
 
-    memset(rows, UNTOUCHED, sizeof rows);
+    memset(rows, UNTOUCHED, is->rows);
     memset(report, 0xFF, sizeof report);
-    nuxalder_run(schedule, length, rows, sizeof rows, report);
+    nuxalder_run(schedule, length, rows, is->rows, report);
     if (report[NUXALDER_RUN_RECORDS] > RECORDS_MOST) fail("more records done than a schedule holds");
-    if (report[NUXALDER_RUN_ROWS] > sizeof rows / ROW) fail("more rows than the row buffer holds");
-    if (!untouched(rows, (size_t)report[NUXALDER_RUN_ROWS] * ROW, sizeof rows)) fail("bytes after the rows were written");
-    for (i = 0; i < report[NUXALDER_RUN_ROWS]; i++)
-        if (rows[ROW * i] >= THREADS || rows[ROW * i + 1] == 0 || rows[ROW * i + 1] >= ACTIONS)
-            fail("a row with a thread or an action that is none");
+    if (report[NUXALDER_RUN_ROWS] > is->rows / is->row) fail("more rows than the row buffer holds");
+    if (!untouched(rows, (size_t)report[NUXALDER_RUN_ROWS] * is->row, is->rows)) fail("bytes after the rows were written");
+    for (i = 0; i < report[NUXALDER_RUN_ROWS]; i++) {
+        const uint8_t *row = rows + is->row * i;
+        if (row[0] >= THREADS || row[1] == 0 || row[1] >= ACTIONS) fail("a row with a thread or an action that is none");
+    }
+}
+
+/* A number of `length` bytes, the high one first. */
+static uint64_t number_at(const uint8_t *bytes, size_t length) {
+    uint64_t value = 0;
+
+    while (length-- > 0) value = value << 8 | *bytes++;
+    return value;
+}
+
+static void print_row(const uint8_t *row) {
+    fprintf(out, "row %u %u %u %u", row[0], row[1], row[2], row[3]);
+    if (is == &two) {
+        print_number(" ", number_at(row + 4, 2));
+        print_number(" ", number_at(row + 6, 8));
+    }
+    putc('\n', out);
 }
 
 /* Prints the stored count and the numbers used of the last run, its rows after the first `rows_before` and,
@@ -72,15 +96,14 @@ static size_t print_state(size_t length, uint64_t rows_before, size_t text_befor
     print_number(" ", report[NUXALDER_RUN_STORED]);
     print_number(" ", report[NUXALDER_RUN_USED]);
     putc('\n', out);
-    for (i = rows_before; i < report[NUXALDER_RUN_ROWS]; i++)
-        fprintf(out, "row %u %u %u %u\n", rows[ROW * i], rows[ROW * i + 1], rows[ROW * i + 2], rows[ROW * i + 3]);
+    for (i = rows_before; i < report[NUXALDER_RUN_ROWS]; i++) print_row(rows + is->row * i);
 
-    memset(text[at], UNTOUCHED, sizeof text[at]);
-    nuxalder_list(schedule, length, text[at], NUXALDER_LIST_BUFFER, list);
+    memset(text[at], UNTOUCHED, is->text);
+    nuxalder_list(schedule, length, text[at], is->text, list);
     if (list[NUXALDER_LIST_REFUSAL] != report[NUXALDER_RUN_REFUSAL]) fail("run and list give different refusals");
-    if (list[NUXALDER_LIST_LENGTH] > NUXALDER_LIST_BUFFER) fail("a listing longer than its buffer");
+    if (list[NUXALDER_LIST_LENGTH] > is->text) fail("a listing longer than its buffer");
     text_now = (size_t)list[NUXALDER_LIST_LENGTH];
-    if (!untouched(text[at], text_now, sizeof text[at])) fail("bytes after the listing were written");
+    if (!untouched(text[at], text_now, is->text)) fail("bytes after the listing were written");
     if (text_now != text_before || memcmp(text[0], text[1], text_now) != 0) {
         fprintf(out, "list %zu\n", text_now);
         fwrite(text[at], 1, text_now, out);
@@ -117,10 +140,11 @@ int main(int argc, char **argv) {
     to = strtoul(argv[2], NULL, 10);
     length = fread(schedule, 1, sizeof schedule, stdin);
     if (length == sizeof schedule) fail("the file is far longer than any schedule");
+    if (length > 0 && schedule[0] == 2) is = &two;
     if (!scan) whole(length, &to);
 
     for (n = from; n <= to; n++, at = !at) {
-        length = HEADER + 2 * n;
+        length = HEADER + is->record * n;
         schedule[1] = (uint8_t)(n >> 8);
         schedule[2] = (uint8_t)n;
         run(length);

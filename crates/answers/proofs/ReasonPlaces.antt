@@ -1,11 +1,11 @@
--- What each place answers a split or join, and that it has made its change by then (definitions/specs/Reasons.antt). A thread's own notes are
--- enough: `Stand` is what they say at each part of an operation, and `told` shows it of every place. Nothing of the memory is needed.
+-- What each place answers a split or join, and that it has made its change by then (definitions/specs/Reasons.antt): `told` shows it of
+-- every place.
 use mathlib.Core.Path.{_≡_, refl, sym, _∙_, ap, subst}
-use mathlib.Core.Logic.{_⊎_, inl, inr}
+use mathlib.Core.Logic.{inl, inr}
 use mathlib.Core.Bool.{Bool, true, false, not, _||_, _&&_, false≢true}
 use Prim.Native.Nat.{ℕ, _+_, _<_, _≤_}
 use native.Mathlib.Omega.{arith}
-use lib.Dec.{eqb, ltb, leb}
+use lib.Dec.{ltb, leb}
 use borrow.Author.Tests.{eq-eqb, lt-ltb, le-ltb, ltb-true}
 use Rattle.container.specs.Choice.{ite}
 use Rattle.container.specs.Container.{has}
@@ -21,114 +21,19 @@ use Rattle.definitions.specs.declared.Spot.{Spot}
 use Rattle.definitions.specs.declared.Spot.the-variants.{Root, Under}
 use Rattle.definitions.specs.declared.Probe.{Probe}
 use Rattle.definitions.specs.declared.Probe.the-variants.{Hit, Next, Miss}
-use Rattle.definitions.specs.declared.Thread.{Thread}
 use Rattle.definitions.specs.declared.Effect.{Effect}
 use Rattle.definitions.specs.declared.Effect.the-variants.{Fork, Commit}
-use Rattle.definitions.specs.declared.Answer.the-variants.{No, Yes, Lacking}
+use Rattle.definitions.specs.declared.Answer.the-variants.{Yes, Lacking}
+use Rattle.definitions.specs.declared.Thread.{Thread}
 use Rattle.definitions.specs.declared.Turn.{Turn}
-use Rattle.definitions.specs.declared.Turn.the-variants.{Moves, Finishes, Full}
 use Rattle.definitions.specs.Nodes.{childFor, check, isPreparing}
-use Rattle.definitions.specs.Bench.{Store}
+use Rattle.definitions.specs.Bench.{Store, Sight, sightOf}
 use Rattle.definitions.specs.Places.{own, found, united, Place, nowhere, p1, p2, p3, p15, p16, p20, p21, p22, p23, p24, p25, p30, p31, p32, p33, p34, p35, p36, p37, p38, p40, p45, p46, p47, p48, p49, p50, p51, swap, placeOf, number, at}
 use Rattle.definitions.specs.Effects.{perform}
-use Rattle.definitions.specs.Answers.{said}
 use Rattle.definitions.specs.Steps.{says, atLeaf, reached, helpBy, blockedAs, blocked, lacksAs, lacks, joinUnder, clearedAs, cleared, probe, lostAs, lost, replacedAs, replaced, ownBy, foundBy, unitedBy, beside, grandMarking, backOut, ended, cutAt, cutOn, cutRight, freeing, step}
 use Rattle.definitions.specs.Reasons.{changes, Reason}
 use Rattle.answers.proofs.PlaceNumbers.{place-number, number-of}
-
--- ---- the parts of an operation
-
-pub data Part : Type 0 where
-  -- none; 1-16; 20-25; 26-38; 40-51
-  idle free seeking holding helping : Part
-
-abbrev pub partOf : Place → Part
-partOf nowhere = idle
-partOf p1 = free
-partOf p2 = free
-partOf p3 = free
-partOf (swap own q) = free
-partOf p15 = free
-partOf p16 = free
-partOf p20 = seeking
-partOf p21 = seeking
-partOf p22 = seeking
-partOf p23 = seeking
-partOf p24 = seeking
-partOf p25 = seeking
-partOf (swap found q) = holding
-partOf p30 = holding
-partOf p31 = holding
-partOf p32 = holding
-partOf p33 = holding
-partOf p34 = holding
-partOf p35 = holding
-partOf p36 = holding
-partOf p37 = holding
-partOf p38 = holding
-partOf p40 = helping
-partOf (swap united q) = helping
-partOf p45 = helping
-partOf p46 = helping
-partOf p47 = helping
-partOf p48 = helping
-partOf p49 = helping
-partOf p50 = helping
-partOf p51 = helping
-
--- d: the thread's operation has made its change. From 40 on the owner's has, a helper's has not
-abbrev pub Stand : Part → Thread → Bool → Type 0
-Stand idle th d = Unit {0}
-Stand free th d = d ≡ false
-Stand seeking th d = (th .action ≡ Join) × (d ≡ false)
-Stand holding th d = (th .action ≡ Join) × (th .owner ≡ true) × (d ≡ false)
-Stand helping th d = d ≡ th .owner
-
-abbrev pub Stands : Thread → Bool → Type 0
-Stands th d = Stand (partOf (placeOf (th .place))) th d
-
--- what is shown of a step of thread th at place number n: f is d after it, by its effect
-abbrev pub Told : Thread → ℕ → (Effect → Bool) → Turn → Type 0
-Told th n f (Moves th' e) = Stands th' (f e)
-Told th n f (Finishes e a) = Reason (th .action) n (f e) a
-Told th n f Full = Unit {0}
-
-same : (th : Thread) (n : ℕ) (f : Effect → Bool) (c : Bool) (o : Turn) → ((e : Effect) → f e ≡ c) → Told th n (λ _. c) o → Told th n f o
-same th n f c (Moves th' e) h k = rw (h e) k
-same th n f c (Finishes e a) h k = rw (h e) k
-same th n f c Full h k = tt
-
-either : (th : Thread) (n : ℕ) (f : Effect → Bool) (c : Bool) (o o' : Turn) → (c ≡ true → Told th n f o) → (c ≡ false → Told th n f o') → Told th n f (ite c o o')
-unfolding ite
-either th n f true o o' p q = p refl
-either th n f false o o' p q = q refl
-
-one-of : (v : Bool) → (said v ≡ No) ⊎ (said v ≡ Yes)
-one-of true = inr refl
-one-of false = inl refl
-
--- ---- at other places than 10-13 and 35 no change is made
-
-or-off : (b : Bool) → b || false ≡ b
-or-off true = refl
-or-off false = refl
-
--- a place number that is none of theirs
-abbrev apart : ℕ → Bool
-apart n = ltb 0 n && (not (leb 10 n && leb n 13) && not (eqb n 35))
-
-all-of : (a b c : Bool) → a && (not b && not c) ≡ true → (a ≡ true) × (b ≡ false) × (c ≡ false)
-all-of true false false h = (refl, refl, refl)
-all-of true false true h = absurd (false≢true h)
-all-of true true c h = absurd (false≢true h)
-all-of false b c h = absurd (false≢true h)
-
-none : (a : Action) (n : ℕ) (s s' : Store) (th : Thread) → leb 10 n && leb n 13 ≡ false → eqb n 35 ≡ false → changes a n s s' th ≡ false
-none Lookup n s s' th h i = refl
-none Insert n s s' th h i = refl
-none Remove n s s' th h i = refl
-none Split n s s' th h i = rw h
-none Join n s s' th h i = rw i
+use Rattle.answers.proofs.ReasonParts.{partOf, Stand, Stands, Told, same, either, one-shown, one-looked, or-off, apart, all-of, none}
 
 -- where nothing is written, none either
 not-less : (n : ℕ) → ltb n n ≡ false
@@ -147,19 +52,23 @@ own-range ReadRight = (omega arith, omega arith)
 own-range SwapRight = (omega arith, omega arith)
 
 module _ (s : Store) (th : Thread) where
+  -- what the step reads
+  abbrev r : Sight
+  r = sightOf s
+
   abbrev after : ℕ → Bool → Effect → Bool
   after n d e = d || changes (th .action) n s (perform e s) th
 
   -- a step at place p, that leaves d as it was or makes the change
   abbrev Step : Place → Bool → Type 0
-  Step p d = Told th (th .place) (after (th .place) d) (step p s th)
+  Step p d = Told th (th .place) (after (th .place) d) (step p r th)
 
-  placed : (p : Place) (d : Bool) → placeOf (th .place) ≡ p → 0 < number p → Told th (number p) (after (number p) d) (step p s th) → Step p d
-  placed p d e h k = subst (λ n. Told th n (after n d) (step p s th)) (sym (number-of (th .place) p e h)) k
+  placed : (p : Place) (d : Bool) → placeOf (th .place) ≡ p → 0 < number p → Told th (number p) (after (number p) d) (step p r th) → Step p d
+  placed p d e h k = subst (λ n. Told th n (after n d) (step p r th)) (sym (number-of (th .place) p e h)) k
 
-  calmly : (p : Place) (c d : Bool) → placeOf (th .place) ≡ p → apart (number p) ≡ true → d ≡ c → Told th (number p) (λ _. c) (step p s th) → Step p d
+  calmly : (p : Place) (c d : Bool) → placeOf (th .place) ≡ p → apart (number p) ≡ true → d ≡ c → Told th (number p) (λ _. c) (step p r th) → Step p d
   calmly p c d e h i k = let (o, u, v) = all-of (ltb 0 (number p)) _ _ h in
-      placed p d e (ltb-true 0 (number p) o) (same th (number p) (after (number p) d) c (step p s th) (λ z. ap (λ x. d || x) (none (th .action) (number p) s (perform z s) th u v) ∙ or-off d ∙ i) k)
+      placed p d e (ltb-true 0 (number p) o) (same th (number p) (after (number p) d) c (step p r th) (λ z. ap (λ x. d || x) (none (th .action) (number p) s (perform z s) th u v) ∙ or-off d ∙ i) k)
 
   abbrev Free : ℕ → Turn → Type 0
   Free n o = Told th n (λ _. false) o
@@ -169,14 +78,14 @@ module _ (s : Store) (th : Thread) where
 
   -- ---- 1 to 3
 
-  leaf : (n : ℕ) (a : Action) (x : ℕ) → th .action ≡ a → Free n (atLeaf a (s .nodes) th x)
-  leaf n Lookup x i = rw i (one-of (has (s .nodes x .container) (th .station)))
+  leaf : (n : ℕ) (a : Action) (x : ℕ) → th .action ≡ a → Free n (atLeaf a (r .nodes) th x)
+  leaf n Lookup x i = rw i (one-looked (has (r .nodes x .container) (th .station)) x)
   leaf n Insert x i = refl
   leaf n Remove x i = refl
   leaf n Split x i = refl
   leaf n Join x i = refl
 
-  reach : (n x : ℕ) → Free n (reached (s .nodes) th x)
+  reach : (n x : ℕ) → Free n (reached (r .nodes) th x)
   unfolding reached
   reach n x = fork n _ _ _ refl (leaf n (th .action) x refl)
 
@@ -231,21 +140,21 @@ module _ (s : Store) (th : Thread) where
   lost-own Join q i = rw i (sym (quiet-own Join q), inl (own-range q))
 
   -- a split's swap hands out three numbers
-  forks : (v : Spot) (l r k low high : ℕ) → ltb (s .used) (perform (Fork v (s .used) l r k low high) s .used) ≡ true
-  forks Root l r k low high = lt-ltb (s .used) (s .used + 3) (omega arith)
-  forks (Under p d) l r k low high = lt-ltb (s .used) (s .used + 3) (omega arith)
+  forks : (v : Spot) (l u k y : ℕ) → ltb (s .used) (perform (Fork v (s .used) l u k y) s .used) ≡ true
+  forks Root l u k y = lt-ltb (s .used) (s .used + 3) (omega arith)
+  forks (Under p d) l u k y = lt-ltb (s .used) (s .used + 3) (omega arith)
 
   hit-own : (a : Action) (q : Quarter) (v : Spot) (b : Node) → th .action ≡ a → Told th (number (swap own q)) (after (number (swap own q)) false) (replacedAs a v b (s .used) th)
   hit-own Lookup q v b i = tt
-  hit-own Insert q v b i = either th _ _ _ _ _ (λ _. rw i (one-of (not (has (b .container) (th .station))))) (λ _. tt)
-  hit-own Remove q v b i = either th _ _ _ _ _ (λ _. rw i (one-of (has (b .container) (th .station)))) (λ _. tt)
-  hit-own Split q v b i = either th _ _ _ _ _ (λ _. rw (i, in-own q) (sym (forks v _ _ _ _ _), tt)) (λ _. tt)
+  hit-own Insert q v b i = either th _ _ _ _ _ (λ _. rw i (one-shown (not (has (b .container) (th .station))))) (λ _. tt)
+  hit-own Remove q v b i = either th _ _ _ _ _ (λ _. rw i (one-shown (has (b .container) (th .station)))) (λ _. tt)
+  hit-own Split q v b i = either th _ _ _ _ _ (λ _. rw (i, in-own q) (sym (forks v _ _ _ _), tt)) (λ _. tt)
   hit-own Join q v b i = tt
 
   by-own : (q : Quarter) (o : Probe) (b : Node) → Told th (number (swap own q)) (after (number (swap own q)) false) (ownBy o b (s .used) th)
   unfolding replaced lost
   by-own q (Hit v) b = hit-own (th .action) q v b refl
-  by-own q (Next r) b = rw (place-number (swap own r)) (quiet-own (th .action) q)
+  by-own q (Next q') b = rw (place-number (swap own q')) (quiet-own (th .action) q)
   by-own q Miss b = lost-own (th .action) q refl
 
   -- ---- 26 to 38
@@ -256,7 +165,7 @@ module _ (s : Store) (th : Thread) where
     by-found n (Next q) b = rw (place-number (swap found q)) (i, o, refl)
     by-found n Miss b = (i, o, refl)
 
-    grand : (l : Link) → Free 33 (grandMarking l (s .nodes) th)
+    grand : (l : Link) → Free 33 (grandMarking l (r .nodes) th)
     grand Nil = (i, o, refl)
     grand (To g) = fork 33 _ _ _ (i, o, refl) (i, o, refl)
 
@@ -265,15 +174,15 @@ module _ (s : Store) (th : Thread) where
     back Nil = (i, o, refl)
     back (To g) = (i, o, refl)
 
-    made : isPreparing (s .nodes (th .main) .stage) ≡ true → (x : ℕ) (p : Link) (c n : ℕ) (g : Link) (y : ℕ) → changes (th .action) 35 s (perform (Commit (th .main) x p c n g y) s) th ≡ true
-    made e x p c n g y = rw (i, e, eq-eqb (th .main) (th .main) refl)
+    made : isPreparing (s .nodes (th .main) .stage) ≡ true → (x : ℕ) (p : Link) (n : ℕ) (g : Link) (y : ℕ) → changes (th .action) 35 s (perform (Commit (th .main) x p n g y) s) th ≡ true
+    made e x p n g y = rw (i, e, eq-eqb (th .main) (th .main) refl)
 
     not-made : isPreparing (s .nodes (th .main) .stage) ≡ false → changes (th .action) 35 s s th ≡ false
     not-made e = rw (i, e)
 
-    at-35 : Told th 35 (after 35 false) (step p35 s th)
+    at-35 : Told th 35 (after 35 false) (step p35 r th)
     unfolding step
-    at-35 = either th 35 _ _ _ _ (λ e. either th 35 _ _ _ _ (λ _. made e _ _ _ _ _ _ ∙ sym o) (λ _. tt)) (λ e. rw (not-made e) (back (th .grandparent)))
+    at-35 = either th 35 _ _ _ _ (λ e. either th 35 _ _ _ _ (λ _. made e _ _ _ _ _ ∙ sym o) (λ _. tt)) (λ e. rw (not-made e) (back (th .grandparent)))
 
   -- ---- 40 to 51
 
@@ -298,19 +207,19 @@ module _ (s : Store) (th : Thread) where
   by-united n (Next q) m = rw (place-number (swap united q)) refl
   by-united n Miss m = refl
 
-  at-46 : (l : Link) (m : Node) → Helps 46 (cutAt l m (s .nodes) (s .root) th)
+  at-46 : (l : Link) (m : Node) → Helps 46 (cutAt l m (r .nodes) (r .root) th)
   at-46 Nil m = on-the-way 46 _ _ _ refl refl
   at-46 (To g) m = on-the-way 46 _ _ _ refl refl
 
-  at-47 : (n : ℕ) (d : Bool) (l : Link) (m : Node) → Helps n (cutOn d l m (s .nodes) th)
+  at-47 : (n : ℕ) (d : Bool) (l : Link) (m : Node) → Helps n (cutOn d l m (r .nodes) th)
   at-47 n d Nil m = refl
   at-47 n d (To g) m = on-the-way n _ _ _ refl refl
 
-  at-48 : (l : Link) (m : Node) → Helps 48 (cutRight l m (s .nodes) th)
+  at-48 : (l : Link) (m : Node) → Helps 48 (cutRight l m (r .nodes) th)
   at-48 Nil m = refl
   at-48 (To g) m = on-the-way 48 _ _ _ refl refl
 
-  at-50 : (l : Link) → Helps 50 (freeing l (s .nodes) th)
+  at-50 : (l : Link) → Helps 50 (freeing l (r .nodes) th)
   at-50 Nil = refl
   at-50 (To g) = on-the-way 50 _ _ _ refl refl
 
@@ -331,11 +240,11 @@ module _ (s : Store) (th : Thread) where
   pub told : (p : Place) (d : Bool) → placeOf (th .place) ≡ p → Stand (partOf p) th d → Step p d
   unfolding step beside lacks cleared blocked
   told nowhere d e h = rw e tt
-  told p1 d e h = calmly p1 false d e refl h (reach 1 (s .root))
-  told p2 d e h = calmly p2 false d e refl h (reach 2 (childFor (th .station) (s .nodes (th .route))))
-  told p3 d e h = calmly p3 false d e refl h (either th 3 _ _ _ _ (λ z. lacking (th .action) (s .nodes (th .base)) refl z) (λ _. fork 3 _ _ _ (clear (th .action) (s .nodes (th .base)) refl) (block (th .action) (check (s .nodes) (th .base)) refl)))
-  told (swap own q) d e h = placed (swap own q) d e (omega (arith, own-range q)) (rw h (by-own q (probe q (s .nodes (th .base) .parent) (s .nodes) (s .root) (th .base)) (s .nodes (th .base))))
-  told p15 d e h = calmly p15 false d e refl h (help 15 (check (s .nodes) (th .base)))
+  told p1 d e h = calmly p1 false d e refl h (reach 1 (r .root))
+  told p2 d e h = calmly p2 false d e refl h (reach 2 (childFor (th .station) (r .nodes (th .route))))
+  told p3 d e h = calmly p3 false d e refl h (either th 3 _ _ _ _ (λ z. lacking (th .action) (r .nodes (th .base)) refl z) (λ _. fork 3 _ _ _ (clear (th .action) (r .nodes (th .base)) refl) (block (th .action) (check (r .nodes) (th .base)) refl)))
+  told (swap own q) d e h = placed (swap own q) d e (omega (arith, own-range q)) (rw h (by-own q (probe q (r .nodes (th .base) .parent) (r .nodes) (r .root) (th .base)) (r .nodes (th .base))))
+  told p15 d e h = calmly p15 false d e refl h (help 15 (check (r .nodes) (th .base)))
   told p16 d e h = calmly p16 false d e refl h (fork 16 _ _ _ refl refl)
   told p20 d e (i, h) = calmly p20 false d e refl h (fork 20 _ _ _ (i, refl) (i, refl))
   told p21 d e (i, h) = calmly p21 false d e refl h (fork 21 _ _ _ (i, refl) (rw i (refl, inr (inl refl))))
@@ -343,7 +252,7 @@ module _ (s : Store) (th : Thread) where
   told p23 d e (i, h) = calmly p23 false d e refl h (fork 23 _ _ _ (i, refl) (i, refl))
   told p24 d e (i, h) = calmly p24 false d e refl h (fork 24 _ _ _ (i, refl) (rw i (refl, refl)))
   told p25 d e (i, h) = calmly p25 false d e refl h (fork 25 _ _ _ (fork 25 _ _ _ (i, refl, refl) tt) (rw i (refl, inr (inr refl))))
-  told (swap found q) d e (i, o, h) = calmly (swap found q) false d e (apart-found q) h (by-found i o (number (swap found q)) (probe q (s .nodes (th .found) .parent) (s .nodes) (s .root) (th .found)) (s .nodes (th .found)))
+  told (swap found q) d e (i, o, h) = calmly (swap found q) false d e (apart-found q) h (by-found i o (number (swap found q)) (probe q (r .nodes (th .found) .parent) (r .nodes) (r .root) (th .found)) (r .nodes (th .found)))
   told p30 d e (i, o, h) = calmly p30 false d e refl h (fork 30 _ _ _ (i, o, refl) (i, o, refl))
   told p31 d e (i, o, h) = calmly p31 false d e refl h (fork 31 _ _ _ (i, o, refl) (fork 31 _ _ _ (i, o, refl) (i, o, refl)))
   told p32 d e (i, o, h) = calmly p32 false d e refl h (fork 32 _ _ _ (i, o, refl) (fork 32 _ _ _ (i, o, refl) (i, o, refl)))
@@ -354,11 +263,11 @@ module _ (s : Store) (th : Thread) where
   told p37 d e (i, o, h) = calmly p37 false d e refl h (i, o, refl)
   told p38 d e (i, o, h) = calmly p38 false d e refl h (rw i (refl, refl))
   told p40 d e h = calmly p40 (th .owner) d e refl h (on-the-way 40 _ _ _ (ends 40 _) refl)
-  told (swap united q) d e h = calmly (swap united q) (th .owner) d e (apart-united q) h (by-united (number (swap united q)) (probe q (s .nodes (s .nodes (th .main) .neighbour) .parent) (s .nodes) (s .root) (s .nodes (th .main) .neighbour)) (s .nodes (th .main)))
+  told (swap united q) d e h = calmly (swap united q) (th .owner) d e (apart-united q) h (by-united (number (swap united q)) (probe q (r .nodes (r .nodes (th .main) .neighbour) .parent) (r .nodes) (r .root) (r .nodes (th .main) .neighbour)) (r .nodes (th .main)))
   told p45 d e h = calmly p45 (th .owner) d e refl h refl
-  told p46 d e h = calmly p46 (th .owner) d e refl h (at-46 (s .nodes (th .main) .grandparent) (s .nodes (th .main)))
-  told p47 d e h = calmly p47 (th .owner) d e refl h (at-47 47 true (s .nodes (th .main) .grandparent) (s .nodes (th .main)))
-  told p48 d e h = calmly p48 (th .owner) d e refl h (at-48 (s .nodes (th .main) .grandparent) (s .nodes (th .main)))
-  told p49 d e h = calmly p49 (th .owner) d e refl h (at-47 49 false (s .nodes (th .main) .grandparent) (s .nodes (th .main)))
-  told p50 d e h = calmly p50 (th .owner) d e refl h (at-50 (s .nodes (th .main) .grandparent))
+  told p46 d e h = calmly p46 (th .owner) d e refl h (at-46 (r .nodes (th .main) .grandparent) (r .nodes (th .main)))
+  told p47 d e h = calmly p47 (th .owner) d e refl h (at-47 47 true (r .nodes (th .main) .grandparent) (r .nodes (th .main)))
+  told p48 d e h = calmly p48 (th .owner) d e refl h (at-48 (r .nodes (th .main) .grandparent) (r .nodes (th .main)))
+  told p49 d e h = calmly p49 (th .owner) d e refl h (at-47 49 false (r .nodes (th .main) .grandparent) (r .nodes (th .main)))
+  told p50 d e h = calmly p50 (th .owner) d e refl h (at-50 (r .nodes (th .main) .grandparent))
   told p51 d e h = calmly p51 (th .owner) d e refl h (ends 51 _)

@@ -16,7 +16,8 @@ use Rattle.definitions.specs.Records.{Result, refused, carried, taken, stepped,
 use Rattle.definitions.specs.Schedule.{Rec}
 use Rattle.definitions.specs.Reasons.{changes, succeeded, Reasoned, ReasonsOnward, ReasonsFrom, ReasonsRule}
 use Rattle.answers.proofs.Tools.{_==?_}
-use Rattle.answers.proofs.ReasonPlaces.{Stands, Told, told}
+use Rattle.answers.proofs.ReasonParts.{Stands, Told}
+use Rattle.answers.proofs.ReasonPlaces.{told}
 
 -- d: which threads' operations have made their change
 abbrev All : Bench → (ℕ → Bool) → Type 0
@@ -24,7 +25,7 @@ All b d = (t : ℕ) → Stands (b .threads t) (d t)
 
 -- ---- one record of action a and thread t
 
-module _ (b : Bench) (d : ℕ → Bool) (all : All b d) (t y : ℕ) where
+module _ (b : Bench) (d : ℕ → Bool) (all : All b d) (t y x : ℕ) where
   abbrev Kept : ℕ → Result → Type 0
   Kept a (refused _) = Unit {0}
   Kept a (carried b' w) = Reasoned w (b .threads t) (succeeded a t b b' d t) × All b' (succeeded a t b b' d)
@@ -41,15 +42,15 @@ module _ (b : Bench) (d : ℕ → Bool) (all : All b d) (t y : ℕ) where
   taken-kept (Finishes e a) k = (rw (eq-eqb t t refl) k, λ u. elim (u ==? t) [ yes q ↦ rw (eq-eqb u t q) tt | no q ↦ rw (ne-eqb u t q) (all u) ])
   taken-kept Full k = tt
 
-  steps-kept : Kept 0 (stepped b t y)
+  steps-kept : Kept 0 (stepped b t y x)
   unfolding stepped
-  steps-kept = pick 0 _ _ _ (pick 0 _ _ _ tt (taken-kept _ (told (b .store) (b .threads t) (placeOf (b .threads t .place)) (d t) refl (all t)))) tt
+  steps-kept = pick 0 _ _ _ (pick 0 _ _ _ (pick 0 _ _ _ tt (taken-kept _ (told (b .store) (b .threads t) (placeOf (b .threads t .place)) (d t) refl (all t)))) tt) tt
 
-  starts-kept : (n : ℕ) (a : Action) → Kept (suc n) (started b t a y)
+  starts-kept : (n : ℕ) (a : Action) → Kept (suc n) (started b t a y x)
   unfolding started
-  starts-kept n a = pick (suc n) _ _ _ tt (pick (suc n) _ _ _ (tt, λ u. elim (u ==? t) [ yes q ↦ rw (eq-eqb u t q) refl | no q ↦ rw (ne-eqb u t q) (all u) ]) tt)
+  starts-kept n a = pick (suc n) _ _ _ tt (pick (suc n) _ _ _ (pick (suc n) _ _ _ (tt, λ u. elim (u ==? t) [ yes q ↦ rw (eq-eqb u t q) refl | no q ↦ rw (ne-eqb u t q) (all u) ]) tt) tt)
 
-  acted-kept : (n : ℕ) → Kept n (acted n b t y)
+  acted-kept : (n : ℕ) → Kept n (acted n b t y x)
   acted-kept zero = steps-kept
   acted-kept (suc zero) = starts-kept 0 Lookup
   acted-kept (suc (suc zero)) = starts-kept 1 Insert
@@ -58,17 +59,17 @@ module _ (b : Bench) (d : ℕ → Bool) (all : All b d) (t y : ℕ) where
   acted-kept (suc (suc (suc (suc (suc zero))))) = starts-kept 4 Join
   acted-kept (suc (suc (suc (suc (suc (suc _)))))) = tt
 
-record-kept : (b : Bench) (d : ℕ → Bool) (all : All b d) (x y : ℕ) → Kept b d all (x / 16) y (x % 16) (recordStep b x y)
+record-kept : (b : Bench) (d : ℕ → Bool) (all : All b d) (x y z : ℕ) → Kept b d all (x / 16) y z (x % 16) (recordStep b x y z)
 unfolding recordStep
-record-kept b d all x y = pick b d all (x / 16) y (x % 16) _ _ _ tt (acted-kept b d all (x / 16) y (x % 16))
+record-kept b d all x y z = pick b d all (x / 16) y z (x % 16) _ _ _ tt (acted-kept b d all (x / 16) y z (x % 16))
 
 -- ---- every list
 
 along : (rs : List Rec) (b : Bench) (d : ℕ → Bool) → All b d → ReasonsFrom rs b d
 along [] b d all = tt
-along (r ∷ rs) b d all = go (recordStep b (r .first) (r .second)) (record-kept b d all (r .first) (r .second)) (λ b' d'. along rs b' d')
+along (r ∷ rs) b d all = go (recordStep b (r .first) (r .second) (r .extra)) (record-kept b d all (r .first) (r .second) (r .extra)) (λ b' d'. along rs b' d')
   where
-    go : (res : Result) → Kept b d all (r .first / 16) (r .second) (r .first % 16) res → ((b' : Bench) (d' : ℕ → Bool) → All b' d' → ReasonsFrom rs b' d')
+    go : (res : Result) → Kept b d all (r .first / 16) (r .second) (r .extra) (r .first % 16) res → ((b' : Bench) (d' : ℕ → Bool) → All b' d' → ReasonsFrom rs b' d')
         → ReasonsOnward res b r d (λ b' d'. ReasonsFrom rs b' d')
     go (refused _) k ih = tt
     go (carried b' w) (k, all') ih = (k, ih b' _ all')

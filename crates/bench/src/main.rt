@@ -26,7 +26,7 @@ fn main() {
         return;
     }
     // one byte more than the longest schedule
-    let mut file = [0u8; 8196];
+    let mut file = [0u8; 16388];
     let n = io::read_full(0, &mut file);
     let mut out = io::large_buffer();
     let length = printed::print_run(&file[..n], &mut out);

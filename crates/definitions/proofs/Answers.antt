@@ -1,14 +1,15 @@
--- An answer is told by its number, so that a row's last byte prints the word of its answer. Assumes nothing.
+-- An answer as a row has it is told by its number, so that a row's last byte prints the word of its answer. Assumes nothing.
 use Prim.Native.Nat.{ℕ}
-use mathlib.Core.Path.{_≡_, refl, ap}
+use mathlib.Core.Path.{_≡_, refl}
 use mathlib.Core.List.{List}
-use Rattle.definitions.specs.Answers.{rendered, answerNumber, answerOf, answerWord}
+use Rattle.definitions.specs.Answers.{rendered, answerNumber, answerOf, answerWord, shown}
 use Rattle.definitions.specs.declared.Answer.{Answer}
-use Rattle.definitions.specs.declared.Answer.the-variants.{No, Yes, Lacking, Blocked, Lost, NeighbourBlocked, StoodDown, Stopped}
+use Rattle.definitions.specs.declared.Answer.the-variants.{No, Yes, At, Lacking, Blocked, Lost, NeighbourBlocked, StoodDown, Stopped}
 
-pub answer-told : (a : Answer) → answerOf (answerNumber a) ≡ a
+pub answer-told : (a : Answer) → answerOf (answerNumber a) ≡ shown a
 answer-told No = refl
 answer-told Yes = refl
+answer-told (At x) = refl
 answer-told Lacking = refl
 answer-told Blocked = refl
 answer-told Lost = refl
@@ -17,4 +18,12 @@ answer-told StoodDown = refl
 answer-told Stopped = refl
 
 pub word-told : (a : Answer) → answerWord (answerNumber a) ≡ rendered a .1
-word-told a = ap {A = Answer} {B = List ℕ} (λ b. rendered b .1) (answer-told a)
+word-told No = refl
+word-told Yes = refl
+word-told (At x) = refl
+word-told Lacking = refl
+word-told Blocked = refl
+word-told Lost = refl
+word-told NeighbourBlocked = refl
+word-told StoodDown = refl
+word-told Stopped = refl

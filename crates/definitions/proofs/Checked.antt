@@ -7,9 +7,9 @@ use Rattle.definitions.specs.declared.Kind.the-variants.{Normal, Route, 
 use Rattle.definitions.specs.declared.Stage.{Stage}
 use Rattle.definitions.specs.declared.Stage.the-variants.{Preparing, Completing, Aborted, Done}
 use Rattle.definitions.specs.declared.Check.{Check}
-use Rattle.definitions.specs.Nodes.{Nodes, Means, checkStage, checkAs, check, CheckRule}
+use Rattle.definitions.specs.Nodes.{Shapes, Means, checkStage, checkAs, check, CheckRule}
 
-module _ (n : Nodes) (x : ℕ) where
+module _ (n : Shapes) (x : ℕ) where
   -- by the stage of its main
   main-means : (v : Stage) → n x .kind ≡ Main → n x .stage ≡ v → Means (checkStage v x Check.Stale) n x
   main-means Preparing k e = (inl (k, refl), e)

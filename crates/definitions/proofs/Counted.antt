@@ -6,12 +6,13 @@ use Prim.Native.Nat.{ℕ, zero, suc, _+_, _≤_}
 use native.Mathlib.Omega.{arith}
 use native.Mathlib.Decide.{decLt}
 use Rattle.container.specs.Choice.{ite}
+use Rattle.container.specs.Depths.{merge, within}
 use Rattle.container.specs.Container.{all, has, cut, below, from, size}
 use Rattle.container.proofs.Digits.{on, off, test}
 use Rattle.container.proofs.Laws.{has-union, has-cut, below-in, below-out, from-in, from-out, size-apart, size-le}
 use Rattle.definitions.specs.Nodes.{Nodes, isRoute}
 use Rattle.definitions.specs.Bench.{Bench}
-use Rattle.definitions.specs.Tree.{setBelow, treeSet, storedBelow, stored}
+use Rattle.definitions.specs.Tree.{heldBelow, treeHeld, storedBelow, stored}
 use Rattle.definitions.specs.Stored.{Counted}
 
 and-off : (b : Bool) → b && false ≡ false
@@ -24,13 +25,13 @@ cut-out c range s h = has-cut c range s ∙ rw h (and-off (has c s))
 -- ---- what is found below a node lies in the range
 
 module _ (n : Nodes) (s : ℕ) where
-  inside : (k x range : ℕ) → has range s ≡ false → has (setBelow k n x range) s ≡ false
-  unfolding setBelow ite
-  inside zero x range h = cut-out (n x .container) range s h
+  inside : (k x range : ℕ) → has range s ≡ false → has (heldBelow k n x range .set) s ≡ false
+  unfolding heldBelow merge within ite
+  inside zero x range h = cut-out (n x .container .set) range s h
   inside (suc k) x range h = elim (test (isRoute (n x .kind))) [
-    | on e ↦ rw e (has-union (setBelow k n (n x .left) (below (n x .key) range)) (setBelow k n (n x .right) (from (n x .key) range)) s
+    | on e ↦ rw e (has-union (heldBelow k n (n x .left) (below (n x .key) range) .set) (heldBelow k n (n x .right) (from (n x .key) range) .set) s
         ∙ rw (inside k (n x .left) (below (n x .key) range) in-below, inside k (n x .right) (from (n x .key) range) in-from))
-    | off e ↦ rw e (cut-out (n x .container) range s h)
+    | off e ↦ rw e (cut-out (n x .container .set) range s h)
   ]
     where
       in-below : has (below (n x .key) range) s ≡ false
@@ -40,14 +41,14 @@ module _ (n : Nodes) (s : ℕ) where
       in-from = elim (decLt s (n x .key)) [ yes l ↦ from-out (n x .key) range s l | no l ↦ from-in (n x .key) range s (omega arith) ∙ h ]
 
   -- so no station is found on both sides of a key
-  apart : (k l r key range : ℕ) → has (setBelow k n l (below key range)) s && has (setBelow k n r (from key range)) s ≡ false
+  apart : (k l r key range : ℕ) → has (heldBelow k n l (below key range) .set) s && has (heldBelow k n r (from key range) .set) s ≡ false
   apart k l r key range = elim (decLt s key) [
-    | yes h ↦ rw (inside k r (from key range) (from-out key range s h)) (and-off (has (setBelow k n l (below key range)) s))
+    | yes h ↦ rw (inside k r (from key range) (from-out key range s h)) (and-off (has (heldBelow k n l (below key range) .set) s))
     | no h ↦ rw (inside k l (below key range) (below-out key range s (omega arith)))
   ]
 
-pub below-counted : (k : ℕ) (n : Nodes) (x range : ℕ) → storedBelow k n x range ≡ size (setBelow k n x range)
-unfolding setBelow storedBelow ite
+pub below-counted : (k : ℕ) (n : Nodes) (x range : ℕ) → storedBelow k n x range ≡ size (heldBelow k n x range .set)
+unfolding heldBelow storedBelow merge within ite
 below-counted zero n x range = refl
 below-counted (suc k) n x range = elim (test (isRoute (n x .kind))) [
   | on e ↦ rw e (ap₂ (λ (a b : ℕ). a + b) (below-counted k n (n x .left) (below (n x .key) range)) (below-counted k n (n x .right) (from (n x .key) range))
@@ -57,10 +58,10 @@ below-counted (suc k) n x range = elim (test (isRoute (n x .kind))) [
 
 -- so the sum never passes 64, from whatever node it starts
 pub below-le : (k : ℕ) (n : Nodes) (x range : ℕ) → storedBelow k n x range ≤ 64
-below-le k n x range = rw (below-counted k n x range) (size-le (setBelow k n x range))
+below-le k n x range = rw (below-counted k n x range) (size-le (heldBelow k n x range .set))
 
 -- ---- every bench
 
 pub counted : (b : Bench) → Counted b
-unfolding stored treeSet
+unfolding stored treeHeld
 counted b = below-counted 63 (b .store .nodes) (b .store .root) all

@@ -4,12 +4,14 @@ use mathlib.Core.List.{List, [], _∷_, _++_}
 use Prim.Native.Nat.{ℕ, _-_}
 use Rattle.container.specs.Choice.{ite}
 use Rattle.container.specs.Container.{has, insert, remove, union, cut, below, from, size, least, dropLeast, upperHalf, lowerHalf, splitKey}
+use Rattle.container.specs.Depths.{put, takeOut, merge, within, lower, upper}
 use lib.Count.{onesIn, trailingZeros}
 use lib.ListN.{length, replicate}
 use Rattle.definitions.specs.Nodes.{check, replaceable}
 use Rattle.definitions.specs.Steps.{reached, blocked, lacks, cleared, lost, probe, replaced, beside, step}
 use Rattle.definitions.specs.Records.{taken, stepped, started, recordStep}
-use Rattle.definitions.specs.Schedule.{countOf, fileRefusal, recordsOf}
+use Rattle.definitions.specs.Schedule.{countOf, recordAt, fileRefusal, recordsOf}
+use Rattle.definitions.specs.Merge.{fault}
 use Rattle.definitions.specs.Run.{advance, after}
 use Rattle.definitions.specs.Written.{written, writtenRefusal, writtenReport, writtenBuffer}
 use Rattle.definitions.specs.declared.Written.{Written}
@@ -122,5 +124,5 @@ outcomes f [] = []
 outcomes f (c ∷ cs) = f c ∷ outcomes f cs
 
 pub written-so : outcomes outcome cases ≡ outcomes expected cases
-unfolding ite countOf fileRefusal recordsOf advance after written writtenRefusal writtenReport writtenBuffer check replaceable reached blocked lacks cleared lost probe replaced beside step taken stepped started recordStep has insert remove union cut below from size least dropLeast upperHalf lowerHalf splitKey onesIn trailingZeros
+unfolding ite countOf recordAt fileRefusal fault put takeOut merge within lower upper recordsOf advance after written writtenRefusal writtenReport writtenBuffer check replaceable reached blocked lacks cleared lost probe replaced beside step taken stepped started recordStep has insert remove union cut below from size least dropLeast upperHalf lowerHalf splitKey onesIn trailingZeros
 written-so = refl

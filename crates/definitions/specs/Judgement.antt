@@ -7,7 +7,7 @@ use mathlib.Core.Bool.{Bool, true, false, not, cond}
 use mathlib.Core.List.{List, [], _∷_, _++_}
 use lib.Dec.{eqb, ltb}
 use lib.ListN.{length, replicate}
-use Rattle.definitions.specs.Plain.{settled}
+use Rattle.definitions.specs.PlainSet.{settled}
 use Rattle.definitions.specs.declared.Action.{Action}
 use Rattle.definitions.specs.declared.Action.the-variants.{Lookup, Insert, Remove, Split, Join}
 use Rattle.definitions.specs.History.{Operation, Operations, readingOf, historyRefusal}

@@ -4,8 +4,15 @@ use mathlib.Core.List.{List, [], _∷_, _++_}
 use lib.Dec.{eqb, ltb}
 use lib.ListN.{length, getD, take, drop}
 use Rattle.container.specs.Choice.{ite}
-use Rattle.definitions.specs.Schedule.{countOf, firstByte, secondByte, fileRefusal}
+use Rattle.definitions.specs.Schedule.{countOf, fileRefusal}
 use Rattle.definitions.specs.Run.{overlay}
+
+-- the bytes of record k of a version 1 file, counted from 0
+abbrev pub firstByte : List ℕ → ℕ → ℕ
+firstByte file k = getD file (3 + 2 * k) 0
+
+abbrev pub secondByte : List ℕ → ℕ → ℕ
+secondByte file k = getD file (4 + 2 * k) 0
 
 -- ---- the refusals
 

@@ -8,14 +8,14 @@ use lib.Dec.{eqb, ltb, leb}
 use Rattle.container.specs.Choice.{upd}
 use Rattle.definitions.specs.Nodes.{isPreparing, isCompleting}
 use Rattle.definitions.specs.Bench.{Store, Bench, fresh}
+use Rattle.definitions.specs.declared.Thread.{Thread}
 use Rattle.definitions.specs.Records.{Row, noRow, row, Result, refused, carried, recordStep}
 use Rattle.definitions.specs.Answers.{isYes}
 use Rattle.definitions.specs.Schedule.{Rec}
 use Rattle.definitions.specs.declared.Action.{Action}
 use Rattle.definitions.specs.declared.Action.the-variants.{Lookup, Insert, Remove, Split, Join}
-use Rattle.definitions.specs.declared.Thread.{Thread}
 use Rattle.definitions.specs.declared.Answer.{Answer}
-use Rattle.definitions.specs.declared.Answer.the-variants.{No, Yes, Lacking, Blocked, Lost, NeighbourBlocked, StoodDown, Stopped}
+use Rattle.definitions.specs.declared.Answer.the-variants.{No, Yes, At, Lacking, Blocked, Lost, NeighbourBlocked, StoodDown, Stopped}
 
 -- ---- whether an operation has succeeded
 
@@ -36,10 +36,11 @@ succeeded (suc _) t b b' d = upd d t false
 -- ---- what is claimed of a row
 
 -- the places that a split or join answers at: "4 a swap lost at places 10 to 13 or 25, or the base gone from its parent there or at 21,
--- 5 neighbour not replaceable [24], 6 stood down at place 38"; 7 is not given yet; 2 and 3 are given at place 3; 0 is no longer given
+-- 5 neighbour not replaceable [24], 6 stood down at place 38"; 7 is not given yet; 2 and 3 are given at place 3, 0 never
 abbrev pub GivenAt : Answer → ℕ → Type 0
 GivenAt No place = ⊥
 GivenAt Yes place = Unit {0}
+GivenAt (At x) place = ⊥
 GivenAt Lacking place = place ≡ 3
 GivenAt Blocked place = place ≡ 3
 GivenAt Lost place = ((10 ≤ place) × (place ≤ 13)) ⊎ ((place ≡ 21) ⊎ (place ≡ 25))
@@ -59,7 +60,7 @@ Reason Join place d a = (isYes a ≡ d) × GivenAt a place
 -- th is the row's thread before its last step
 abbrev pub Reasoned : Row → Thread → Bool → Type 0
 Reasoned noRow th d = Unit {0}
-Reasoned (row a) th d = Reason (th .action) (th .place) d a
+Reasoned (row a _ _) th d = Reason (th .action) (th .place) d a
 
 -- ---- the rule
 
@@ -71,7 +72,7 @@ ReasonsOnward (carried b' w) b r d C =
 
 abbrev pub ReasonsFrom : List Rec → Bench → (ℕ → Bool) → Type 0
 ReasonsFrom [] b d = Unit {0}
-ReasonsFrom (r ∷ rs) b d = ReasonsOnward (recordStep b (r .first) (r .second)) b r d (λ b' d'. ReasonsFrom rs b' d')
+ReasonsFrom (r ∷ rs) b d = ReasonsOnward (recordStep b (r .first) (r .second) (r .extra)) b r d (λ b' d'. ReasonsFrom rs b' d')
 
 abbrev pub ReasonsRule : Type 0
 ReasonsRule = (rs : List Rec) → ReasonsFrom rs fresh (λ _. false)

@@ -11,7 +11,8 @@ use Rattle.definitions.specs.Bench.{Bench, fresh}
 use Rattle.definitions.specs.Answers.{answerNumber}
 use Rattle.definitions.specs.Records.{Row, noRow, row, Result, refused, carried, recordStep, actionNumber, isIdle}
 use Rattle.definitions.specs.Run.{Progress, ended, overlay}
-use Rattle.definitions.specs.Schedule.{Rec, recordsOf, countOf, fileRefusal}
+use Rattle.definitions.specs.Schedule.{Rec, version, recordsOf, countOf}
+use Rattle.definitions.specs.Merge.{fault}
 use Rattle.definitions.specs.History.{Event}
 use Rattle.definitions.specs.Judgement.{Judgement}
 use Rattle.definitions.specs.declared.Answer.{Answer}
@@ -28,7 +29,7 @@ finishMark a = suc (answerNumber a)
 -- `rowBytes` of Run.antt has it: thread, action, station, answer
 abbrev pub eventOf : ℕ → Bench → Rec → Row → List Event
 eventOf zero b r noRow = []
-eventOf zero b r (row a) =
+eventOf zero b r (row a d c) =
     record { thread = r .first / 16; action = actionNumber (b .threads (r .first / 16) .action); station = b .threads (r .first / 16) .station; mark = finishMark a } ∷ []
 eventOf (suc n) b r w = record { thread = r .first / 16; action = suc n; station = r .second; mark = 0 } ∷ []
 
@@ -39,7 +40,7 @@ eventsBy (carried b' w) b r onward = eventOf (r .first % 16) b r w ++ onward b'
 -- "in turn order"; "the first one refused ends the run" (01)
 abbrev pub eventsFrom : List Rec → Bench → List Event
 eventsFrom [] b = []
-eventsFrom (r ∷ rs) b = eventsBy (recordStep b (r .first) (r .second)) b r (λ b'. eventsFrom rs b')
+eventsFrom (r ∷ rs) b = eventsBy (recordStep b (r .first) (r .second) (r .extra)) b r (λ b'. eventsFrom rs b')
 
 -- the events of a schedule's run
 abbrev pub runEvents : List ℕ → List Event
@@ -59,9 +60,9 @@ written file = historyOf (runEvents file)
 
 -- ---- what History hands back
 
--- Run's refusals 1 to 4 of the schedule, then a buffer under 3 + 4 × count bytes (5); n is the buffer's length
+-- the refusals 1 to 4 of a schedule that must be of version 1, as Merge's, then a buffer under 3 + 4 × count bytes (5); n is the buffer's length
 unfoldable pub writtenRefusal : List ℕ → ℕ → ℕ
-writtenRefusal file n = ite (eqb (fileRefusal file) 0) (ite (ltb n (3 + 4 * countOf file)) 5 0) (fileRefusal file)
+writtenRefusal file n = ite (eqb (fault file) 0) (ite (ltb n (3 + 4 * countOf file)) 5 0) (fault file)
 
 -- the refusal of the record that ended the run (0 for none) and the history's length; on a refusal 1 to 5 the length is 0
 unfoldable pub writtenReport : List ℕ → ℕ → Written
@@ -107,6 +108,6 @@ pub record Passes (file : List ℕ) : Type 0 where
   pub rows : ended file .rows ≡ rowsOf (runEvents file)
   pub judged : (r : Judged) → Judgement (written file) r → (r .refusal ≡ 0) × (r .accepted ≡ true)
 
--- the claim, of every file
+-- the claim, of every file of version 1
 abbrev pub RunsPass : Type 0
-RunsPass = (file : List ℕ) → OnlyThree (runEvents file) → starts (runEvents file) ≤ 12 → AllFinished (ended file .bench) → Passes file
+RunsPass = (file : List ℕ) → version file ≡ 1 → OnlyThree (runEvents file) → starts (runEvents file) ≤ 12 → AllFinished (ended file .bench) → Passes file

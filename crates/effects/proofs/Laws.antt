@@ -1,79 +1,206 @@
 -- The cases of an effect, each with the code's own facts as premises. Assumes nothing.
-use mathlib.Core.Path.{_≡_, _∙_, ap}
+use mathlib.Core.Path.{_≡_, refl, _∙_, ap, fun-ext}
 use mathlib.Core.Bool.{Bool, false}
 use Prim.Native.Nat.{ℕ, _+_}
 use native.Mathlib.Numerals.{add-one}
+use native.Mathlib.Decide.{ℕ-discrete}
+use borrow.Author.Tests.{eq-eqb, ne-eqb}
 use Rattle.container.specs.Choice.{upd}
-use Rattle.definitions.specs.Nodes.{Nodes, newBase, newRoute, withKid, withMark, withValid, withStage, committed}
+use Rattle.container.specs.Container.{insert, remove, union, upperHalf, lowerHalf}
+use Rattle.container.specs.Depths.{container, put, takeOut, merge, lower, upper}
+use Rattle.depths.specs.Rows.{Rows, changed, selected, full}
+use Rattle.definitions.specs.Nodes.{Nodes, Shapes, entry, over, newBase, newRoute, withKid, withMark, withValid, withStage, committed}
 use Rattle.definitions.specs.Bench.{store}
-use Rattle.definitions.specs.Effects.{hang, forked, perform}
-use Rattle.effects.specs.Used.{usedAfter}
+use Rattle.definitions.specs.Effects.{hang, contentOf, forked, perform}
+use Rattle.effects.specs.Used.{usedAfter, baseShape, setOf, forkShapes, Hung, depthsOf, deepened, Applied}
 use Rattle.definitions.specs.declared.Link.{Link}
 use Rattle.definitions.specs.declared.Link.the-variants.{To}
+use Rattle.definitions.specs.declared.Node.{Node}
 use Rattle.definitions.specs.declared.Kind.{Kind}
 use Rattle.definitions.specs.declared.Kind.the-variants.{Normal, Neighbour}
 use Rattle.definitions.specs.declared.Stage.{Stage}
 use Rattle.definitions.specs.declared.Spot.{Spot}
 use Rattle.definitions.specs.declared.Spot.the-variants.{Root, Under}
+use Rattle.definitions.specs.declared.Content.{Content}
+use Rattle.definitions.specs.declared.Content.the-variants.{Of, With, Without}
 use Rattle.definitions.specs.declared.Effect.{Effect}
 use Rattle.definitions.specs.declared.Effect.the-variants.{Quiet, Mark, Settle, Invalid, Swing, Base, Fork, Commit}
 
--- ---- a node is put at a spot: n' is the table after it
-module _ (n : Nodes) (o u x : ℕ) {v : Spot} where
-  pub hang-root : v ≡ Root → store n x u ≡ hang v x (store n o u)
-  hang-root q = rw q
+-- ---- one node of the table with its depths
 
-  pub hang-under : {n' : Nodes} (r : ℕ) (d : Bool) → v ≡ Under r d → n' ≡ upd n r (withKid d x (n r)) → store n' o u ≡ hang v x (store n o u)
-  hang-under r d q h = rw (q, h)
+full-same : (t : Shapes) (d : Rows) (x : ℕ) (v : Node) → full (upd t x v) d ≡ upd (full t d) x (entry v (d x))
+full-same t d x v = fun-ext (λ j. elim (ℕ-discrete j x) [ yes e ↦ rw (e, eq-eqb x x refl) | no e ↦ rw (ne-eqb j x e) ])
+
+full-new : (t : Shapes) (d : Rows) (x : ℕ) (v : Node) (r : ℕ → ℕ) → full (upd t x v) (upd d x r) ≡ upd (full t d) x (entry v r)
+full-new t d x v r = fun-ext (λ j. elim (ℕ-discrete j x) [ yes e ↦ rw (e, eq-eqb x x refl) | no e ↦ rw (ne-eqb j x e) ])
+
+upd-at : (d : Rows) (x : ℕ) (r : ℕ → ℕ) → upd d x r x ≡ r
+upd-at d x r = rw (eq-eqb x x refl)
+
+upd-again : (d : Rows) (x : ℕ) (r s : ℕ → ℕ) → upd (upd d x r) x s ≡ upd d x s
+upd-again d x r s = fun-ext (λ j. elim (ℕ-discrete j x) [ yes e ↦ rw (e, eq-eqb x x refl) | no e ↦ rw (ne-eqb j x e) ])
+
+-- a row copied elsewhere leaves itself
+upd-own : (d : Rows) (x y : ℕ) → upd d x (d y) y ≡ d y
+upd-own d x y = elim (ℕ-discrete y x) [ yes e ↦ rw (eq-eqb y x e) | no e ↦ rw (ne-eqb y x e) ]
+
+-- ---- a node is put at a spot: t' is the table after it
+module _ (t : Shapes) (o u x : ℕ) {v : Spot} where
+  pub hang-root : v ≡ Root → Hung t o u v x t x
+  hang-root q d = rw q
+
+  pub hang-under : {t' : Shapes} (r : ℕ) (b : Bool) → v ≡ Under r b → t' ≡ upd t r (withKid b x (t r)) → Hung t o u v x t' o
+  hang-under r b q h d = rw (q, h) (ap (λ n. store n o u) (full-same t d r (withKid b x (t r))))
 
 -- ---- it is the same with any count of the numbers used: w for u
 pub hang-used : (v : Spot) (x : ℕ) (n : Nodes) (o : ℕ) {n' : Nodes} {y u : ℕ} (w : ℕ) → store n' y u ≡ hang v x (store n o u) → store n' y w ≡ hang v x (store n o w)
 hang-used Root x n o w h = ap (λ s. store (s .nodes) (s .root) w) h
 hang-used (Under r d) x n o w h = ap (λ s. store (s .nodes) (s .root) w) h
 
--- ---- a route and its two bases: n₁ and n₂ are the tables between
-pub fork-made : (n : Nodes) (x l r k low high : ℕ) {n₁ n₂ n₃ : Nodes} → n₁ ≡ upd n x (newRoute k l r) → n₂ ≡ upd n₁ l (newBase Normal (To x) low 0) → n₃ ≡ upd n₂ r (newBase Normal (To x) high 0) → n₃ ≡ forked x l r k low high n
-fork-made n x l r k low high e f g = rw (g, f, e)
+-- ---- the set of a new base: n is the node y
+module _ (t : Shapes) {c : Content} {n : Node} where
+  pub set-same : (y : ℕ) → c ≡ Of y → n ≡ t y → n .container ≡ setOf c t
+  set-same y q e = rw (q, e)
+
+  pub set-with : {w : ℕ} (y s v : ℕ) → c ≡ With y s v → n ≡ t y → w ≡ insert (n .container) s → w ≡ setOf c t
+  set-with y s v q e i = rw (q, i, e)
+
+  pub set-without : {w : ℕ} (y s : ℕ) → c ≡ Without y s → n ≡ t y → w ≡ remove (n .container) s → w ≡ setOf c t
+  set-without y s q e i = rw (q, i, e)
+
+-- its container
+content-made : (c : Content) (t : Shapes) (d : Rows) → container (setOf c t) (depthsOf c d) ≡ contentOf c (full t d)
+unfolding put takeOut
+content-made (Of y) t d = refl
+content-made (With y s v) t d = refl
+content-made (Without y s) t d = refl
+
+-- ---- a route and its two bases: t₁ and t₂ are the tables between
+pub fork-put : (t : Shapes) (x l r k c : ℕ) {low high : ℕ} {t₁ t₂ t₃ : Shapes} → low ≡ lowerHalf c → high ≡ upperHalf c → t₁ ≡ upd t x (newRoute k l r)
+    → t₂ ≡ upd t₁ l (baseShape Normal (To x) low 0) → t₃ ≡ upd t₂ r (baseShape Normal (To x) high 0) → t₃ ≡ forkShapes x l r k c t
+fork-put t x l r k c i j g₁ g₂ g₃ = rw (g₃, g₂, g₁, i, j)
+
+-- with the depths of the base y that is split
+fork-made : (t : Shapes) (d : Rows) (x l r k y : ℕ) → full (forkShapes x l r k (t y .container) t) (upd (upd (upd d x (d y)) l (d y)) r (d y)) ≡ forked x l r k (full t d y .container) (full t d)
+unfolding lower upper
+fork-made t d x l r k y =
+    let t₁ : Shapes = upd t x (newRoute k l r) in
+    let t₂ : Shapes = upd t₁ l (baseShape Normal (To x) (lowerHalf (t y .container)) 0) in
+    let d₁ : Rows = upd d x (d y) in
+    let d₂ : Rows = upd d₁ l (d y) in
+    full-new t₂ d₂ r (baseShape Normal (To x) (upperHalf (t y .container)) 0) (d y) ∙ rw (full-new t₁ d₁ l (baseShape Normal (To x) (lowerHalf (t y .container)) 0) (d y), full-new t d x (newRoute k l r) (d y))
+
+-- ---- the union of the containers of a and b
+union-made : (t : Shapes) (d : Rows) (x : ℕ) (p : Link) (a b : ℕ)
+    → full (upd t x (baseShape Neighbour p (union (t a .container) (t b .container)) a)) (upd d x (selected (t a .container) (d a) (d b))) ≡ upd (full t d) x (newBase Neighbour p (merge (full t d a .container) (full t d b .container)) a)
+unfolding merge
+union-made t d x p a b = full-new t d x _ _
 
 -- ---- the numbers used after an effect that makes nodes
 module _ (u : ℕ) {e : Effect} where
-  pub used-base : (v : Spot) (x : ℕ) (k : Kind) (p : Link) (c m : ℕ) → e ≡ Base v x k p c m → x + 1 ≡ usedAfter u e
+  pub used-base : (v : Spot) (x : ℕ) (k : Kind) (p : Link) (c : Content) (m : ℕ) → e ≡ Base v x k p c m → x + 1 ≡ usedAfter u e
   used-base v x k p c m q = rw q
 
-  pub used-fork : (v : Spot) (x l r k low high : ℕ) → e ≡ Fork v x l r k low high → x + 3 ≡ usedAfter u e
-  used-fork v x l r k low high q = rw q
+  pub used-fork : (v : Spot) (x l r k y : ℕ) → e ≡ Fork v x l r k y → x + 3 ≡ usedAfter u e
+  used-fork v x l r k y q = rw q
 
-  pub used-commit : (m x : ℕ) (p : Link) (c b : ℕ) (g : Link) (w : ℕ) → e ≡ Commit m x p c b g w → x + 1 ≡ usedAfter u e
-  used-commit m x p c b g w q = rw q
+  pub used-commit : (m x : ℕ) (p : Link) (b : ℕ) (g : Link) (w : ℕ) → e ≡ Commit m x p b g w → x + 1 ≡ usedAfter u e
+  used-commit m x p b g w q = rw q
 
--- ---- an effect: n₁ is the table with the new nodes, n' and y the table and the root after it
-module _ (n : Nodes) (o u : ℕ) {e : Effect} where
-  pub apply-quiet : e ≡ Quiet → store n o (usedAfter u e) ≡ perform e (store n o u)
-  apply-quiet q = rw q
+-- ---- an effect on the nodes: t₁ is the table with the new nodes, t' and y the table and the root after it
+module _ (t : Shapes) (o u : ℕ) {e : Effect} where
+  pub apply-quiet : e ≡ Quiet → Applied t o u e t o
+  apply-quiet q = record { stored = λ d. rw q }
 
-  pub apply-mark : {n' : Nodes} (r : ℕ) (l : Link) → e ≡ Mark r l → n' ≡ upd n r (withMark l (n r)) → store n' o (usedAfter u e) ≡ perform e (store n o u)
-  apply-mark r l q h = rw (q, h)
+  pub apply-mark : {t' : Shapes} (r : ℕ) (l : Link) → e ≡ Mark r l → t' ≡ upd t r (withMark l (t r)) → Applied t o u e t' o
+  apply-mark r l q h = record { stored = λ d. rw (q, h) (ap (λ n. store n o u) (full-same t d r _)) }
 
-  pub apply-settle : {n' : Nodes} (m : ℕ) (s : Stage) → e ≡ Settle m s → n' ≡ upd n m (withStage s (n m)) → store n' o (usedAfter u e) ≡ perform e (store n o u)
-  apply-settle m s q h = rw (q, h)
+  pub apply-settle : {t' : Shapes} (m : ℕ) (s : Stage) → e ≡ Settle m s → t' ≡ upd t m (withStage s (t m)) → Applied t o u e t' o
+  apply-settle m s q h = record { stored = λ d. rw (q, h) (ap (λ n. store n o u) (full-same t d m _)) }
 
-  pub apply-invalid : {n' : Nodes} (r : ℕ) → e ≡ Invalid r → n' ≡ upd n r (withValid false (n r)) → store n' o (usedAfter u e) ≡ perform e (store n o u)
-  apply-invalid r q h = rw (q, h)
+  pub apply-invalid : {t' : Shapes} (r : ℕ) → e ≡ Invalid r → t' ≡ upd t r (withValid false (t r)) → Applied t o u e t' o
+  apply-invalid r q h = record { stored = λ d. rw (q, h) (ap (λ n. store n o u) (full-same t d r _)) }
 
-  pub apply-swing : {n' : Nodes} {y : ℕ} (v : Spot) (x : ℕ) → e ≡ Swing v x → store n' y u ≡ hang v x (store n o u) → store n' y (usedAfter u e) ≡ perform e (store n o u)
-  apply-swing v x q h = rw q h
+  pub apply-swing : {t' : Shapes} {y : ℕ} (v : Spot) (x : ℕ) → e ≡ Swing v x → Hung t o u v x t' y → Applied t o u e t' y
+  apply-swing v x q h = record { stored = λ d. rw q (h d) }
 
-  pub apply-base : {n₁ n' : Nodes} {y : ℕ} (v : Spot) (x : ℕ) (k : Kind) (p : Link) (c m : ℕ) → e ≡ Base v x k p c m → n₁ ≡ upd n x (newBase k p c m) → store n' y u ≡ hang v x (store n₁ o u) → store n' y (usedAfter u e) ≡ perform e (store n o u)
-  apply-base v x k p c m q h i = rw q (hang-used v x _ o (x + 1) i ∙ rw (h, add-one))
+  pub apply-base : {t₁ t' : Shapes} {y w : ℕ} (v : Spot) (x : ℕ) (k : Kind) (p : Link) (c : Content) (m : ℕ) → e ≡ Base v x k p c m → w ≡ setOf c t → t₁ ≡ upd t x (baseShape k p w m) → Hung t₁ o u v x t' y → Applied t o u e t' y
+  apply-base {t₁} {t'} {y} {w} v x k p c m q i h j = record {
+    stored = λ d. rw q (
+        hang-used v x (full t₁ (upd d x (depthsOf c d))) o (x + 1) (j (upd d x (depthsOf c d)))
+        ∙ rw (h, i, full-new t d x (baseShape k p (setOf c t) m) (depthsOf c d), ← content-made c t d, add-one)
+        );
+  }
 
-  pub apply-fork : {n₁ n' : Nodes} {y : ℕ} (v : Spot) (x l r k low high : ℕ) → e ≡ Fork v x l r k low high → n₁ ≡ forked x l r k low high n → store n' y u ≡ hang v x (store n₁ o u) → store n' y (usedAfter u e) ≡ perform e (store n o u)
-  apply-fork v x l r k low high q h i = rw q (hang-used v x _ o (x + 3) i ∙ rw h)
+  pub apply-fork : {t₁ t' : Shapes} {y : ℕ} {n : Node} (v : Spot) (x l r k z : ℕ) → e ≡ Fork v x l r k z → n ≡ t z → t₁ ≡ forkShapes x l r k (n .container) t → Hung t₁ o u v x t' y → Applied t o u e t' y
+  apply-fork {t₁} {t'} {y} {n} v x l r k z q f h i = record {
+    stored = λ d. rw q (
+        hang-used v x (full t₁ (upd (upd (upd d x (d z)) l (d z)) r (d z))) o (x + 3) (i (upd (upd (upd d x (d z)) l (d z)) r (d z)))
+        ∙ rw (h, f) (ap (λ a. hang v x (store a o (x + 3))) (fork-made t d x l r k z))
+        );
+  }
 
-  pub apply-commit : {n₁ n' : Nodes} (m x : ℕ) (p : Link) (c b : ℕ) (g : Link) (w : ℕ) → e ≡ Commit m x p c b g w → n₁ ≡ upd n x (newBase Neighbour p c m) → n' ≡ upd n₁ m (committed x b g w (n₁ m)) → store n' o (usedAfter u e) ≡ perform e (store n o u)
-  apply-commit m x p c b g w q h i = rw (i, h, q, add-one)
+  pub apply-commit : {t₁ t' : Shapes} {c : ℕ} {a z : Node} (m x : ℕ) (p : Link) (b : ℕ) (g : Link) (w : ℕ) → e ≡ Commit m x p b g w → a ≡ t m → z ≡ t b → c ≡ union (a .container) (z .container)
+      → t₁ ≡ upd t x (baseShape Neighbour p c m) → t' ≡ upd t₁ m (committed x b g w (t₁ m)) → Applied t o u e t' o
+  apply-commit {t₁} {t'} {c} {a} {z} m x p b g w q i j k h l = record {
+    stored = λ d.
+        let s : ℕ → ℕ = selected (t m .container) (d m) (d b) in
+        let f : full t₁ (upd d x s) ≡ upd (full t d) x (newBase Neighbour p (merge (full t d m .container) (full t d b .container)) m) = rw (h, k, i, j) (union-made t d x p m b) in
+        rw (q, l) (
+        ap (λ n. store n o (x + 1)) (full-same t₁ (upd d x s) m (committed x b g w (t₁ m)))
+        ∙ ap (λ n. store (upd n m (over (committed x b g w) (n m))) o (x + 1)) f
+        ∙ rw add-one
+        );
+  }
+
+-- ---- the depths of a new base: d₁ are those between
+module _ (d : Rows) (x : ℕ) {c : Content} {d' : Rows} where
+  pub lay-same : (y : ℕ) → c ≡ Of y → d' ≡ upd d x (d y) → d' ≡ upd d x (depthsOf c d)
+  lay-same y q f = rw q f
+
+  pub lay-with : {d₁ : Rows} (y s v : ℕ) → c ≡ With y s v → d₁ ≡ upd d x (d y) → d' ≡ upd d₁ x (changed (d₁ x) s v) → d' ≡ upd d x (depthsOf c d)
+  lay-with y s v q f g = rw q (g ∙ rw (f, upd-at d x (d y)) (upd-again d x (d y) (changed (d y) s v)))
+
+  pub lay-without : (y s : ℕ) → c ≡ Without y s → d' ≡ upd d x (d y) → d' ≡ upd d x (depthsOf c d)
+  lay-without y s q f = rw q f
+
+-- ---- an effect on the depths: d₁ and d₂ are those between, d' those after it
+module _ (t : Shapes) (d : Rows) {e : Effect} where
+  pub deepen-quiet : e ≡ Quiet → d ≡ deepened e t d
+  deepen-quiet q = rw q
+
+  pub deepen-mark : (r : ℕ) (l : Link) → e ≡ Mark r l → d ≡ deepened e t d
+  deepen-mark r l q = rw q
+
+  pub deepen-settle : (m : ℕ) (s : Stage) → e ≡ Settle m s → d ≡ deepened e t d
+  deepen-settle m s q = rw q
+
+  pub deepen-invalid : (r : ℕ) → e ≡ Invalid r → d ≡ deepened e t d
+  deepen-invalid r q = rw q
+
+  pub deepen-swing : (v : Spot) (x : ℕ) → e ≡ Swing v x → d ≡ deepened e t d
+  deepen-swing v x q = rw q
+
+  pub deepen-base : {d' : Rows} (v : Spot) (x : ℕ) (k : Kind) (p : Link) (c : Content) (m : ℕ) → e ≡ Base v x k p c m → d' ≡ upd d x (depthsOf c d) → d' ≡ deepened e t d
+  deepen-base v x k p c m q f = rw q f
+
+  pub deepen-fork : {d₁ d₂ d' : Rows} (v : Spot) (x l r k y : ℕ) → e ≡ Fork v x l r k y → d₁ ≡ upd d x (d y) → d₂ ≡ upd d₁ l (d₁ y) → d' ≡ upd d₂ r (d₂ y) → d' ≡ deepened e t d
+  deepen-fork {d₁} {d₂} {d'} v x l r k y q f₁ f₂ f₃ =
+      let h₁ : d₁ y ≡ d y = rw f₁ (upd-own d x y) in
+      let h₂ : d₂ y ≡ d y = rw f₂ (upd-own d₁ l y ∙ h₁) in
+      rw q (f₃ ∙ rw (h₂, f₂, h₁, f₁))
+
+  pub deepen-commit : {d' : Rows} {a : Node} (m x : ℕ) (p : Link) (b : ℕ) (g : Link) (w : ℕ) → e ≡ Commit m x p b g w → a ≡ t m → d' ≡ upd d x (selected (a .container) (d m) (d b)) → d' ≡ deepened e t d
+  deepen-commit m x p b g w q i f = rw q (f ∙ rw i)
 
 pub ruleset hang-cases = (hang-root, hang-under)
+
+pub ruleset set-cases = (set-same, set-with, set-without)
 
 pub ruleset used-cases = (used-base, used-fork, used-commit)
 
 pub ruleset apply-cases = (apply-quiet, apply-mark, apply-settle, apply-invalid, apply-swing, apply-base, apply-fork, apply-commit)
+
+pub ruleset lay-cases = (lay-same, lay-with, lay-without)
+
+pub ruleset deepen-cases = (deepen-quiet, deepen-mark, deepen-settle, deepen-invalid, deepen-swing, deepen-base, deepen-fork, deepen-commit)

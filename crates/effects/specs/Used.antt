@@ -1,5 +1,21 @@
--- The count of used node numbers by itself: `apply` gives the root alone.
+-- What an effect does, in parts: the count of used node numbers, the nodes without their depths, and the depths by themselves.
 use Prim.Native.Nat.{ℕ, _+_}
+use mathlib.Core.Path.{_≡_}
+use Rattle.container.specs.Choice.{upd}
+use Rattle.container.specs.Container.{insert, remove, upperHalf, lowerHalf}
+use Rattle.container.specs.Depths.{container}
+use Rattle.depths.specs.Rows.{Rows, full, changed, selected}
+use Rattle.definitions.specs.Nodes.{Shapes, shape, newBase, newRoute}
+use Rattle.definitions.specs.Bench.{store}
+use Rattle.definitions.specs.Effects.{hang, perform}
+use Rattle.definitions.specs.declared.Spot.{Spot}
+use Rattle.definitions.specs.declared.Kind.{Kind}
+use Rattle.definitions.specs.declared.Kind.the-variants.{Normal}
+use Rattle.definitions.specs.declared.Link.{Link}
+use Rattle.definitions.specs.declared.Link.the-variants.{To}
+use Rattle.definitions.specs.declared.Node.{Node}
+use Rattle.definitions.specs.declared.Content.{Content}
+use Rattle.definitions.specs.declared.Content.the-variants.{Of, With, Without}
 use Rattle.definitions.specs.declared.Effect.{Effect}
 use Rattle.definitions.specs.declared.Effect.the-variants.{Quiet, Mark, Settle, Invalid, Swing, Base, Fork, Commit}
 
@@ -11,5 +27,48 @@ usedAfter u (Settle m v) = u
 usedAfter u (Invalid r) = u
 usedAfter u (Swing v x) = u
 usedAfter u (Base v x k p c m) = x + 1
-usedAfter u (Fork v x l r k low high) = x + 3
-usedAfter u (Commit m x p c n g o) = x + 1
+usedAfter u (Fork v x l r k y) = x + 3
+usedAfter u (Commit m x p n g o) = x + 1
+
+-- ---- the nodes without their depths
+
+-- a new base
+abbrev pub baseShape : Kind → Link → ℕ → ℕ → Node
+baseShape k p c m = shape (newBase k p (container c (λ _. 0)) m)
+
+-- the set of a new base's container
+abbrev pub setOf : Content → Shapes → ℕ
+setOf (Of y) t = t y .container
+setOf (With y s d) t = insert (t y .container) s
+setOf (Without y s) t = remove (t y .container) s
+
+-- a route and its two bases, with the halves of the set c
+abbrev pub forkShapes : ℕ → ℕ → ℕ → ℕ → ℕ → Shapes → Shapes
+forkShapes x l r k c t = upd (upd (upd t x (newRoute k l r)) l (baseShape Normal (To x) (lowerHalf c) 0)) r (baseShape Normal (To x) (upperHalf c) 0)
+
+-- node x is put at the spot v: the table t with root o becomes t' with root y, whatever the depths
+abbrev pub Hung : Shapes → ℕ → ℕ → Spot → ℕ → Shapes → ℕ → Type 0
+Hung t o u v x t' y = (d : Rows) → store (full t' d) y u ≡ hang v x (store (full t d) o u)
+
+-- ---- the depths
+
+-- those of a new base
+abbrev pub depthsOf : Content → Rows → ℕ → ℕ
+depthsOf (Of y) d = d y
+depthsOf (With y s v) d = changed (d y) s v
+depthsOf (Without y s) d = d y
+
+-- after an effect: t is the table before it
+abbrev pub deepened : Effect → Shapes → Rows → Rows
+deepened Quiet t d = d
+deepened (Mark r l) t d = d
+deepened (Settle m v) t d = d
+deepened (Invalid r) t d = d
+deepened (Swing v x) t d = d
+deepened (Base v x k p c m) t d = upd d x (depthsOf c d)
+deepened (Fork v x l r k y) t d = upd (upd (upd d x (d y)) l (d y)) r (d y)
+deepened (Commit m x p n g o) t d = upd d x (selected (t m .container) (d m) (d n))
+
+-- ---- both: the effect e takes the table t with root o to t' with root y, whatever the depths
+pub record Applied (t : Shapes) (o u : ℕ) (e : Effect) (t' : Shapes) (y : ℕ) : Type 0 where
+  pub stored : (d : Rows) → store (full t' (deepened e t d)) y (usedAfter u e) ≡ perform e (store (full t d) o u)

@@ -1,11 +1,12 @@
-// What a step writes, carried out in place.
+// What a step writes, carried out in place: `apply` on the nodes, `deepen` on the depths of their containers.
 ghost use mathlib.Core.Path.{_≡_};
+ghost use lib.ListN.{length};
 ghost use Rattle.container.specs.Choice.{upd};
 ghost use Rattle.nodes.specs.Cells.{table};
-ghost use Rattle.definitions.specs.Nodes.{newBase, newRoute};
-ghost use Rattle.definitions.specs.Bench.{store};
-ghost use Rattle.definitions.specs.Effects.{hang, forked, perform};
-ghost use Rattle.effects.specs.Used.{usedAfter};
+ghost use Rattle.depths.specs.Rows.{rows};
+ghost use Rattle.definitions.specs.Nodes.{newRoute};
+ghost use Rattle.effects.specs.Used.{usedAfter, baseShape, setOf, forkShapes, Hung, depthsOf, deepened, Applied};
+use definitions::Content;
 use definitions::Effect;
 use definitions::Kind;
 use definitions::Link;
@@ -13,7 +14,7 @@ use definitions::Node;
 use definitions::Spot;
 use definitions::Stage;
 
-// A new base.
+// A new base, but its depths.
 pub fn put_base(
     cells: &mut [u8; 4096],
     sets: &mut [u64; 256],
@@ -23,7 +24,7 @@ pub fn put_base(
     container: u64,
     main: u8,
 )
-    ensures { λ _. ⌜ table (now (cells .exit)) (now (sets .exit)) ≡ upd (table (now (cells .entry)) (now (sets .entry))) at (newBase kind parent container main) ⌝ }
+    ensures { λ _. ⌜ table (now (cells .exit)) (now (sets .exit)) ≡ upd (table (now (cells .entry)) (now (sets .entry))) at (baseShape kind parent container main) ⌝ }
 {
     let n = Node {
         kind: kind,
@@ -83,7 +84,7 @@ pub fn hang_at(
     spot: Spot,
     x: u8,
 ) -> u8
-    ensures { λ r. ⌜ store (table (now (cells .exit)) (now (sets .entry))) r used ≡ hang spot x (store (table (now (cells .entry)) (now (sets .entry))) root used) ⌝ }
+    ensures { λ r. ⌜ Hung (table (now (cells .entry)) (now (sets .entry))) root used spot x (table (now (cells .exit)) (now (sets .entry))) r ⌝ }
 {
     match spot {
         Spot::Root => x,
@@ -94,7 +95,27 @@ pub fn hang_at(
     }
 }
 
-// A route and its two bases.
+// The set of a new base's container.
+pub fn set_of(cells: &[u8; 4096], sets: &[u64; 256], content: Content) -> u64
+    ensures { λ r. ⌜ r ≡ setOf content (table (now (cells .entry)) (now (sets .entry))) ⌝ }
+{
+    match content {
+        Content::Of(y) => {
+            let n = nodes::node_at(cells, sets, y);
+            n.container
+        }
+        Content::With(y, s, _) => {
+            let n = nodes::node_at(cells, sets, y);
+            container::with(n.container, s)
+        }
+        Content::Without(y, s) => {
+            let n = nodes::node_at(cells, sets, y);
+            container::without(n.container, s)
+        }
+    }
+}
+
+// A route and its two bases, with the halves of the set c.
 pub fn put_fork(
     cells: &mut [u8; 4096],
     sets: &mut [u64; 256],
@@ -102,11 +123,12 @@ pub fn put_fork(
     left: u8,
     right: u8,
     key: u8,
-    low: u64,
-    high: u64,
+    c: u64,
 )
-    ensures { λ _. ⌜ table (now (cells .exit)) (now (sets .exit)) ≡ forked at left right key low high (table (now (cells .entry)) (now (sets .entry))) ⌝ }
+    ensures { λ _. ⌜ table (now (cells .exit)) (now (sets .exit)) ≡ forkShapes at left right key c (table (now (cells .entry)) (now (sets .entry))) ⌝ }
 {
+    let low = container::lower_half(c);
+    let high = container::upper_half(c);
     put_route(cells, sets, at, key, left, right);
     put_base(cells, sets, left, Kind::Normal, Link::To(at), low, 0);
     put_base(cells, sets, right, Kind::Normal, Link::To(at), high, 0);
@@ -128,9 +150,9 @@ pub fn used_after(used: u16, e: Effect) -> u16
     }
 }
 
-// The effect is carried out; gives the root.
+// The effect is carried out on the nodes; gives the root.
 pub fn apply(cells: &mut [u8; 4096], sets: &mut [u64; 256], root: u8, used: u16, e: Effect) -> u8
-    ensures { λ r. ⌜ store (table (now (cells .exit)) (now (sets .exit))) r (usedAfter used e) ≡ perform e (store (table (now (cells .entry)) (now (sets .entry))) root used) ⌝ }
+    ensures { λ r. ⌜ Applied (table (now (cells .entry)) (now (sets .entry))) root used e (table (now (cells .exit)) (now (sets .exit))) r ⌝ }
 {
     match e {
         Effect::Quiet => root,
@@ -152,10 +174,11 @@ pub fn apply(cells: &mut [u8; 4096], sets: &mut [u64; 256], root: u8, used: u16,
             at,
             kind,
             parent,
-            container,
+            content,
             main,
         } => {
-            put_base(cells, sets, at, kind, parent, container, main);
+            let c = set_of(cells, sets, content);
+            put_base(cells, sets, at, kind, parent, c, main);
             hang_at(cells, sets, root, used, spot, at)
         }
         Effect::Fork {
@@ -164,24 +187,76 @@ pub fn apply(cells: &mut [u8; 4096], sets: &mut [u64; 256], root: u8, used: u16,
             left,
             right,
             key,
-            low,
-            high,
+            base,
         } => {
-            put_fork(cells, sets, at, left, right, key, low, high);
+            let n = nodes::node_at(cells, sets, base);
+            put_fork(cells, sets, at, left, right, key, n.container);
             hang_at(cells, sets, root, used, spot, at)
         }
         Effect::Commit {
             main,
             at,
             parent,
-            container,
             neighbour,
             grandparent,
             other,
         } => {
-            put_base(cells, sets, at, Kind::Neighbour, parent, container, main);
+            let m = nodes::node_at(cells, sets, main);
+            let n = nodes::node_at(cells, sets, neighbour);
+            let c = container::united(m.container, n.container);
+            put_base(cells, sets, at, Kind::Neighbour, parent, c, main);
             nodes::commit(cells, sets, main, at, neighbour, grandparent, other);
             root
+        }
+    }
+}
+
+// The depths of a new base.
+fn lay(depths: &mut [u16], at: u8, content: Content)
+    requires { ⌜ length (now depths) ≡ 16384 ⌝ }
+    ensures { λ _. ⌜ rows (now (depths .exit)) ≡ upd (rows (now (depths .entry))) at (depthsOf content (rows (now (depths .entry)))) ⌝ }
+{
+    match content {
+        Content::Of(y) => depths::copy(depths, y, at),
+        Content::With(y, s, d) => {
+            depths::copy(depths, y, at);
+            depths::set_depth(depths, at, s, d)
+        }
+        Content::Without(y, _) => depths::copy(depths, y, at),
+    }
+}
+
+// The effect is carried out on the depths; the nodes are those before it.
+pub fn deepen(cells: &[u8; 4096], sets: &[u64; 256], depths: &mut [u16], e: Effect)
+    requires { ⌜ length (now depths) ≡ 16384 ⌝ }
+    ensures { λ _. ⌜ rows (now (depths .exit)) ≡ deepened e (table (now (cells .entry)) (now (sets .entry))) (rows (now (depths .entry))) ⌝ }
+{
+    match e {
+        Effect::Quiet => {}
+        Effect::Mark { .. } => {}
+        Effect::Settle { .. } => {}
+        Effect::Invalid { .. } => {}
+        Effect::Swing { .. } => {}
+        Effect::Base { at, content, .. } => lay(depths, at, content),
+        Effect::Fork {
+            at,
+            left,
+            right,
+            base,
+            ..
+        } => {
+            depths::copy(depths, base, at);
+            depths::copy(depths, base, left);
+            depths::copy(depths, base, right)
+        }
+        Effect::Commit {
+            main,
+            at,
+            neighbour,
+            ..
+        } => {
+            let m = nodes::node_at(cells, sets, main);
+            depths::select(depths, m.container, main, neighbour, at)
         }
     }
 }

@@ -9,7 +9,8 @@ use lib.Dec.{eqb}
 use borrow.Author.Tests.{eq-eqb, ne-eqb}
 use Rattle.container.specs.Choice.{ite}
 use Rattle.buffer.specs.Page.{Page, page, put, putAll}
-use Rattle.definitions.specs.Schedule.{countOf, firstByte, fileRefusal}
+use Rattle.definitions.specs.Schedule.{countOf}
+use Rattle.definitions.specs.Merge.{firstByte, fault}
 use Rattle.definitions.specs.Written.{writtenRefusal}
 use Rattle.history.specs.Ahead.{startNumber, startsTo, ahead}
 use Rattle.history.proofs.Outlook.{ahead-own, ahead-other, ahead-none}
@@ -55,7 +56,7 @@ module _ (file : List ℕ) (first done k t : ℕ) (h : k < done) (e : ahead file
   ahead-miss q = e ∙ ap (λ j. ahead file k j t) one ∙ ahead-other file k (done - suc k) t q ∙ rw (add-one k)
 
 -- ---- the refusal of a file and a buffer
-module _ (file : List ℕ) (room : ℕ) {bad : ℕ} (e : bad ≡ fileRefusal file) where
+module _ (file : List ℕ) (room : ℕ) {bad : ℕ} (e : bad ≡ fault file) where
   pub refusal-file : (bad ≡ 0 → ⊥) → bad ≡ writtenRefusal file room
   unfolding writtenRefusal
   refusal-file z = by-file room _ 5 e z

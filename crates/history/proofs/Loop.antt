@@ -14,18 +14,19 @@ use Rattle.container.specs.Choice.{ite}
 use Rattle.buffer.specs.Page.{Page, putAll}
 use Rattle.buffer.proofs.Laws.{joined}
 use Rattle.definitions.specs.declared.Answer.{Answer}
-use Rattle.definitions.specs.declared.Answer.the-variants.{No, Yes, Lacking, Blocked, Lost, NeighbourBlocked, StoodDown, Stopped}
+use Rattle.definitions.specs.declared.Answer.the-variants.{No, Yes, At, Lacking, Blocked, Lost, NeighbourBlocked, StoodDown, Stopped}
 use Rattle.definitions.specs.Answers.{answerNumber}
 use Rattle.definitions.specs.Bench.{Bench}
 use Rattle.definitions.specs.Records.{Row, noRow, row, carried, isIdle, actionNumber}
-use Rattle.definitions.specs.Schedule.{Rec, countOf, firstByte, secondByte}
+use Rattle.definitions.specs.Schedule.{Rec, version, countOf}
+use Rattle.definitions.specs.Merge.{firstByte, secondByte}
 use Rattle.definitions.specs.Run.{Progress, rowCount, advanceBy, after}
 use Rattle.definitions.specs.History.{Event}
 use Rattle.definitions.specs.Written.{eventOf, bytesOf, runEvents}
-use Rattle.passing.proofs.RunEvents.{eventsTo, rec, events-none}
+use Rattle.passing.proofs.RunEvents.{eventsTo, events-none}
 use Rattle.run.proofs.Rows.{finished-few}
 use Rattle.history.specs.Ahead.{startNumber, startsTo, ahead, Told}
-use Rattle.history.proofs.Turned.{Turned, done-most, turned-at, finished-then, events-then, events-on, finished-grows, RowAt, row-at}
+use Rattle.history.proofs.Turned.{rec, Turned, done-most, turned-at, finished-then, events-then, events-on, finished-grows, RowAt, row-at}
 use Rattle.history.proofs.Outlook.{Deed, starts, goes, ends, done-at, outlook}
 
 -- ---- bytes and counts of events
@@ -40,6 +41,7 @@ start-event (suc n) b r w h = refl
 answer-low : (a : Answer) → answerNumber a < 255
 answer-low No = omega arith
 answer-low Yes = omega arith
+answer-low (At d) = omega arith
 answer-low Lacking = omega arith
 answer-low Blocked = omega arith
 answer-low Lost = omega arith
@@ -59,7 +61,7 @@ module _ (file : List ℕ) (d f : ℕ) (rows : List ℕ) (told : Told file d f r
   before = omega (arith, told .done)
 
   z : Turned file k
-  z = turned-at file n k before
+  z = turned-at file (told .version) n k before
 
   deed : Deed file k (z .added)
   deed = done-at file k z .deed
@@ -68,7 +70,7 @@ module _ (file : List ℕ) (d f : ℕ) (rows : List ℕ) (told : Told file d f r
   ahead-at j = ahead file (suc k) j t
 
   inside : k < n
-  inside = omega (arith, before, done-most file n)
+  inside = omega (arith, before, done-most file (told .version) n)
 
   rest : suc k + (d - suc k) ≡ after file n .done
   rest = omega (arith, told .done)
@@ -76,14 +78,14 @@ module _ (file : List ℕ) (d f : ℕ) (rows : List ℕ) (told : Told file d f r
   finished-on : (w : Row) → z .added ≡ w → after file (suc k) .finished ≡ rowCount w + after file k .finished
   finished-on w e = ap (λ (p : Progress). p .finished) (z .next) ∙ ap (λ v. rowCount v + after file k .finished) e
 
-  next-row : (a : Answer) → z .added ≡ row a → after file (suc k) ≡ advanceBy (after file k) t (carried (z .bench) (row a))
-  next-row a e = z .next ∙ ap (λ w. advanceBy (after file k) t (carried (z .bench) w)) e
+  next-row : (a : Answer) (i c : ℕ) → z .added ≡ row a i c → after file (suc k) ≡ advanceBy file (after file k) t (carried (z .bench) (row a i c))
+  next-row a i c e = z .next ∙ ap (λ w. advanceBy file (after file k) t (carried (z .bench) w)) e
 
-  row-here : (a : Answer) → z .added ≡ row a → RowAt (after file n .rows) (after file k .finished) t (actionNumber (after file k .bench .threads t .action)) (after file k .bench .threads t .station) (answerNumber a)
-  row-here a e = row-at file k n (z .bench) a inside (next-row a e)
+  row-here : (a : Answer) (i c : ℕ) → z .added ≡ row a i c → RowAt (after file n .rows) (after file k .finished) t (actionNumber (after file k .bench .threads t .action)) (after file k .bench .threads t .station) (answerNumber a)
+  row-here a i c e = row-at file (told .version) k n (z .bench) a i c inside (next-row a i c e)
 
-  row-counts : (a : Answer) → z .added ≡ row a → after file k .finished < f
-  row-counts a e = omega (arith, told .finished, finished-grows file (suc k) n (omega (arith, inside)), finished-on (row a) e)
+  row-counts : (a : Answer) (i c : ℕ) → z .added ≡ row a i c → after file k .finished < f
+  row-counts a i c e = omega (arith, told .finished, finished-grows file (told .version) (suc k) n (omega (arith, inside)), finished-on (row a i c) e)
 
   -- a start
   start-row : firstByte file k % 16 ≢ 0 → z .added ≡ noRow
@@ -92,18 +94,18 @@ module _ (file : List ℕ) (d f : ℕ) (rows : List ℕ) (told : Told file d f r
       by : Deed file k (z .added) → z .added ≡ noRow
       by (starts e _ _) = e
       by (goes e _ _ _) = e
-      by (ends _ _ e _ _) = absurd (h e)
+      by (ends _ _ _ _ e _ _) = absurd (h e)
 
   pub start-finished : firstByte file k % 16 ≢ 0 → after file (suc k) .finished ≡ after file k .finished
   start-finished h = finished-on noRow (start-row h) ∙ (let q : 0 + after file k .finished ≡ after file k .finished = omega arith in q)
 
   pub start-events : firstByte file k % 16 ≢ 0 → eventsTo file (suc k) ≡ eventsTo file k ++ record { thread = t; action = firstByte file k % 16; station = secondByte file k; mark = 0 } ∷ []
-  start-events h = events-on file k z ∙ ap (λ l. eventsTo file k ++ l) (start-event (firstByte file k % 16) (after file k .bench) (rec file k) (z .added) h)
+  start-events h = events-on file (told .version) k z ∙ ap (λ l. eventsTo file k ++ l) (start-event (firstByte file k % 16) (after file k .bench) (rec file k) (z .added) h)
 
   -- a step that goes on
   module _ (step : firstByte file k % 16 ≡ 0) where
     quiet-events : z .added ≡ noRow → eventsTo file (suc k) ≡ eventsTo file k
-    quiet-events e = events-on file k z ∙ ap (λ l. eventsTo file k ++ l) (ap (λ v. eventOf v (after file k .bench) (rec file k) (z .added)) step ∙ ap (λ w. eventOf 0 (after file k .bench) (rec file k) w) e) ∙ append-nil (eventsTo file k)
+    quiet-events e = events-on file (told .version) k z ∙ ap (λ l. eventsTo file k ++ l) (ap (λ v. eventOf v (after file k .bench) (rec file k) (z .added)) step ∙ ap (λ w. eventOf 0 (after file k .bench) (rec file k) w) e) ∙ append-nil (eventsTo file k)
 
     pub record Quiet : Type 0 where
       pub events : eventsTo file (suc k) ≡ eventsTo file k
@@ -118,7 +120,7 @@ module _ (file : List ℕ) (d f : ℕ) (rows : List ℕ) (told : Told file d f r
         by : Deed file k (z .added) → Quiet
         by (starts e _ _) = quiet e
         by (goes e _ _ _) = quiet e
-        by (ends a e _ _ _) = absurd (omega (arith, row-counts a e))
+        by (ends a i c e _ _ _) = absurd (omega (arith, row-counts a i c e))
 
     pub quiet-other : after file k .finished < f → getD rows (4 * after file k .finished) 0 ≢ t → Quiet
     quiet-other l h = by deed
@@ -126,7 +128,7 @@ module _ (file : List ℕ) (d f : ℕ) (rows : List ℕ) (told : Told file d f r
         by : Deed file k (z .added) → Quiet
         by (starts e _ _) = quiet e
         by (goes e _ _ _) = quiet e
-        by (ends a e _ _ _) = absurd (h (told .rows (4 * after file k .finished) (omega arith) ∙ row-here a e .thread))
+        by (ends a i c e _ _ _) = absurd (h (told .rows (4 * after file k .finished) (omega arith) ∙ row-here a i c e .thread))
 
     pub quiet-ahead : ahead file (suc k) (d - suc k) t ≡ true → Quiet
     quiet-ahead h = by deed
@@ -134,7 +136,7 @@ module _ (file : List ℕ) (d f : ℕ) (rows : List ℕ) (told : Told file d f r
         by : Deed file k (z .added) → Quiet
         by (starts e _ _) = quiet e
         by (goes e _ _ _) = quiet e
-        by (ends _ _ _ _ i) = absurd (true≢false (sym i ∙ outlook file n t (d - suc k) (suc k) rest .on h))
+        by (ends _ _ _ _ _ _ i) = absurd (true≢false (sym i ∙ outlook file (told .version) n t (d - suc k) (suc k) rest .on h))
 
     -- a step that ends
     pub record Ends : Type 0 where
@@ -157,21 +159,21 @@ module _ (file : List ℕ) (d f : ℕ) (rows : List ℕ) (told : Told file d f r
         from-run = told .rows
 
         none : z .added ≡ noRow → isIdle (after file (suc k) .bench .threads t) ≡ false → ⊥
-        none e b = outlook file n t (d - suc k) (suc k) rest .off a b (after file k .finished) (omega (arith, quiet e .finished)) (omega (arith, told .finished)) (sym (from-run (4 * after file k .finished) (omega arith)) ∙ h)
+        none e b = outlook file (told .version) n t (d - suc k) (suc k) rest .off a b (after file k .finished) (omega (arith, quiet e .finished)) (omega (arith, told .finished)) (sym (from-run (4 * after file k .finished) (omega arith)) ∙ h)
 
         by : Deed file k (z .added) → Ends
         by (starts _ e _) = absurd (e step)
         by (goes e _ _ b) = absurd (none e b)
-        by (ends y e _ _ _) =
-            let r = row-here y e in
+        by (ends y i c e _ _ _) =
+            let r = row-here y i c e in
             let r0 = from-run (4 * after file k .finished) (omega arith) ∙ r .thread in
             let r1 = from-run (4 * after file k .finished + 1) (omega arith) ∙ r .action in
             let r2 = from-run (4 * after file k .finished + 2) (omega arith) ∙ r .station in
             let r3 = from-run (4 * after file k .finished + 3) (omega arith) ∙ r .answer in
             record {
               low = omega (arith, r3, answer-low y);
-              finished = omega (arith, finished-on (row y) e);
-              events = events-on file k z ∙ ap (λ l. eventsTo file k ++ l)
+              finished = omega (arith, finished-on (row y i c) e);
+              events = events-on file (told .version) k z ∙ ap (λ l. eventsTo file k ++ l)
                   (ap (λ v. eventOf v (after file k .bench) (rec file k) (z .added)) step ∙ ap (λ w. eventOf 0 (after file k .bench) (rec file k) w) e
                   ∙ rw (r0, r1, r2, r3, add-one));
             }
@@ -188,8 +190,8 @@ pub page-more : (file : List ℕ) (k : ℕ) (p : Page) {q r : Page} (e : Event) 
     → r ≡ putAll p (bytesOf (eventsTo file (k + 1)))
 page-more file k p e i h f = rw (add-one, i, bytes-append (eventsTo file k) (e ∷ [])) (joined p (bytesOf (eventsTo file k)) (e .thread ∷ e .action ∷ e .station ∷ e .mark ∷ []) h f)
 
-pub page-all : (file : List ℕ) (done k : ℕ) (p : Page) {q : Page} → done ≡ after file (countOf file) .done → k ≡ done → q ≡ putAll p (bytesOf (eventsTo file k)) → q ≡ putAll p (bytesOf (runEvents file))
-page-all file done k p d e h = h ∙ ap (λ l. putAll p (bytesOf l)) (ap (eventsTo file) (e ∙ d) ∙ events-then file (countOf file))
+pub page-all : (file : List ℕ) → version file ≡ 1 → (done k : ℕ) (p : Page) {q : Page} → done ≡ after file (countOf file) .done → k ≡ done → q ≡ putAll p (bytesOf (eventsTo file k)) → q ≡ putAll p (bytesOf (runEvents file))
+page-all file one done k p d e h = h ∙ ap (λ l. putAll p (bytesOf l)) (ap (eventsTo file) (e ∙ d) ∙ events-then file one (countOf file))
 
 -- ---- the file has room for the records done, and the buffer for the rows
 pub record Room (file : List ℕ) (d f : ℕ) (buffer : List ℕ) : Type 0 where
@@ -200,8 +202,8 @@ pub record Room (file : List ℕ) (d f : ℕ) (buffer : List ℕ) : Type 0 where
 
 pub told-room : (file : List ℕ) (d f : ℕ) (buffer : List ℕ) → Told file d f buffer → Room file d f buffer
 told-room file d f buffer t = record {
-  records = omega (arith, t, done-most file (countOf file));
-  few = omega (arith, t, done-most file (countOf file));
+  records = omega (arith, t, done-most file (t .version) (countOf file));
+  few = omega (arith, t, done-most file (t .version) (countOf file));
   rows = t .room;
   finished = omega (arith, t, finished-few file (countOf file));
 }
@@ -278,14 +280,14 @@ one-event file k z = by (done-at file k z .deed)
     by : Deed file k (z .added) → length (eventOf (firstByte file k % 16) (after file k .bench) (rec file k) (z .added)) + (startsTo file k + after file k .finished) ≡ startsTo file (suc k) + after file (suc k) .finished
     by (starts e s _) = rw (fin, e, starts-start file k s, start-event (firstByte file k % 16) (after file k .bench) (rec file k) noRow s) (omega arith)
     by (goes e s _ _) = rw (fin, e, starts-step file k s, s) (omega arith)
-    by (ends a e s _ _) = rw (fin, e, starts-step file k s, s) (omega arith)
+    by (ends a i c e s _ _) = rw (fin, e, starts-step file k s, s) (omega arith)
 
-count-to : (file : List ℕ) (n k : ℕ) → k ≤ after file n .done → length (eventsTo file k) ≡ startsTo file k + after file k .finished
+count-to : (file : List ℕ) → version file ≡ 1 → (n k : ℕ) → k ≤ after file n .done → length (eventsTo file k) ≡ startsTo file k + after file k .finished
 unfolding startsTo after
-count-to file n zero h = ap length (events-none file)
-count-to file n (suc k) h =
-    let z = turned-at file n k (omega arith) in
-    omega (arith, ap length (events-on file k z), length-append (eventsTo file k) (eventOf (firstByte file k % 16) (after file k .bench) (rec file k) (z .added)), one-event file k z, count-to file n k (omega arith))
+count-to file one n zero h = ap length (events-none file)
+count-to file one n (suc k) h =
+    let z = turned-at file one n k (omega arith) in
+    omega (arith, ap length (events-on file one k z), length-append (eventsTo file k) (eventOf (firstByte file k % 16) (after file k .bench) (rec file k) (z .added)), one-event file k z, count-to file one n k (omega arith))
 
-pub count-all : (file : List ℕ) (n : ℕ) → length (eventsTo file n) ≡ startsTo file (after file n .done) + after file n .finished
-count-all file n = ap length (sym (events-then file n)) ∙ count-to file n (after file n .done) (omega arith) ∙ ap (λ v. startsTo file (after file n .done) + v) (finished-then file n)
+pub count-all : (file : List ℕ) → version file ≡ 1 → (n : ℕ) → length (eventsTo file n) ≡ startsTo file (after file n .done) + after file n .finished
+count-all file one n = ap length (sym (events-then file one n)) ∙ count-to file one n (after file n .done) (omega arith) ∙ ap (λ v. startsTo file (after file n .done) + v) (finished-then file one n)

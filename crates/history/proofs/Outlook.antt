@@ -18,7 +18,8 @@ use Rattle.definitions.specs.declared.Answer.{Answer}
 use Rattle.definitions.specs.declared.Thread.{Thread}
 use Rattle.definitions.specs.Bench.{Bench}
 use Rattle.definitions.specs.Records.{Row, noRow, row, Result, refused, carried, recordStep, actionNumber, isIdle}
-use Rattle.definitions.specs.Schedule.{firstByte, secondByte}
+use Rattle.definitions.specs.Schedule.{version}
+use Rattle.definitions.specs.Merge.{firstByte, secondByte}
 use Rattle.definitions.specs.Run.{Progress, advanceBy, after}
 use Rattle.passing.proofs.Did.{Did, did, Started, Moved, Ended}
 use Rattle.history.specs.Ahead.{ahead}
@@ -59,7 +60,7 @@ pub data Deed (file : List ℕ) (k : ℕ) (w : Row) : Type 0 where
   starts : w ≡ noRow → firstByte file k % 16 ≢ 0 → isIdle (after file k .bench .threads (firstByte file k / 16)) ≡ true → Deed file k w
   goes : w ≡ noRow → firstByte file k % 16 ≡ 0 → isIdle (after file k .bench .threads (firstByte file k / 16)) ≡ false
       → isIdle (after file (suc k) .bench .threads (firstByte file k / 16)) ≡ false → Deed file k w
-  ends : (a : Answer) → w ≡ row a → firstByte file k % 16 ≡ 0 → isIdle (after file k .bench .threads (firstByte file k / 16)) ≡ false
+  ends : (a : Answer) (d c : ℕ) → w ≡ row a d c → firstByte file k % 16 ≡ 0 → isIdle (after file k .bench .threads (firstByte file k / 16)) ≡ false
       → isIdle (after file (suc k) .bench .threads (firstByte file k / 16)) ≡ true → Deed file k w
 
 pub record Done (file : List ℕ) (k : ℕ) (w : Row) : Type 0 where
@@ -68,7 +69,7 @@ pub record Done (file : List ℕ) (k : ℕ) (w : Row) : Type 0 where
   pub others : (t : ℕ) → firstByte file k / 16 ≢ t → isIdle (after file (suc k) .bench .threads t) ≡ isIdle (after file k .bench .threads t)
 
 pub done-at : (file : List ℕ) (k : ℕ) (z : Turned file k) → Done file k (z .added)
-done-at file k z = by (z .added) (subst (λ r. Did (after file k .bench) (firstByte file k / 16) (secondByte file k) (firstByte file k % 16) r) (z .step) (did (after file k .bench) (firstByte file k) (secondByte file k)))
+done-at file k z = by (z .added) (subst (λ r. Did (after file k .bench) (firstByte file k / 16) (secondByte file k) (firstByte file k % 16) r) (z .step) (did (after file k .bench) (firstByte file k) (secondByte file k) 0))
   where
     u : ℕ
     u = firstByte file k / 16
@@ -87,9 +88,9 @@ done-at file k z = by (z .added) (subst (λ r. Did (after file k .bench) (firstB
       deed = goes refl (d .number) (d .busy) (ap isIdle (own-thread (after file k .bench .threads) (after file (suc k) .bench .threads) (firstByte file k / 16) _ (then ∙ d .threads)) ∙ d .still);
       others = λ t h. same-thread (after file k .bench .threads) (after file (suc k) .bench .threads) (firstByte file k / 16) t _ (then ∙ d .threads) h;
     }
-    by (row a) (s, d) = record {
+    by (row a e c) (s, d) = record {
       small = s;
-      deed = ends a refl (d .number) (d .busy) (ap isIdle (own-thread (after file k .bench .threads) (after file (suc k) .bench .threads) (firstByte file k / 16) _ (then ∙ d .threads)));
+      deed = ends a e c refl (d .number) (d .busy) (ap isIdle (own-thread (after file k .bench .threads) (after file (suc k) .bench .threads) (firstByte file k / 16) _ (then ∙ d .threads)));
       others = λ t h. same-thread (after file k .bench .threads) (after file (suc k) .bench .threads) (firstByte file k / 16) t _ (then ∙ d .threads) h;
     }
 
@@ -101,9 +102,9 @@ pub record Outlook (file : List ℕ) (n k j t : ℕ) : Type 0 where
   pub off : ahead file k j t ≡ false → isIdle (after file k .bench .threads t) ≡ false → (m : ℕ) → after file k .finished ≤ m → m < after file n .finished → getD (after file n .rows) (4 * m) 0 ≢ t
 
 -- one record back
-module _ (file : List ℕ) (n t j k : ℕ) (before : k < after file n .done) (later : Outlook file n (suc k) j t) where
+module _ (file : List ℕ) (one : version file ≡ 1) (n t j k : ℕ) (before : k < after file n .done) (later : Outlook file n (suc k) j t) where
   z : Turned file k
-  z = turned-at file n k before
+  z = turned-at file one n k before
 
   d : Done file k (z .added)
   d = done-at file k z
@@ -117,21 +118,21 @@ module _ (file : List ℕ) (n t j k : ℕ) (before : k < after file n .done) (la
     on = λ _. ap (λ v. isIdle (after file k .bench .threads v)) (sym q) ∙ b;
     off = λ a _. absurd (true≢false (sym (ahead-own file k j t q ∙ eq-eqb (firstByte file k % 16) 0 s) ∙ a));
   }
-  own q (ends _ _ s b _) = record {
+  own q (ends _ _ _ _ s b _) = record {
     on = λ _. ap (λ v. isIdle (after file k .bench .threads v)) (sym q) ∙ b;
     off = λ a _. absurd (true≢false (sym (ahead-own file k j t q ∙ eq-eqb (firstByte file k % 16) 0 s) ∙ a));
   }
 
   inside : k < n
-  inside = omega (arith, before, done-most file n)
+  inside = omega (arith, before, done-most file one n)
 
   -- the row that another thread's record adds is not thread t's
-  past : firstByte file k / 16 ≢ t → (w : Row) → after file (suc k) ≡ advanceBy (after file k) (firstByte file k / 16) (carried (z .bench) w) → (m : ℕ) → after file k .finished ≤ m → m < after file n .finished
+  past : firstByte file k / 16 ≢ t → (w : Row) → after file (suc k) ≡ advanceBy file (after file k) (firstByte file k / 16) (carried (z .bench) w) → (m : ℕ) → after file k .finished ≤ m → m < after file n .finished
       → (after file (suc k) .finished ≤ m → m < after file n .finished → getD (after file n .rows) (4 * m) 0 ≢ t) → getD (after file n .rows) (4 * m) 0 ≢ t
   past q noRow x m lo hi ih = ih (omega (arith, ap (λ (p : Progress). p .finished) x)) hi
-  past q (row a) x m lo hi ih = elim (ℕ-discrete m (after file k .finished)) [
-    | yes e ↦ λ v. q (sym (ap (λ i. getD (after file n .rows) (4 * i) 0) e ∙ row-at file k n (z .bench) a inside x .thread) ∙ v)
-    | no e ↦ ih (omega (arith, ap (λ (p : Progress). p .finished) x)) hi
+  past q (row a e c) x m lo hi ih = elim (ℕ-discrete m (after file k .finished)) [
+    | yes i ↦ λ v. q (sym (ap (λ j. getD (after file n .rows) (4 * j) 0) i ∙ row-at file one k n (z .bench) a e c inside x .thread) ∙ v)
+    | no i ↦ ih (omega (arith, ap (λ (p : Progress). p .finished) x)) hi
   ]
 
   one-back : Outlook file n k (suc j) t
@@ -143,9 +144,9 @@ module _ (file : List ℕ) (n t j k : ℕ) (before : k < after file n .done) (la
     }
   ]
 
-pub outlook : (file : List ℕ) (n t j k : ℕ) → k + j ≡ after file n .done → Outlook file n k j t
-outlook file n t zero k e = record {
+pub outlook : (file : List ℕ) → version file ≡ 1 → (n t j k : ℕ) → k + j ≡ after file n .done → Outlook file n k j t
+outlook file one n t zero k e = record {
   on = λ q. absurd (true≢false (sym q ∙ ahead-none file k t));
-  off = λ _ _ m lo hi. let same : after file k .finished ≡ after file n .finished = ap (λ i. after file i .finished) (let q : k ≡ after file n .done = omega arith in q) ∙ finished-then file n in absurd (omega (arith, same));
+  off = λ _ _ m lo hi. let same : after file k .finished ≡ after file n .finished = ap (λ i. after file i .finished) (let q : k ≡ after file n .done = omega arith in q) ∙ finished-then file one n in absurd (omega (arith, same));
 }
-outlook file n t (suc j) k e = one-back file n t j k (omega arith) (outlook file n t j (suc k) (omega arith))
+outlook file one n t (suc j) k e = one-back file one n t j k (omega arith) (outlook file one n t j (suc k) (omega arith))

@@ -10,15 +10,18 @@ use lib.ListN.{length, getD, drop, length-append, List·getD-append}
 use Rattle.container.specs.Choice.{ite}
 use Rattle.buffer.specs.Page.{Page, page, putAll}
 use Rattle.buffer.proofs.Laws.{joined, put-fits}
-use Rattle.schedule.specs.Proper.{Proper}
+use Rattle.schedule.specs.Proper.{Plain}
+use Rattle.schedule.proofs.Laws.{plain, fault-file}
 use Rattle.definitions.specs.Schedule.{countOf, fileRefusal}
+use Rattle.definitions.specs.Versions.{rowRoom}
+use Rattle.definitions.specs.Merge.{fault}
 use Rattle.definitions.specs.Run.{ended, overlay, runRefusal, reportOf, runReport, runBuffer}
 use Rattle.definitions.specs.Written.{bytesOf, runEvents, written, writtenRefusal, writtenReport, writtenBuffer}
 use Rattle.definitions.specs.declared.Report.{Report}
 use Rattle.passing.proofs.RunPasses.{room-enough}
 use Rattle.run.proofs.Room.{has-room, by-none}
-use Rattle.run.proofs.Rows.{rows-length, rows-fit}
 use Rattle.history.specs.Ahead.{startsTo, Told}
+use Rattle.history.proofs.Turned.{rows-four}
 use Rattle.history.proofs.Loop.{count-all}
 
 -- ---- no refusal
@@ -31,18 +34,21 @@ sound-file f n m k i = by (eqb f 0) refl
     by false e z = z
 
 module _ (file : List ℕ) (room : ℕ) (z : writtenRefusal file room ≡ 0) where
-  file-sound : fileRefusal file ≡ 0
+  no-fault : fault file ≡ 0
   unfolding writtenRefusal
-  file-sound = sound-file (fileRefusal file) room (3 + 4 * countOf file) 5 (λ e. omega arith) z
+  no-fault = sound-file (fault file) room (3 + 4 * countOf file) 5 (λ e. omega arith) z
+
+  file-sound : fileRefusal file ≡ 0
+  file-sound = let p = plain file no-fault in fault-file file (omega (arith, p .whole)) (p .version) refl ∙ no-fault
 
   room-for : 3 + 4 * countOf file ≤ room
   unfolding writtenRefusal
-  room-for = has-room (fileRefusal file) room (3 + 4 * countOf file) 5 (λ e. omega arith) z
+  room-for = has-room (fault file) room (3 + 4 * countOf file) 5 (λ e. omega arith) z
 
   -- Run does not refuse the file with a row buffer of 8,192 bytes
   run-sound : (n : ℕ) → 2 * countOf file ≤ n → runRefusal file n ≡ 0
-  unfolding runRefusal
-  run-sound n h = sym (by-none n (2 * countOf file) 5 (sym file-sound) refl h)
+  unfolding runRefusal ite
+  run-sound n h = sym (by-none n (rowRoom file (countOf file)) 5 (sym file-sound) refl (rw (eq-eqb _ _ (plain file no-fault .version)) h))
 
 -- ---- what Run hands back
 module _ (file blank : List ℕ) (fine : runRefusal file (length blank) ≡ 0) where
@@ -54,9 +60,9 @@ module _ (file blank : List ℕ) (fine : runRefusal file (length blank) ≡ 0) w
   unfolding runBuffer ite
   buffer-is = rw (eq-eqb _ _ fine)
 
-module _ (file blank : List ℕ) (room : ℕ) {bad : ℕ} (e : bad ≡ writtenRefusal file room) (z : bad ≡ 0) (proper : Proper file) (long : length blank ≡ 8192) where
+module _ (file blank : List ℕ) (room : ℕ) {bad : ℕ} (e : bad ≡ writtenRefusal file room) (z : bad ≡ 0) (sure : Plain file) (long : length blank ≡ 8192) where
   fine : runRefusal file (length blank) ≡ 0
-  fine = run-sound file room (sym e ∙ z) (length blank) (omega (arith, proper, long))
+  fine = run-sound file room (sym e ∙ z) (length blank) (omega (arith, sure .few, long))
 
   pub told : {r : Report} {rows : List ℕ} → r ≡ runReport file (length blank) → rows ≡ runBuffer file blank → Told file (r .records) (r .rows) rows
   told {r} {rows} p q =
@@ -64,12 +70,13 @@ module _ (file blank : List ℕ) (room : ℕ) {bad : ℕ} (e : bad ≡ writtenRe
       let v : rows ≡ ended file .rows ++ drop (length (ended file .rows)) blank = q ∙ buffer-is file blank fine in
       let m : r .rows ≡ ended file .finished = ap (λ (x : Report). x .rows) w in
       record {
-        few = proper .few;
-        whole = proper .whole;
+        version = sure .version;
+        few = sure .few;
+        whole = sure .whole;
         done = ap (λ (x : Report). x .records) w;
         finished = m;
-        room = omega (arith, m, rows-length file (countOf file), ap length v, length-append (ended file .rows) (drop (length (ended file .rows)) blank));
-        rows = λ j h. ap (λ l. getD l j 0) v ∙ List·getD-append (ended file .rows) (drop (length (ended file .rows)) blank) 0 j (omega (arith, m, rows-length file (countOf file)));
+        room = omega (arith, m, rows-four file (sure .version) (countOf file), ap length v, length-append (ended file .rows) (drop (length (ended file .rows)) blank));
+        rows = λ j h. ap (λ l. getD l j 0) v ∙ List·getD-append (ended file .rows) (drop (length (ended file .rows)) blank) 0 j (omega (arith, m, rows-four file (sure .version) (countOf file)));
       }
 
   pub refusal-is : {r : Report} → r ≡ runReport file (length blank) → r .refusal ≡ ended file .refusal
@@ -88,7 +95,7 @@ module _ (file first : List ℕ) {bad : ℕ} (e : bad ≡ writtenRefusal file (l
   module _ (z : bad ≡ 0) {d f : ℕ} {rows : List ℕ} (t : Told file d f rows) {s : ℕ} (c : s ≡ startsTo file d) {q r : Page}
       (h : q ≡ putAll (page first 0) (1 ∷ (s + f) / 256 ∷ (s + f) % 256 ∷ [])) (g : r ≡ putAll q (bytesOf (runEvents file))) where
     events-count : s + f ≡ length (runEvents file)
-    events-count = sym (count-all file (countOf file) ∙ rw (← t .done, ← t .finished, c))
+    events-count = sym (count-all file (t .version) (countOf file) ∙ rw (← t .done, ← t .finished, c))
 
     all-put : r ≡ putAll (page first 0) (written file)
     unfolding written

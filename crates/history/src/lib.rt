@@ -1,10 +1,10 @@
-// History: the run of a schedule written as a history, into a lent buffer. Run is asked for its rows; where in turn order a row stands
+// History: the run of a version 1 schedule written as a history, into a lent buffer. Run is asked for its rows; where in turn order a row stands
 // is read off the schedule: an operation's last step is its thread's last before the next start.
 ghost use mathlib.Core.Path.{_≡_};
 ghost use mathlib.Core.List.{List, [], _∷_};
 ghost use Prim.Native.Nat.{ℕ, _+_, _-_, _*_, _/_, _%_, _<_, _≤_};
 ghost use lib.ListN.{length, getD};
-ghost use Rattle.schedule.specs.Proper.{Proper};
+ghost use Rattle.schedule.specs.Proper.{Plain};
 ghost use Rattle.buffer.specs.Page.{page, putAll};
 ghost use Rattle.definitions.specs.Written.{bytesOf, runEvents, writtenRefusal, writtenReport, writtenBuffer};
 ghost use Rattle.history.specs.Ahead.{startNumber, startsTo, ahead, Told};
@@ -108,11 +108,11 @@ fn put_events(
     at
 }
 
-// The refusal of a file and a buffer, 0 for none.
+// The refusal of a file, which has to be of version 1, and a buffer, 0 for none.
 pub fn refusal_of(schedule: &[u8], room: usize) -> u64
-    ensures { λ r. ⌜ (r ≡ writtenRefusal (now (schedule .entry)) room) × (r ≡ 0 → Proper (now (schedule .entry))) ⌝ }
+    ensures { λ r. ⌜ (r ≡ writtenRefusal (now (schedule .entry)) room) × (r ≡ 0 → Plain (now (schedule .entry))) ⌝ }
 {
-    let wrong = schedule::file_refusal(schedule);
+    let wrong = schedule::fault_of(schedule);
     if wrong == 0 {
         let count = schedule::count_of(schedule);
         if room < passing::history_room(count) {

@@ -11,7 +11,7 @@ use lib.Dec.{eqb, ltb}
 use borrow.Author.Tests.{eq-eqb, ne-eqb, eqb-true, lt-ltb, le-ltb, ltb-true}
 use Rattle.container.specs.Container.{has, insert}
 use Rattle.container.proofs.Laws.{insert-same, insert-other, has-none}
-use Rattle.definitions.specs.Plain.{settled}
+use Rattle.definitions.specs.PlainSet.{settled}
 use Rattle.definitions.specs.declared.Action.{Action}
 use Rattle.definitions.specs.declared.Action.the-variants.{Lookup, Insert, Remove, Split, Join}
 use Rattle.definitions.specs.History.{Operation, Operations}

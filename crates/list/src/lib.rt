@@ -1,9 +1,21 @@
 // List: the tree where a schedule's run ended, as text in a lent buffer.
 ghost use mathlib.Core.Path.{_≡_};
+ghost use Prim.Native.Nat.{_≤_};
+ghost use lib.Dec.{eqb};
 ghost use lib.ListN.{length};
+ghost use Rattle.container.specs.Choice.{ite};
 ghost use Rattle.schedule.specs.Proper.{Proper};
-ghost use Rattle.definitions.specs.Listing.{listRefusal, listReport, listBuffer};
+ghost use Rattle.run.specs.Standing.{Lent};
+ghost use Rattle.definitions.specs.Run.{ended, overlay};
+ghost use Rattle.definitions.specs.Listing.{listing, listedAt, listRefusal, listReport, listBuffer};
 use definitions::Listed;
+
+// The bytes of a text buffer that List asks for in version v.
+pub fn room_for(v: u8) -> usize
+    ensures { λ r. ⌜ r ≡ ite (eqb v 1) 4096 8192 ⌝ }
+{
+    if v == 1 { 4096 } else { 8192 }
+}
 
 // The refusal of a file and a text buffer, 0 for none.
 pub fn refusal_of(schedule: &[u8], room: usize) -> u64
@@ -11,7 +23,8 @@ pub fn refusal_of(schedule: &[u8], room: usize) -> u64
 {
     let wrong = schedule::file_refusal(schedule);
     if wrong == 0 {
-        if room < 4096 {
+        let needed = room_for(schedule[0]);
+        if room < needed {
             return 6;
         }
         return 0;
@@ -19,23 +32,36 @@ pub fn refusal_of(schedule: &[u8], room: usize) -> u64
     wrong
 }
 
-// List: the report, and the text in the buffer.
+// List of a file that is not refused, over the depths that are lent.
+fn report(depths: &mut [u16], schedule: &[u8], text: &mut [u8]) -> Listed
+    requires { ⌜ Proper (now schedule) × (Lent (now schedule) (now depths) × (4096 ≤ length (now text))) ⌝ }
+    ensures { λ r. ⌜ (r ≡ listedAt (now (schedule .entry)) (ended (now (schedule .entry)))) × (now (text .exit) ≡ overlay (listing (now (schedule .entry)) (ended (now (schedule .entry)) .bench)) (now (text .entry))) ⌝ }
+{
+    let mut cells = [0u8; 4096];
+    let mut sets = [0u64; 256];
+    let mut none = [0u8; 1];
+    let version = schedule[0];
+    let p = run::carry_out(&mut cells, &mut sets, depths, schedule, &mut none[..0]);
+    let at = listing::write_tree(&cells, &sets, depths, version, p.root, text);
+    Listed {
+        refusal: p.refusal as u64,
+        length: at as u64,
+    }
+}
+
+// List: the report, and the text in the buffer. Version 1 has no use for depths.
 pub fn list(schedule: &[u8], text: &mut [u8]) -> Listed
     ensures { λ r. ⌜ (r ≡ listReport (now (schedule .entry)) (length (now (text .entry)))) × (now (text .exit) ≡ listBuffer (now (schedule .entry)) (now (text .entry))) ⌝ }
 {
     let room = text.len();
     let bad = refusal_of(schedule, room);
     if bad == 0 {
-        let mut cells = [0u8; 4096];
-        let mut sets = [0u64; 256];
-        let mut none = [0u8; 1];
-        let count = schedule::count_of(schedule);
-        let p = run::carry_out(&mut cells, &mut sets, schedule, count, &mut none[..0]);
-        let at = listing::write_tree(&cells, &sets, p.root, text);
-        return Listed {
-            refusal: p.refusal as u64,
-            length: at as u64,
-        };
+        if schedule[0] == 1 {
+            let mut none = [0u16; 1];
+            return report(&mut none[..0], schedule, text);
+        }
+        let mut depths = [0u16; 16384];
+        return report(&mut depths[..], schedule, text);
     }
     Listed {
         refusal: bad,

@@ -1,13 +1,14 @@
-// The listing: a line for each node, by two walks that call each other, then the set.
+// The listing: a line for each node, by two walks that call each other, then the set. From version 2 on a station is shown with its depth.
 ghost use mathlib.Core.Path.{_≡_};
 ghost use mathlib.Core.List.{[], _∷_, _++_};
 ghost use Prim.Native.Nat.{_-_, _<_, _≤_};
-ghost use Rattle.container.specs.Choice.{ite};
-ghost use Rattle.container.specs.Container.{has, all};
+ghost use Rattle.container.specs.Container.{all};
 ghost use Rattle.nodes.specs.Cells.{table};
+ghost use Rattle.depths.specs.Rows.{rows, full};
 ghost use Rattle.buffer.specs.Page.{page, putAll};
-ghost use Rattle.definitions.specs.Tree.{setBelow};
+ghost use Rattle.definitions.specs.Tree.{heldBelow};
 ghost use Rattle.definitions.specs.Listing.{space, decimal, kindWord, stationsText, depth, routeLine, baseLine, subtreeText, setLine};
+ghost use Rattle.listing.specs.Texts.{headed, shown, stationPart, plainRoute};
 use definitions::Kind;
 use definitions::Node;
 
@@ -41,20 +42,48 @@ pub fn put_number(out: &mut [u8], at: usize, n: u8) -> usize
     buffer::put_decimal(out, next, n as u16)
 }
 
+// ---- stations, each at the depth that it has where it leads to from node x
+
 // Station s, if c has it.
-pub fn put_station(out: &mut [u8], at: usize, c: u64, s: u8) -> usize
-    ensures { λ r. ⌜ page (now (out .exit)) r ≡ putAll (page (now (out .entry)) at) (ite (has c s) (space ∷ decimal s) []) ⌝ }
+pub fn put_station(
+    cells: &[u8; 4096],
+    sets: &[u64; 256],
+    depths: &[u16],
+    version: u8,
+    x: u8,
+    levels: u8,
+    c: u64,
+    s: u8,
+    out: &mut [u8],
+    at: usize,
+) -> usize
+    ensures { λ r. ⌜ page (now (out .exit)) r ≡ putAll (page (now (out .entry)) at) (stationPart (headed version) (shown c levels (full (table (now (cells .entry)) (now (sets .entry))) (rows (now (depths .entry)))) x) s) ⌝ }
 {
     if container::contains(c, s) {
-        put_number(out, at, s)
-    } else {
-        at
+        let a = put_number(out, at, s);
+        if version == 1 {
+            return a;
+        }
+        let d = tree::depth_under(cells, sets, depths, x, levels, s);
+        let b = buffer::put_byte(out, a, b'=');
+        return buffer::put_decimal(out, b, d);
     }
+    at
 }
 
 // The stations of c, or a dash.
-pub fn put_stations(out: &mut [u8], at: usize, c: u64) -> usize
-    ensures { λ r. ⌜ page (now (out .exit)) r ≡ putAll (page (now (out .entry)) at) (stationsText c) ⌝ }
+pub fn put_stations(
+    cells: &[u8; 4096],
+    sets: &[u64; 256],
+    depths: &[u16],
+    version: u8,
+    x: u8,
+    levels: u8,
+    c: u64,
+    out: &mut [u8],
+    at: usize,
+) -> usize
+    ensures { λ r. ⌜ page (now (out .exit)) r ≡ putAll (page (now (out .entry)) at) (stationsText (headed version) (shown c levels (full (table (now (cells .entry)) (now (sets .entry))) (rows (now (depths .entry)))) x)) ⌝ }
 {
     if c == 0 {
         return buffer::put_two(out, at, b' ', b'-');
@@ -62,11 +91,13 @@ pub fn put_stations(out: &mut [u8], at: usize, c: u64) -> usize
     let mut next = at;
     let mut s = 0;
     while s < 64 {
-        next = put_station(out, next, c, s);
+        next = put_station(cells, sets, depths, version, x, levels, c, s, out, next);
         s += 1;
     }
     next
 }
+
+// ---- lines
 
 // How each line begins: depth and kind.
 fn put_head(out: &mut [u8], at: usize, kind: Kind, levels: u8) -> usize
@@ -82,35 +113,68 @@ fn put_head(out: &mut [u8], at: usize, kind: Kind, levels: u8) -> usize
 // The line of a route.
 pub fn put_route(out: &mut [u8], at: usize, n: Node, levels: u8) -> usize
     requires { ⌜ levels ≤ 63 ⌝ }
-    ensures { λ r. ⌜ page (now (out .exit)) r ≡ putAll (page (now (out .entry)) at) (routeLine levels n) ⌝ }
+    ensures { λ r. ⌜ page (now (out .exit)) r ≡ putAll (page (now (out .entry)) at) (routeLine levels (plainRoute n)) ⌝ }
 {
     let a = put_head(out, at, Kind::Route, levels);
     let b = put_number(out, a, n.key);
     buffer::put_byte(out, b, b'\n')
 }
 
-// The line of a base.
-pub fn put_base(out: &mut [u8], at: usize, n: Node, levels: u8) -> usize
-    requires { ⌜ levels ≤ 63 ⌝ }
-    ensures { λ r. ⌜ page (now (out .exit)) r ≡ putAll (page (now (out .entry)) at) (baseLine levels n) ⌝ }
-{
-    let kind = n.kind;
-    let a = put_head(out, at, kind, levels);
-    let b = put_stations(out, a, n.container);
-    buffer::put_byte(out, b, b'\n')
-}
-
-// The lines of node x and what is below it.
-pub fn subtree(
+// The line of base x: its stations have their depths there, no step down.
+pub fn put_base(
     cells: &[u8; 4096],
     sets: &[u64; 256],
+    depths: &[u16],
+    version: u8,
     x: u8,
     levels: u8,
     out: &mut [u8],
     at: usize,
 ) -> usize
     requires { ⌜ levels ≤ 63 ⌝ }
-    ensures { λ r. ⌜ page (now (out .exit)) r ≡ putAll (page (now (out .entry)) at) (subtreeText levels (table (now (cells .entry)) (now (sets .entry))) x) ⌝ }
+    ensures { λ r. ⌜ page (now (out .exit)) r ≡ putAll (page (now (out .entry)) at) (baseLine (headed version) levels (full (table (now (cells .entry)) (now (sets .entry))) (rows (now (depths .entry))) x)) ⌝ }
+{
+    let n = nodes::node_at(cells, sets, x);
+    let kind = n.kind;
+    let a = put_head(out, at, kind, levels);
+    let b = put_stations(cells, sets, depths, version, x, 0, n.container, out, a);
+    buffer::put_byte(out, b, b'\n')
+}
+
+// The line of the set c: its stations have the depths of the bases that they lead to.
+pub fn put_set(
+    cells: &[u8; 4096],
+    sets: &[u64; 256],
+    depths: &[u16],
+    version: u8,
+    root: u8,
+    c: u64,
+    out: &mut [u8],
+    at: usize,
+) -> usize
+    ensures { λ r. ⌜ page (now (out .exit)) r ≡ putAll (page (now (out .entry)) at) (setLine (headed version) (shown c 63 (full (table (now (cells .entry)) (now (sets .entry))) (rows (now (depths .entry)))) root)) ⌝ }
+{
+    let a = buffer::put_two(out, at, b's', b'e');
+    let b = buffer::put_byte(out, a, b't');
+    let d = put_stations(cells, sets, depths, version, root, 63, c, out, b);
+    buffer::put_byte(out, d, b'\n')
+}
+
+// ---- the walks
+
+// The lines of node x and what is below it.
+pub fn subtree(
+    cells: &[u8; 4096],
+    sets: &[u64; 256],
+    depths: &[u16],
+    version: u8,
+    x: u8,
+    levels: u8,
+    out: &mut [u8],
+    at: usize,
+) -> usize
+    requires { ⌜ levels ≤ 63 ⌝ }
+    ensures { λ r. ⌜ page (now (out .exit)) r ≡ putAll (page (now (out .entry)) at) (subtreeText (headed version) levels (full (table (now (cells .entry)) (now (sets .entry))) (rows (now (depths .entry)))) x) ⌝ }
 {
     let n = nodes::node_at(cells, sets, x);
     let kind = n.kind;
@@ -118,43 +182,42 @@ pub fn subtree(
         if levels == 0 {
             return at;
         }
-        return route_walk(cells, sets, n, levels, out, at);
+        return route_walk(cells, sets, depths, version, n, levels, out, at);
     }
-    put_base(out, at, n, levels)
+    put_base(cells, sets, depths, version, x, levels, out, at)
 }
 
 // The lines of route n and of both its subtrees.
 pub fn route_walk(
     cells: &[u8; 4096],
     sets: &[u64; 256],
+    depths: &[u16],
+    version: u8,
     n: Node,
     levels: u8,
     out: &mut [u8],
     at: usize,
 ) -> usize
     requires { ⌜ (0 < levels) × (levels ≤ 63) ⌝ }
-    ensures { λ r. ⌜ page (now (out .exit)) r ≡ putAll (page (now (out .entry)) at) (routeLine levels n ++ (subtreeText (levels - 1) (table (now (cells .entry)) (now (sets .entry))) (n .left) ++ subtreeText (levels - 1) (table (now (cells .entry)) (now (sets .entry))) (n .right))) ⌝ }
+    ensures { λ r. ⌜ page (now (out .exit)) r ≡ putAll (page (now (out .entry)) at) (routeLine levels (plainRoute n) ++ (subtreeText (headed version) (levels - 1) (full (table (now (cells .entry)) (now (sets .entry))) (rows (now (depths .entry)))) (n .left) ++ subtreeText (headed version) (levels - 1) (full (table (now (cells .entry)) (now (sets .entry))) (rows (now (depths .entry)))) (n .right))) ⌝ }
 {
     let p = put_route(out, at, n, levels);
-    let q = subtree(cells, sets, n.left, levels - 1, out, p);
-    subtree(cells, sets, n.right, levels - 1, out, q)
-}
-
-// The line of the set.
-pub fn put_set(out: &mut [u8], at: usize, c: u64) -> usize
-    ensures { λ r. ⌜ page (now (out .exit)) r ≡ putAll (page (now (out .entry)) at) (setLine c) ⌝ }
-{
-    let a = buffer::put_two(out, at, b's', b'e');
-    let b = buffer::put_byte(out, a, b't');
-    let d = put_stations(out, b, c);
-    buffer::put_byte(out, d, b'\n')
+    let q = subtree(cells, sets, depths, version, n.left, levels - 1, out, p);
+    subtree(cells, sets, depths, version, n.right, levels - 1, out, q)
 }
 
 // The whole text below the root.
-pub fn write_tree(cells: &[u8; 4096], sets: &[u64; 256], root: u8, out: &mut [u8]) -> usize
-    ensures { λ r. ⌜ page (now (out .exit)) r ≡ putAll (page (now (out .entry)) 0) (subtreeText 63 (table (now (cells .entry)) (now (sets .entry))) root ++ setLine (setBelow 63 (table (now (cells .entry)) (now (sets .entry))) root all)) ⌝ }
+pub fn write_tree(
+    cells: &[u8; 4096],
+    sets: &[u64; 256],
+    depths: &[u16],
+    version: u8,
+    root: u8,
+    out: &mut [u8],
+) -> usize
+    ensures { λ r. ⌜ page (now (out .exit)) r ≡ putAll (page (now (out .entry)) 0) (subtreeText (headed version) 63 (full (table (now (cells .entry)) (now (sets .entry))) (rows (now (depths .entry)))) root ++ setLine (headed version) (heldBelow 63 (full (table (now (cells .entry)) (now (sets .entry))) (rows (now (depths .entry)))) root all)) ⌝ }
 {
-    let at = subtree(cells, sets, root, 63, out, 0);
+    let at = subtree(cells, sets, depths, version, root, 63, out, 0);
     let c = tree::set_below(cells, sets, root, 18446744073709551615, 63);
-    put_set(out, at, c)
+    put_set(cells, sets, depths, version, root, c, out, at)
 }

@@ -10,8 +10,7 @@ use lib.ListN.{length, set, length-set}
 use Rattle.container.specs.Choice.{ite}
 use Rattle.buffer.specs.Page.{Page, page, put, putAll}
 use Rattle.buffer.proofs.Laws.{put-room, putAll-length, joined}
-use Rattle.definitions.specs.Schedule.{firstByte, secondByte}
-use Rattle.definitions.specs.Merge.{foreign, turns}
+use Rattle.definitions.specs.Merge.{firstByte, secondByte, foreign, turns}
 
 -- ---- threads that are not the file's
 

@@ -4,13 +4,13 @@ use mathlib.Core.Bool.{Bool, true, false}
 use mathlib.Core.List.{List, [], _∷_, _++_, append-assoc, append-nil}
 use Prim.Native.Nat.{ℕ, zero, suc, _+_, _*_, _/_, _≤_}
 use native.Mathlib.Omega.{arith}
-use borrow.Author.Tests.{eqb-true, ne-eqb}
+use borrow.Author.Tests.{eqb-true, eq-eqb, ne-eqb}
 use lib.Dec.{eqb}
-use lib.ListN.{length, drop, length-append}
+use lib.ListN.{length, getD, drop, length-append}
 use lib.Seq.{drop-cons, drop-length}
 use Rattle.container.specs.Choice.{ite}
-use Rattle.definitions.specs.Schedule.{Rec, firstByte, secondByte, recordsOf}
-use Rattle.definitions.specs.Merge.{foreign, turns}
+use Rattle.definitions.specs.Schedule.{Rec, recordAt, recordsOf}
+use Rattle.definitions.specs.Merge.{firstByte, secondByte, foreign, turns}
 use Rattle.definitions.specs.Merged.{inTurns, kept, isOf}
 use Rattle.merge.proofs.Sorted.{turns-append, kept-append}
 
@@ -18,19 +18,29 @@ use Rattle.merge.proofs.Sorted.{turns-append, kept-append}
 pub pairs : List ℕ → List Rec
 pairs [] = []
 pairs (x ∷ []) = []
-pairs (x ∷ y ∷ l) = record { first = x; second = y } ∷ pairs l
+pairs (x ∷ y ∷ l) = record { first = x; second = y; extra = 0 } ∷ pairs l
 
 abbrev recordOf : List ℕ → ℕ → Rec
-recordOf file k = record { first = firstByte file k; second = secondByte file k }
+recordOf file k = record { first = firstByte file k; second = secondByte file k; extra = 0 }
 
-pub records-length : (file : List ℕ) (k : ℕ) → length (recordsOf file k) ≡ k
-unfolding recordsOf
+-- the first k records of a version 1 file
+unfoldable pub plainOf : List ℕ → ℕ → List Rec
+plainOf file zero = []
+plainOf file (suc k) = plainOf file k ++ recordOf file k ∷ []
+
+pub records-plain : (file : List ℕ) → getD file 0 0 ≡ 1 → (k : ℕ) → recordsOf file k ≡ plainOf file k
+unfolding recordsOf recordAt plainOf ite
+records-plain file v zero = refl
+records-plain file v (suc k) = rw (records-plain file v k, eq-eqb _ _ v)
+
+pub records-length : (file : List ℕ) (k : ℕ) → length (plainOf file k) ≡ k
+unfolding plainOf
 records-length file zero = refl
-records-length file (suc k) = length-append (recordsOf file k) _ ∙ rw (records-length file k) (omega arith)
+records-length file (suc k) = length-append (plainOf file k) _ ∙ rw (records-length file k) (omega arith)
 
 -- ---- from record k on
 
-two : (x y : ℕ) (rest : List ℕ) → pairs (x ∷ y ∷ rest) ≡ record { first = x; second = y } ∷ pairs rest
+two : (x y : ℕ) (rest : List ℕ) → pairs (x ∷ y ∷ rest) ≡ record { first = x; second = y; extra = 0 } ∷ pairs rest
 unfolding pairs
 two x y rest = refl
 
@@ -45,25 +55,25 @@ module _ (file : List ℕ) where
   pairs-from k h = ap pairs (bytes-from k h) ∙ two _ _ _
 
   -- the first k, then what the bytes after them say
-  pub records-from : (d k n : ℕ) → k + d ≡ n → length file ≡ 3 + 2 * n → recordsOf file k ++ pairs (drop (3 + 2 * k) file) ≡ recordsOf file n
-  unfolding recordsOf pairs
+  pub records-from : (d k n : ℕ) → k + d ≡ n → length file ≡ 3 + 2 * n → plainOf file k ++ pairs (drop (3 + 2 * k) file) ≡ plainOf file n
+  unfolding plainOf pairs
   records-from zero k n e h =
       let q : k ≡ n = omega arith in
       let l : 3 + 2 * n ≡ length file = omega arith in
       rw (q, l, drop-length file, append-nil)
   records-from (suc d) k n e h =
-      rw (pairs-from k (omega arith), ← append-assoc (recordsOf file k) (recordOf file k ∷ []) (pairs (drop (3 + 2 * suc k) file)))
+      rw (pairs-from k (omega arith), ← append-assoc (plainOf file k) (recordOf file k ∷ []) (pairs (drop (3 + 2 * suc k) file)))
       (records-from d (suc k) n (omega arith) h)
 
 -- ---- written in turns
 
-pub pairs-turns : (first second rest : List ℕ) (k : ℕ) → pairs (turns first second k ++ rest) ≡ inTurns (recordsOf first k) (recordsOf second k) ++ pairs rest
-unfolding turns recordsOf inTurns
+pub pairs-turns : (first second rest : List ℕ) (k : ℕ) → pairs (turns first second k ++ rest) ≡ inTurns (plainOf first k) (plainOf second k) ++ pairs rest
+unfolding turns plainOf inTurns
 pairs-turns first second rest zero = refl
 pairs-turns first second rest (suc k) =
-    let e : length (recordsOf first k) ≡ length (recordsOf second k) = records-length first k ∙ sym (records-length second k) in
-    rw (append-assoc (turns first second k), pairs-turns first second _ k, turns-append (recordsOf first k) (recordsOf second k) (recordOf first k ∷ []) (recordOf second k ∷ []) e, append-assoc (inTurns (recordsOf first k) (recordsOf second k)))
-    (ap (λ (l : List Rec). inTurns (recordsOf first k) (recordsOf second k) ++ l) (two _ _ _ ∙ ap (λ (m : List Rec). recordOf first k ∷ m) (two _ _ rest)))
+    let e : length (plainOf first k) ≡ length (plainOf second k) = records-length first k ∙ sym (records-length second k) in
+    rw (append-assoc (turns first second k), pairs-turns first second _ k, turns-append (plainOf first k) (plainOf second k) (recordOf first k ∷ []) (recordOf second k ∷ []) e, append-assoc (inTurns (plainOf first k) (plainOf second k)))
+    (ap (λ (l : List Rec). inTurns (plainOf first k) (plainOf second k) ++ l) (two _ _ _ ∙ ap (λ (m : List Rec). recordOf first k ∷ m) (two _ _ rest)))
 
 -- ---- a file has no record of another file's threads
 
@@ -76,10 +86,10 @@ module _ (f : ℕ) (file : List ℕ) where
       by true e z = (eqb-true _ _ e, z)
       by false e z = absurd (omega arith)
 
-  pub none-of : (t : ℕ) → (t / 2 ≡ f → ⊥) → (k : ℕ) → foreign f file k ≡ 0 → kept (isOf t) (recordsOf file k) ≡ []
-  unfolding recordsOf kept ite
+  pub none-of : (t : ℕ) → (t / 2 ≡ f → ⊥) → (k : ℕ) → foreign f file k ≡ 0 → kept (isOf t) (plainOf file k) ≡ []
+  unfolding plainOf kept ite
   none-of t i zero z = refl
   none-of t i (suc k) z =
       let o = own-so-far k z in
       let off : eqb (firstByte file k / 16) t ≡ false = ne-eqb (firstByte file k / 16) t (λ e. i (rw e at (o .0))) in
-      kept-append (isOf t) (recordsOf file k) (recordOf file k ∷ []) ∙ rw (none-of t i k (o .1), off)
+      kept-append (isOf t) (plainOf file k) (recordOf file k ∷ []) ∙ rw (none-of t i k (o .1), off)

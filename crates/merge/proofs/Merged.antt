@@ -1,5 +1,5 @@
 -- Two schedules into one: the merged file has every record of both, in turns, and each thread's in their order. Assumes nothing.
-use mathlib.Core.Path.{_≡_, refl, sym, ap, _∙_}
+use mathlib.Core.Path.{_≡_, refl, sym, ap, ap₂, _∙_}
 use mathlib.Core.List.{List, _∷_, _++_}
 use Prim.Native.Nat.{ℕ, _+_, _-_, _*_, _≤_, _<_, min}
 use native.Mathlib.Omega.{arith}
@@ -9,17 +9,17 @@ use lib.Dec.{ltb}
 use lib.ListN.{length, getD, drop, length-append, length-drop}
 use lib.Seq.{take-at, drop-at, take-all}
 use Rattle.container.specs.Choice.{ite}
-use Rattle.schedule.proofs.Laws.{right}
-use Rattle.definitions.specs.Schedule.{Rec, countOf, fileRefusal, recordsOf}
+use Rattle.schedule.proofs.Laws.{right-one, fault-file}
+use Rattle.definitions.specs.Schedule.{Rec, countOf, fileRefusal}
 use Rattle.definitions.specs.Run.{overlay}
 use Rattle.definitions.specs.Merge.{fault, total, smaller, needed, mergeBytes, mergeBuffer, leftOver, mergeReport, partOf}
 use Rattle.definitions.specs.Merged.{mergedFile, allOf, inTurns, kept, isOf, MergedRight, MergeRule}
 use Rattle.merge.specs.Accepted.{Accepted}
-use Rattle.merge.proofs.Refusals.{fault-file, accepted}
+use Rattle.merge.proofs.Refusals.{accepted}
 use Rattle.merge.proofs.Taken.{run-accepts, run-carries}
 use Rattle.merge.proofs.Output.{bytes-length, rest-first, rest-second}
 use Rattle.merge.proofs.Sorted.{longer-first, longer-second, kept-first, kept-second, kept-both}
-use Rattle.merge.proofs.Decoded.{pairs, records-length, records-from, pairs-turns, none-of}
+use Rattle.merge.proofs.Decoded.{plainOf, records-plain, pairs, records-length, records-from, pairs-turns, none-of}
 
 abbrev pub part : List ℕ → List ℕ → List ℕ
 part first second = partOf first second (leftOver first second)
@@ -33,9 +33,9 @@ whole first second = mergeBytes first second ++ part first second
 -- it makes the records complete
 pub record Completes (first second rest : List ℕ) : Type 0 where
   pub size : length rest + 4 * smaller first second ≡ 2 * total first second
-  pub records : inTurns (recordsOf first (smaller first second)) (recordsOf second (smaller first second)) ++ pairs rest ≡ inTurns (allOf first) (allOf second)
+  pub records : inTurns (plainOf first (smaller first second)) (plainOf second (smaller first second)) ++ pairs rest ≡ inTurns (plainOf first (countOf first)) (plainOf second (countOf second))
 
-same-length : (first second : List ℕ) (k : ℕ) → length (recordsOf first k) ≡ length (recordsOf second k)
+same-length : (first second : List ℕ) (k : ℕ) → length (plainOf first k) ≡ length (plainOf second k)
 same-length first second k = records-length first k ∙ sym (records-length second k)
 
 module _ (first second : List ℕ) {room : ℕ} (h : Accepted first second room) where
@@ -48,7 +48,7 @@ module _ (first second : List ℕ) {room : ℕ} (h : Accepted first second room)
         size = rw (e, n) (omega (arith, length-drop (3 + 2 * countOf first) second, h .other .whole));
         records =
             rw (e, n, ← records-from second (countOf second - countOf first) (countOf first) (countOf second) (omega arith) (h .other .whole))
-            (sym (longer-second (recordsOf first (countOf first)) (recordsOf second (countOf first)) (pairs tail) (same-length first second (countOf first))));
+            (sym (longer-second (plainOf first (countOf first)) (plainOf second (countOf first)) (pairs tail) (same-length first second (countOf first))));
       }
 
   of-first : countOf second ≤ countOf first → Completes first second (part first second)
@@ -60,7 +60,7 @@ module _ (first second : List ℕ) {room : ℕ} (h : Accepted first second room)
         size = rw (e, n) (omega (arith, length-drop (3 + 2 * countOf second) first, h .one .whole));
         records =
             rw (e, n, ← records-from first (countOf first - countOf second) (countOf second) (countOf first) (omega arith) (h .one .whole))
-            (sym (longer-first (recordsOf first (countOf second)) (recordsOf second (countOf second)) (pairs tail) (same-length first second (countOf second))));
+            (sym (longer-first (plainOf first (countOf second)) (plainOf second (countOf second)) (pairs tail) (same-length first second (countOf second))));
       }
 
   pub completes : Completes first second (part first second)
@@ -88,21 +88,27 @@ module _ (first second : List ℕ) {room : ℕ} (h : Accepted first second room)
   whole-proper =
       let n = whole-length in
       let c = whole-count first second in
-      sym (right (whole first second) (omega arith) (whole-version first second) (omega (arith, h .few)) (omega arith))
+      sym (right-one (whole first second) (omega arith) (whole-version first second) (omega (arith, h .few)) (omega arith))
 
-  whole-records : allOf (whole first second) ≡ inTurns (allOf first) (allOf second)
-  unfolding recordsOf mergeBytes
-  whole-records =
-      ap (recordsOf (whole first second)) (whole-count first second)
+  plain-records : plainOf (whole first second) (countOf (whole first second)) ≡ inTurns (plainOf first (countOf first)) (plainOf second (countOf second))
+  unfolding plainOf mergeBytes
+  plain-records =
+      ap (plainOf (whole first second)) (whole-count first second)
       ∙ (sym (records-from (whole first second) (total first second) 0 (total first second) (omega arith) whole-length)
       ∙ (pairs-turns first second (part first second) (smaller first second) ∙ completes first second h .records))
+
+  whole-records : allOf (whole first second) ≡ inTurns (allOf first) (allOf second)
+  whole-records =
+      records-plain (whole first second) (whole-version first second) (countOf (whole first second))
+      ∙ (plain-records
+      ∙ ap₂ inTurns (sym (records-plain first (h .one .version) (countOf first))) (sym (records-plain second (h .other .version) (countOf second))))
 
   -- each thread's records come from its own file
   own-records : (t : ℕ) → kept (isOf t) (inTurns (allOf first) (allOf second)) ≡ kept (isOf t) (allOf (ite (ltb t 2) first second))
   unfolding ite
   own-records t = elim (decLt t 2) [
-    | yes l ↦ rw (lt-ltb t 2 l) (kept-first (isOf t) (allOf first) (allOf second) (none-of 1 second t (λ e. omega arith) (countOf second) (h .own-other)))
-    | no l ↦ rw (le-ltb t 2 (omega arith)) (kept-second (isOf t) (allOf first) (allOf second) (none-of 0 first t (λ e. omega arith) (countOf first) (h .own-one)))
+    | yes l ↦ rw (lt-ltb t 2 l) (kept-first (isOf t) (allOf first) (allOf second) (ap (kept (isOf t)) (records-plain second (h .other .version) (countOf second)) ∙ none-of 1 second t (λ e. omega arith) (countOf second) (h .own-other)))
+    | no l ↦ rw (le-ltb t 2 (omega arith)) (kept-second (isOf t) (allOf first) (allOf second) (ap (kept (isOf t)) (records-plain first (h .one .version) (countOf first)) ∙ none-of 0 first t (λ e. omega arith) (countOf first) (h .own-one)))
   ]
 
   shown : (out after file : List ℕ) → needed first second ≤ length out → after ≡ overlay (mergeBytes first second) out → file ≡ whole first second → MergedRight first second file out after
@@ -117,7 +123,7 @@ module _ (first second : List ℕ) {room : ℕ} (h : Accepted first second room)
         threads = λ t. ap (kept (isOf t)) all ∙ own-records t;
         same = λ p. ap (λ (l : List Rec). length (kept p l)) all ∙ kept-both p (allOf first) (allOf second);
         accepted = run-accepts file (ap fileRefusal g ∙ whole-proper);
-        carried = λ m l. run-carries file (ap fileRefusal g ∙ whole-proper) m (rw (ap countOf g ∙ whole-count first second) l);
+        carried = λ m l. run-carries file (ap fileRefusal g ∙ whole-proper) (ap (λ (l : List ℕ). getD l 0 0) g ∙ whole-version first second) m (rw (ap countOf g ∙ whole-count first second) l);
         untouched = rw f (drop-at (mergeBytes first second) _ (needed first second) n ∙ rw n);
         long = ap length f ∙ (length-append (mergeBytes first second) _ ∙ rw (length-drop, n) (omega arith));
       }

@@ -11,7 +11,8 @@ use Rattle.buffer.proofs.Laws.{put-room, put-fits}
 use Rattle.definitions.specs.Schedule.{countOf}
 use Rattle.definitions.specs.Run.{overlay}
 use Rattle.definitions.specs.Merge.{smaller, needed, turns, mergeRefusal, mergeBytes, mergeBuffer, leftOver, mergeReport, partOf}
-use Rattle.merge.specs.Accepted.{Plain, Accepted}
+use Rattle.schedule.specs.Proper.{Plain}
+use Rattle.merge.specs.Accepted.{Accepted}
 use Rattle.merge.specs.Merging.{Merging}
 
 -- ---- the bytes

@@ -7,36 +7,11 @@ use Prim.Native.Nat.{ℕ, _+_, _*_, _≤_, _<_, min}
 use native.Mathlib.Omega.{arith}
 use borrow.Author.Tests.{eq-eqb, ne-eqb, lt-ltb, le-ltb, ltb-false, eqb-true}
 use lib.Dec.{eqb, ltb}
-use lib.ListN.{length, getD}
 use Rattle.container.specs.Choice.{ite}
-use Rattle.schedule.proofs.Laws.{proper}
-use Rattle.definitions.specs.Schedule.{countOf, fileRefusal}
+use Rattle.schedule.proofs.Laws.{plain}
+use Rattle.definitions.specs.Schedule.{countOf}
 use Rattle.definitions.specs.Merge.{fault, foreign, total, needed, firstOf, mergeRefusal}
-use Rattle.merge.specs.Accepted.{Plain, Accepted}
-
--- ---- a file's fault
-
-module _ (file : List ℕ) where
-  pub fault-short : length file < 3 → 1 ≡ fault file
-  unfolding fault ite
-  fault-short h = rw (lt-ltb _ _ h)
-
-  pub fault-version : 3 ≤ length file → (getD file 0 0 ≡ 1 → ⊥) → 2 ≡ fault file
-  unfolding fault ite
-  fault-version h i = rw (le-ltb _ _ h, ne-eqb _ _ i)
-
-  pub fault-file : {r : ℕ} → 3 ≤ length file → getD file 0 0 ≡ 1 → r ≡ fileRefusal file → r ≡ fault file
-  unfolding fault ite
-  fault-file h e f = rw (le-ltb _ _ h, eq-eqb _ _ e) f
-
-  pub plain : fault file ≡ 0 → Plain file
-  unfolding fault ite
-  plain = by (ltb (length file) 3) (eqb (getD file 0 0) 1) refl
-    where
-      by : (s t : Bool) → eqb (getD file 0 0) 1 ≡ t → _≡_ {A = ℕ} (ite s 1 (ite t (fileRefusal file) 2)) 0 → Plain file
-      by true t e z = absurd (omega arith)
-      by false false e z = absurd (omega arith)
-      by false true e z = let p = proper file z in record { version = eqb-true _ _ e; few = p .few; whole = p .whole }
+use Rattle.merge.specs.Accepted.{Accepted}
 
 -- ---- the first that is not 0
 

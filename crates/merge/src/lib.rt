@@ -7,25 +7,13 @@ ghost use lib.ListN.{length};
 ghost use Rattle.container.specs.Choice.{ite};
 ghost use Rattle.buffer.specs.Page.{page, putAll};
 ghost use Rattle.definitions.specs.Run.{overlay};
-ghost use Rattle.definitions.specs.Merge.{fault, foreign, mergeRefusal, turns, mergeBytes, leftOver, partOf};
-ghost use Rattle.merge.specs.Accepted.{Plain, Accepted};
+ghost use Rattle.definitions.specs.Merge.{foreign, mergeRefusal, turns, mergeBytes, leftOver, partOf};
+ghost use Rattle.schedule.specs.Proper.{Plain};
+ghost use Rattle.merge.specs.Accepted.{Accepted};
 ghost use Rattle.merge.specs.Merging.{Merging};
 
-// The fault of a file, which is to be of version 1; 0 for none.
-fn fault_of(s: &[u8]) -> u64
-    ensures { λ r. ⌜ r ≡ fault (now (s .entry)) ⌝ }
-{
-    if s.len() < 3 {
-        return 1;
-    }
-    if s[0] != 1 {
-        return 2;
-    }
-    schedule::file_refusal(s)
-}
-
 // The refusal after one record more, whose first byte is x: 17 where its thread is not the file's, else as before.
-fn refused_by(f: u8, x: u8, before: u64) -> u64
+fn refused_by(f: u8, x: u8, before: u16) -> u16
     ensures { λ r. ⌜ r ≡ ite (eqb (x / 16 / 2) f) before 17 ⌝ }
 {
     if x / 16 / 2 != f {
@@ -34,19 +22,27 @@ fn refused_by(f: u8, x: u8, before: u64) -> u64
     before
 }
 
+// The same number in 64 bits.
+fn wide(x: u16) -> u64
+    ensures { λ r. ⌜ r ≡ x ⌝ }
+{
+    x as u64
+}
+
 // 17 where one of the first `count` records is of a thread that is not the file's, else 0; f is 0 for the first file, 1 for the second.
 fn foreign_in(f: u8, s: &[u8], count: usize) -> u64
     requires { ⌜ (count ≤ 4096) × (3 + 2 * count ≤ length (now s)) ⌝ }
     ensures { λ r. ⌜ r ≡ foreign f (now (s .entry)) count ⌝ }
 {
-    let mut refusal = 0u64;
+    // 16 bits: the compiler then looks at eight records at a time
+    let mut refusal = 0u16;
     let mut k = 0usize;
     while k < count {
         let x = s[3 + 2 * k];
         refusal = refused_by(f, x, refusal);
         k = k + 1;
     }
-    refusal
+    wide(refusal)
 }
 
 // The smaller of two counts.
@@ -60,23 +56,23 @@ fn smaller_of(a: usize, b: usize) -> usize
 fn refusal_of(first: &[u8], second: &[u8], room: usize) -> u64
     ensures { λ r. ⌜ r ≡ mergeRefusal (now (first .entry)) (now (second .entry)) room ⌝ }
 {
-    let wrong = fault_of(first);
-    if wrong != 0 {
-        return wrong;
+    let first_fault = schedule::fault_of(first);
+    if first_fault != 0 {
+        return first_fault;
     }
-    let bad = fault_of(second);
-    if bad != 0 {
-        return bad;
+    let second_fault = schedule::fault_of(second);
+    if second_fault != 0 {
+        return second_fault;
     }
     let a = schedule::count_of(first);
     let b = schedule::count_of(second);
-    let astray = foreign_in(0, first, a);
-    if astray != 0 {
-        return astray;
+    let first_foreign = foreign_in(0, first, a);
+    if first_foreign != 0 {
+        return first_foreign;
     }
-    let stray = foreign_in(1, second, b);
-    if stray != 0 {
-        return stray;
+    let second_foreign = foreign_in(1, second, b);
+    if second_foreign != 0 {
+        return second_foreign;
     }
     if 4096 < a + b {
         return 3;

@@ -1,10 +1,10 @@
--- All zero cells and words hold a table of empty bases. Assumes nothing.
+-- All zero cells and words hold a table of empty bases, but for their depths. Assumes nothing.
 use mathlib.Core.Path.{_≡_, refl, ap₂, fun-ext}
 use mathlib.Core.Bool.{Bool, true, false, cond}
 use Prim.Native.Nat.{ℕ, zero, suc, _+_, _*_}
 use lib.Dec.{ltb}
 use lib.ListN.{getD, replicate}
-use Rattle.definitions.specs.Nodes.{emptyBase}
+use Rattle.definitions.specs.Nodes.{shape, emptyBase}
 use Rattle.nodes.specs.Cells.{row, decode, table}
 
 zeros : (k i : ℕ) → getD {A = ℕ} (replicate k 0) i 0 ≡ 0
@@ -19,6 +19,6 @@ blank-row j m = rw (zeros 4096 (j * 16 + m)) (by (ltb m 16))
     by true = refl
     by false = refl
 
-pub blank : table (replicate 4096 0) (replicate 256 0) ≡ (λ _. emptyBase)
+pub blank : table (replicate 4096 0) (replicate 256 0) ≡ (λ _. shape emptyBase)
 unfolding table
 blank = fun-ext (λ j. ap₂ decode (fun-ext (blank-row j)) (zeros 256 j))

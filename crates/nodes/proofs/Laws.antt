@@ -15,7 +15,7 @@ use Rattle.definitions.specs.declared.Stage.{Stage}
 use Rattle.definitions.specs.declared.Stage.the-variants.{Completing}
 use Rattle.definitions.specs.declared.Check.{Check}
 use Rattle.definitions.specs.declared.Node.{Node}
-use Rattle.definitions.specs.Nodes.{Nodes, withKid, withMark, withValid, withStage, committed, childFor, checkStage, check}
+use Rattle.definitions.specs.Nodes.{Shapes, withKid, withMark, withValid, withStage, committed, childFor, checkStage, check}
 use Rattle.nodes.specs.Cells.{linkOf, flagOf, numberOf, kindOf, kindCode, stageOf, stageCode, validOf, validCode, table}
 use Rattle.nodes.proofs.Codes.{link-back, kind-back, stage-back, valid-back}
 use Rattle.nodes.proofs.Cells.{first, next, cells-written, both-written}
@@ -38,7 +38,7 @@ pub check-at : (s : Stage) (m : ℕ) (c : Check) {a : Stage} {r : Check} → s �
 check-at s m c e q = rw e q
 
 -- ---- the check of the base x: n is that node, m its main, c the answer
-module _ (t : Nodes) (x : ℕ) {n : Node} where
+module _ (t : Shapes) (x : ℕ) {n : Node} where
   pub check-normal : n ≡ t x → n .kind ≡ Normal → Check.Replaceable ≡ check t x
   unfolding check
   check-normal e k = rw (← e, k)

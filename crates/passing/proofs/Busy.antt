@@ -21,7 +21,7 @@ use Rattle.definitions.specs.declared.Thread.{Thread}
 use Rattle.definitions.specs.declared.Turn.{Turn}
 use Rattle.definitions.specs.declared.Turn.the-variants.{Moves, Finishes, Full}
 use Rattle.definitions.specs.Nodes.{childFor, check}
-use Rattle.definitions.specs.Bench.{Store}
+use Rattle.definitions.specs.Bench.{Sight}
 use Rattle.definitions.specs.Places.{Swap, own, found, united, quarterNumber, firstOf, number, Place, nowhere, p1, p2, p3, p15, p16, p20, p21, p22, p23, p24, p25, p30, p31, p32, p33, p34, p35, p36, p37, p38, p40, p45, p46, p47, p48, p49, p50, p51, swap}
 use Rattle.definitions.specs.Steps.{backOut, atLeaf, reached, helpBy, blockedAs, blocked, lostAs, lost, joinUnder, clearedAs, cleared, probe, replacedAs, replaced, ownBy, foundBy, unitedBy, beside, grandMarking, cutAt, cutOn, cutRight, freeing, step}
 
@@ -44,7 +44,7 @@ unfolding ite
 fork th true o o' p q = p
 fork th false o o' p q = q
 
-module _ (s : Store) (th : Thread) (busy : isIdle th ≡ false) where
+module _ (s : Sight) (th : Thread) (busy : isIdle th ≡ false) where
   leaf : (a : Action) (x : ℕ) → Stays (atLeaf a (s .nodes) th x)
   leaf Lookup x = tt
   leaf Insert x = refl

@@ -17,8 +17,9 @@ use Rattle.definitions.specs.Records.{Row, noRow, row, Result, refused, carried
 use Rattle.definitions.specs.Answers.{said}
 use Rattle.definitions.specs.declared.Answer.{Answer}
 use Rattle.definitions.specs.Schedule.{Rec}
-use Rattle.definitions.specs.Plain.{Plain, doing, empty, settled, settledBy, finish, start, carriedOut}
-use Rattle.definitions.specs.Claim.{rowAdded, firstSteps, opened, moment, Fits, Answered}
+use Rattle.definitions.specs.PlainSet.{Plain, doing, empty, settled, settledBy, finish, start, carriedOut}
+use Rattle.definitions.specs.Claim.{firstSteps, opened, moment}
+use Rattle.definitions.specs.SetClaim.{Fits}
 use Rattle.passing.proofs.Standing.{Hist, Standing, firsts, Next, next, now-is}
 use Rattle.definitions.specs.History.{Event, Operation, Reading, begun, endedBy, noted, isOpen, inRange, closes, inPlace}
 use Rattle.definitions.specs.Judgement.{actionOf, reply}
@@ -137,16 +138,16 @@ module _ (H : Hist) (r : Rec) (rs : List Rec) (b b' : Bench) (P : Plain) (f : �
       quiet : H (suc k) ≡ H k
       quiet = fun-ext (λ v. now-is H rs b' P (upd f t (opened (f t) k)) (suc k) standing v ∙ sym (set-now v))
 
-  end-case : (n : ℕ) (a : Answer) → Ended b t n b' → Standing H rs b' (carriedOut n t (r .second) true P) (firstSteps n t k f) (suc k)
+  end-case : (n : ℕ) (a : Answer) (d c : ℕ) → Ended b t n b' → Standing H rs b' (carriedOut n t (r .second) true P) (firstSteps n t k f) (suc k)
       → Fits (P .operation t) (b .threads t .place) P H (moment (firstSteps n t k f t)) k a
-      → OnlyThree (eventOf n b r (row a) ++ eventsFrom rs b') → AllFinished (endFrom rs b') → Onward → Passed H (eventOf n b r (row a) ++ eventsFrom rs b') R f k
-  end-case n a d z' fits o fin ih = subst (λ v. Passed H (eventOf v b r (row a) ++ eventsFrom rs b') R f k) (sym (d .number)) (by (b .threads t .action) refl fits')
+      → OnlyThree (eventOf n b r (row a d c) ++ eventsFrom rs b') → AllFinished (endFrom rs b') → Onward → Passed H (eventOf n b r (row a d c) ++ eventsFrom rs b') R f k
+  end-case n a d c g z' fits o fin ih = subst (λ v. Passed H (eventOf v b r (row a d c) ++ eventsFrom rs b') R f k) (sym (g .number)) (by (b .threads t .action) refl fits')
     where
       e : Event
       e = endEvent r b a
 
       op : Open b P R t
-      op = L.opened b P R t l (d .busy)
+      op = L.opened b P R t l (g .busy)
 
       i : ℕ
       i = op .number
@@ -155,13 +156,13 @@ module _ (H : Hist) (r : Rec) (rs : List Rec) (b b' : Bench) (P : Plain) (f : �
       st = b .threads t .station
 
       three : OnlyThree (e ∷ eventsFrom rs b')
-      three = subst (λ v. OnlyThree (eventOf v b r (row a) ++ eventsFrom rs b')) (d .number) o
+      three = subst (λ v. OnlyThree (eventOf v b r (row a d c) ++ eventsFrom rs b')) (g .number) o
 
       fits' : Fits (doing (b .threads t .action) st) (b .threads t .place) P H (moment (firstSteps 0 t k f t)) k a
-      fits' = subst (λ v. Fits v (b .threads t .place) P H (moment (firstSteps 0 t k f t)) k a) (op .plain) (subst (λ v. Fits (P .operation t) (b .threads t .place) P H (moment (firstSteps v t k f t)) k a) (d .number) fits)
+      fits' = subst (λ v. Fits v (b .threads t .place) P H (moment (firstSteps 0 t k f t)) k a) (op .plain) (subst (λ v. Fits (P .operation t) (b .threads t .place) P H (moment (firstSteps v t k f t)) k a) (g .number) fits)
 
       standing : Standing H rs b' (finish t P) (upd f t (opened (f t) k)) (suc k)
-      standing = subst (λ v. Standing H rs b' (carriedOut v t (r .second) true P) (firstSteps v t k f) (suc k)) (d .number) z'
+      standing = subst (λ v. Standing H rs b' (carriedOut v t (r .second) true P) (firstSteps v t k f) (suc k)) (g .number) z'
 
       some : e .mark ≢ 0
       some q = omega (arith, q)
@@ -171,7 +172,7 @@ module _ (H : Hist) (r : Rec) (rs : List Rec) (b b' : Bench) (P : Plain) (f : �
 
       tail : Passed H (eventsFrom rs b') (noted e R) (upd f t (opened (f t) k)) (suc k)
       tail = ih (finish t P) (upd f t (opened (f t) k)) (noted e R) standing
-          (subst (λ Q. Linked b' (finish t P) Q) (sym (noted-finish e R i some (op .busy))) (linked-ended b b' P R l tidy e n i d (op .busy)))
+          (subst (λ Q. Linked b' (finish t P) Q) (sym (noted-finish e R i some (op .busy))) (linked-ended b b' P R l tidy e n i g (op .busy)))
           (subst (λ Q. Tidy Q) (sym (noted-finish e R i some (op .busy))) (tidy-ended R e tidy i (op .busy))) (three .1) fin
 
       after : (s : ℕ) → H (suc k) s ≡ settled (b .threads t .action) st (H k) s
@@ -196,7 +197,7 @@ module _ (H : Hist) (r : Rec) (rs : List Rec) (b b' : Bench) (P : Plain) (f : �
 pub pass : (H : Hist) (rs : List Rec) (b : Bench) (P : Plain) (f : ℕ → Link) (k : ℕ) (R : Reading) → Standing H rs b P f k → Linked b P R → Tidy R
     → OnlyThree (eventsFrom rs b) → AllFinished (endFrom rs b) → Passed H (eventsFrom rs b) R f k
 pass H [] b P f k R z l tidy o fin = stops H b P R f k l tidy fin
-pass H (r ∷ rs) b P f k R z l tidy o fin = go (recordStep b (r .first) (r .second)) (next H r rs b P f k z) (did b (r .first) (r .second)) o fin (λ b' P' f' R'. pass H rs b' P' f' (suc k) R')
+pass H (r ∷ rs) b P f k R z l tidy o fin = go (recordStep b (r .first) (r .second) (r .extra)) (next H r rs b P f k z) (did b (r .first) (r .second) (r .extra)) o fin (λ b' P' f' R'. pass H rs b' P' f' (suc k) R')
   where
     go : (res : Result) → Next H r rs b P (firsts r k f) k res → Did b (r .first / 16) (r .second) (r .first % 16) res
         → OnlyThree (eventsBy res b r (λ b'. eventsFrom rs b')) → AllFinished (endBy res b (λ b'. endFrom rs b'))
@@ -205,4 +206,4 @@ pass H (r ∷ rs) b P f k R z l tidy o fin = go (recordStep b (r .first) (r .sec
     go (refused _) _ _ o fin ih = stops H b P R f k l tidy fin
     go (carried b' noRow) (_, z') (small, inl s) o fin ih = start-case H r rs b b' P f k R z l tidy small (r .first % 16) s z' o fin (ih b')
     go (carried b' noRow) (_, z') (small, inr m) o fin ih = move-case H r rs b b' P f k R z l tidy small (r .first % 16) m z' o fin (ih b')
-    go (carried b' (row a)) (fits, z') (small, d) o fin ih = end-case H r rs b b' P f k R z l tidy small (r .first % 16) a d z' fits o fin (ih b')
+    go (carried b' (row a d c)) (fits, z') (small, g) o fin ih = end-case H r rs b b' P f k R z l tidy small (r .first % 16) a d c g z' fits o fin (ih b')

@@ -12,8 +12,8 @@ use Rattle.definitions.specs.declared.Action.{Action}
 use Rattle.definitions.specs.declared.Thread.{Thread}
 use Rattle.definitions.specs.Bench.{Bench, begun as newThread, idle, fresh}
 use Rattle.definitions.specs.Records.{isIdle, actionNumber}
-use Rattle.definitions.specs.Plain as plain
-use Rattle.definitions.specs.Plain.{Plain, doing, empty, finish, start}
+use Rattle.definitions.specs.PlainSet as plain
+use Rattle.definitions.specs.PlainSet.{Plain, doing, empty, finish, start}
 use Rattle.definitions.specs.History.{Event, Operation, Reading, unread, begun, endedBy}
 use Rattle.judge.proofs.Tools.{_==?_, clash}
 use Rattle.passing.proofs.Did.{Started, Moved, Ended}

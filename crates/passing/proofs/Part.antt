@@ -11,7 +11,7 @@ use borrow.Author.Tests.{eq-eqb, ne-eqb}
 use Rattle.definitions.specs.declared.Link.{Link}
 use Rattle.definitions.specs.declared.Link.the-variants.{Nil, To}
 use Rattle.definitions.specs.declared.Action.the-variants.{Lookup}
-use Rattle.definitions.specs.Plain.{settled}
+use Rattle.definitions.specs.PlainSet.{settled}
 use Rattle.definitions.specs.History.{Operation, Operations, Reading}
 use Rattle.definitions.specs.Judgement.{times, Keeps, actionOf, reply, Answers}
 use Rattle.judge.proofs.Tools.{Test, on, off, test, _==?_, clash}

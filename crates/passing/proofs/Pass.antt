@@ -16,9 +16,10 @@ use Rattle.definitions.specs.declared.Action.the-variants.{Lookup, Insert, Remo
 use Rattle.definitions.specs.Bench.{Bench, fresh}
 use Rattle.definitions.specs.Records.{Row, noRow, row, Result, refused, carried, recordStep, isIdle, actionNumber}
 use Rattle.definitions.specs.Schedule.{Rec}
-use Rattle.definitions.specs.Plain as plain
-use Rattle.definitions.specs.Plain.{Plain, doing, empty, settled, settledBy, finish, start, carriedOut}
-use Rattle.definitions.specs.Claim.{rowAdded, firstSteps, opened, moment, Fits, Answered}
+use Rattle.definitions.specs.PlainSet as plain
+use Rattle.definitions.specs.PlainSet.{Plain, doing, empty, settled, settledBy, finish, start, carriedOut}
+use Rattle.definitions.specs.Claim.{firstSteps, opened, moment}
+use Rattle.definitions.specs.SetClaim.{Fits}
 use Rattle.passing.proofs.Standing.{Hist}
 use Rattle.definitions.specs.History.{Event, Operation, Operations, Reading, begun, endedBy, noted, isOpen, inRange, closes, inPlace}
 use Rattle.definitions.specs.Judgement.{times, Keeps, actionOf, reply, Answers}

@@ -1,5 +1,5 @@
 -- A version 1 run that has only lookups, inserts and removes, at most 12, all finished, is accepted by Judge (02, j), from the answers
--- rule. Assumes nothing.
+-- rule over the plain set. Assumes nothing.
 use mathlib.Core.Path.{_≡_, refl, sym, _∙_, ap, subst, fun-ext}
 use mathlib.Core.Bool.{Bool, true, false}
 use mathlib.Core.List.{List, [], _∷_}
@@ -11,10 +11,10 @@ use lib.ListN.{getD, length}
 use borrow.Author.Tests.{lt-ltb, le-ltb}
 use Rattle.definitions.specs.declared.Link.the-variants.{Nil}
 use Rattle.definitions.specs.Bench.{fresh}
-use Rattle.definitions.specs.Plain.{empty}
+use Rattle.definitions.specs.PlainSet.{empty}
 use Rattle.definitions.specs.Schedule.{Rec, recordsOf, countOf}
-use Rattle.definitions.specs.Claim.{moments}
-use Rattle.answers.proofs.AnswersRule.{answers-rule}
+use Rattle.definitions.specs.SetClaim.{moments}
+use Rattle.answers.proofs.SetRule.{set-rule}
 use Rattle.passing.proofs.Standing.{at-start, now-is}
 use Rattle.definitions.specs.History.{Event, Reading, unread, readingOf, historyRefusal}
 use Rattle.definitions.specs.Judgement.{times, once, Each, Answers, Order, Verdict, accepts, rejects, Decided, JudgementBy, Judgement}
@@ -38,10 +38,10 @@ module _ (rs : List Rec) (ok : Eligible rs) where
   file = historyOf (eventsFrom rs fresh)
 
   pub passed : Passed (moments rs) es unread (λ _. Nil) 0
-  passed = pass (moments rs) rs fresh empty (λ _. Nil) 0 unread (at-start rs (answers-rule .0 rs)) linked-fresh tidy-unread (ok .three) (ok .finished)
+  passed = pass (moments rs) rs fresh empty (λ _. Nil) 0 unread (at-start rs (set-rule .0 rs)) linked-fresh tidy-unread (ok .three) (ok .finished)
 
   nothing-in : moments rs 0 ≡ (λ _. false)
-  nothing-in = fun-ext (λ s. now-is (moments rs) rs fresh empty (λ _. Nil) 0 (at-start rs (answers-rule .0 rs)) s)
+  nothing-in = fun-ext (λ s. now-is (moments rs) rs fresh empty (λ _. Nil) 0 (at-start rs (set-rule .0 rs)) s)
 
   pub run-order : Order (readAll es unread .all) (passed .list)
   run-order = record {
@@ -78,10 +78,10 @@ module _ (rs : List Rec) (ok : Eligible rs) where
 -- ---- the run of a schedule file
 pub runs-pass : RunsPass
 unfolding written
-runs-pass file three few fin =
+runs-pass file one three few fin =
     let rs = recordsOf file (countOf file) in
     let ok : Eligible rs = record { three = three; few = few; finished = subst (λ b. AllFinished b) (run-bench file) fin } in
-    record { rows = run-rows file; judged = run-passes rs ok }
+    record { rows = run-rows file one; judged = run-passes rs ok }
 
 -- the history of every run has room
 pub room-enough : (count : ℕ) → Enough count (3 + 4 * count)

@@ -11,7 +11,7 @@ use Rattle.container.specs.Choice.{ite}
 use Rattle.definitions.specs.declared.Answer.{Answer}
 use Rattle.definitions.specs.Bench.{Bench, fresh}
 use Rattle.definitions.specs.Records.{Row, noRow, row, Result, refused, carried, recordStep}
-use Rattle.definitions.specs.Schedule.{Rec, recordsOf, countOf, firstByte, secondByte}
+use Rattle.definitions.specs.Schedule.{Rec, version, recordAt, recordsOf, countOf}
 use Rattle.definitions.specs.Run.{Progress, begin, rowBytes, advanceBy, advance, after, ended}
 use Rattle.definitions.specs.History.{Event}
 use Rattle.definitions.specs.Written.{eventOf, eventsBy, eventsFrom, rowOf, rowsOf}
@@ -19,32 +19,32 @@ use Rattle.passing.specs.Lists.{endBy, endFrom}
 use Rattle.passing.proofs.Did.{Did, did}
 
 -- ---- a run as a walk over a list of records
-unfoldable pub walk : List Rec → Progress → Progress
-walk [] p = p
-walk (r ∷ rs) p = walk rs (advance p (r .first) (r .second))
+unfoldable pub walk : List ℕ → List Rec → Progress → Progress
+walk file [] p = p
+walk file (r ∷ rs) p = walk file rs (advance file p r)
 
-walk-last : (rs : List Rec) (r : Rec) (p : Progress) → walk (rs ++ r ∷ []) p ≡ advance (walk rs p) (r .first) (r .second)
+walk-last : (file : List ℕ) (rs : List Rec) (r : Rec) (p : Progress) → walk file (rs ++ r ∷ []) p ≡ advance file (walk file rs p) r
 unfolding walk
-walk-last [] r p = refl
-walk-last (q ∷ rs) r p = walk-last rs r (advance p (q .first) (q .second))
+walk-last file [] r p = refl
+walk-last file (q ∷ rs) r p = walk-last file rs r (advance file p q)
 
-pub walk-is : (file : List ℕ) (k : ℕ) → after file k ≡ walk (recordsOf file k) begin
+pub walk-is : (file : List ℕ) (k : ℕ) → after file k ≡ walk file (recordsOf file k) begin
 unfolding after recordsOf walk
 walk-is file zero = refl
-walk-is file (suc k) = ap (λ p. advance p (firstByte file k) (secondByte file k)) (walk-is file k) ∙ sym (walk-last (recordsOf file k) _ begin)
+walk-is file (suc k) = ap (λ p. advance file p (recordAt file k)) (walk-is file k) ∙ sym (walk-last file (recordsOf file k) _ begin)
 
-pub advance-on : (p : Progress) (x y : ℕ) → p .refusal ≡ 0 → advance p x y ≡ advanceBy p (x / 16) (recordStep (p .bench) x y)
+pub advance-on : (file : List ℕ) (p : Progress) (r : Rec) → p .refusal ≡ 0 → advance file p r ≡ advanceBy file p (r .first / 16) (recordStep (p .bench) (r .first) (r .second) (r .extra))
 unfolding advance ite
-advance-on p x y e = rw (eq-eqb (p .refusal) 0 e)
+advance-on file p r e = rw (eq-eqb (p .refusal) 0 e)
 
-pub advance-off : (p : Progress) (x y : ℕ) → p .refusal ≢ 0 → advance p x y ≡ p
+pub advance-off : (file : List ℕ) (p : Progress) (r : Rec) → p .refusal ≢ 0 → advance file p r ≡ p
 unfolding advance ite
-advance-off p x y h = rw (ne-eqb (p .refusal) 0 h)
+advance-off file p r h = rw (ne-eqb (p .refusal) 0 h)
 
-pub stuck : (rs : List Rec) (p : Progress) → p .refusal ≢ 0 → walk rs p ≡ p
+pub stuck : (file : List ℕ) (rs : List Rec) (p : Progress) → p .refusal ≢ 0 → walk file rs p ≡ p
 unfolding walk
-stuck [] p h = refl
-stuck (r ∷ rs) p h = ap (walk rs) (advance-off p (r .first) (r .second) h) ∙ stuck rs p h
+stuck file [] p h = refl
+stuck file (r ∷ rs) p h = ap (walk file rs) (advance-off file p r h) ∙ stuck file rs p h
 
 -- ---- what a record adds
 rows-append : (xs ys : List Event) → rowsOf (xs ++ ys) ≡ rowsOf xs ++ rowsOf ys
@@ -55,53 +55,63 @@ one-none : (n : ℕ) (b : Bench) (r : Rec) → rowsOf (eventOf n b r noRow) ≡ 
 one-none zero b r = refl
 one-none (suc n) b r = refl
 
-one-row : (n : ℕ) (b : Bench) (r : Rec) (a : Answer) → n ≡ 0 → rowsOf (eventOf n b r (row a)) ≡ rowBytes (r .first / 16) (b .threads (r .first / 16)) (row a)
-one-row n b r a e = rw e
+-- in version 1 a row has these four bytes and no more
+one-row : (file : List ℕ) (n : ℕ) (b : Bench) (r : Rec) (a : Answer) (d c : ℕ) → version file ≡ 1 → n ≡ 0
+    → rowsOf (eventOf n b r (row a d c)) ≡ rowBytes file (r .first / 16) (b .threads (r .first / 16)) (row a d c)
+unfolding ite
+one-row file n b r a d c one e = rw (e, eq-eqb (version file) 1 one)
 
-record Same (rs : List Rec) (p : Progress) : Type 0 where
-  bench : walk rs p .bench ≡ endFrom rs (p .bench)
-  rows : walk rs p .rows ≡ p .rows ++ rowsOf (eventsFrom rs (p .bench))
+module _ (file : List ℕ) where
+  pub bench-same : (rs : List Rec) (p : Progress) → p .refusal ≡ 0 → walk file rs p .bench ≡ endFrom rs (p .bench)
+  unfolding walk
+  bench-same [] p e = refl
+  bench-same (r ∷ rs) p e = go (recordStep (p .bench) (r .first) (r .second) (r .extra)) (did (p .bench) (r .first) (r .second) (r .extra)) (advance-on file p r e) (λ q. bench-same rs q)
+    where
+      go : (res : Result) → Did (p .bench) (r .first / 16) (r .second) (r .first % 16) res → advance file p r ≡ advanceBy file p (r .first / 16) res
+          → ((q : Progress) → q .refusal ≡ 0 → walk file rs q .bench ≡ endFrom rs (q .bench)) → walk file rs (advance file p r) .bench ≡ endBy res (p .bench) (λ b'. endFrom rs b')
+      go (refused k) d q ih = ap (λ x. x .bench) (ap (walk file rs) q ∙ stuck file rs (advanceBy file p (r .first / 16) (refused k)) d)
+      go (carried b' w) d q ih = ap (λ x. walk file rs x .bench) q ∙ ih (advanceBy file p (r .first / 16) (carried b' w)) refl
 
-same-run : (rs : List Rec) (p : Progress) → p .refusal ≡ 0 → Same rs p
-unfolding walk
-same-run [] p e = record { bench = refl; rows = sym (append-nil (p .rows)) }
-same-run (r ∷ rs) p e = let o = go (recordStep (p .bench) (r .first) (r .second)) (did (p .bench) (r .first) (r .second)) (advance-on p (r .first) (r .second) e) (λ q. same-run rs q) in record { bench = o .bench; rows = o .rows }
-  where
-    go : (res : Result) → Did (p .bench) (r .first / 16) (r .second) (r .first % 16) res → advance p (r .first) (r .second) ≡ advanceBy p (r .first / 16) res
-        → ((q : Progress) → q .refusal ≡ 0 → Same rs q)
-        → record { bench : walk rs (advance p (r .first) (r .second)) .bench ≡ endBy res (p .bench) (λ b'. endFrom rs b'); rows : walk rs (advance p (r .first) (r .second)) .rows ≡ p .rows ++ rowsOf (eventsBy res (p .bench) r (λ b'. eventsFrom rs b')) }
-    go (refused k) d q ih = let w = ap (walk rs) q ∙ stuck rs (advanceBy p (r .first / 16) (refused k)) d in record { bench = ap (λ x. x .bench) w; rows = ap (λ x. x .rows) w ∙ sym (append-nil (p .rows)) }
-    go (carried b' w) d q ih = let o = ih (advanceBy p (r .first / 16) (carried b' w)) refl in record {
-      bench = ap (λ x. walk rs x .bench) q ∙ o .bench;
-      rows = ap (λ x. walk rs x .rows) q ∙ o .rows ∙ append-assoc (p .rows) (rowBytes (r .first / 16) (p .bench .threads (r .first / 16)) w) (rowsOf (eventsFrom rs b'))
-          ∙ ap (λ l. p .rows ++ l) (ap (λ l. l ++ rowsOf (eventsFrom rs b')) (sym (added w d)) ∙ sym (rows-append (eventOf (r .first % 16) (p .bench) r w) (eventsFrom rs b')));
-    }
-      where
-        added : (w : Row) → Did (p .bench) (r .first / 16) (r .second) (r .first % 16) (carried b' w) → rowsOf (eventOf (r .first % 16) (p .bench) r w) ≡ rowBytes (r .first / 16) (p .bench .threads (r .first / 16)) w
-        added noRow d = one-none (r .first % 16) (p .bench) r
-        added (row a) d = one-row (r .first % 16) (p .bench) r a (d .1 .number)
+  rows-same : (one : version file ≡ 1) (rs : List Rec) (p : Progress) → p .refusal ≡ 0 → walk file rs p .rows ≡ p .rows ++ rowsOf (eventsFrom rs (p .bench))
+  unfolding walk
+  rows-same one [] p e = sym (append-nil (p .rows))
+  rows-same one (r ∷ rs) p e = go (recordStep (p .bench) (r .first) (r .second) (r .extra)) (did (p .bench) (r .first) (r .second) (r .extra)) (advance-on file p r e) (λ q. rows-same one rs q)
+    where
+      go : (res : Result) → Did (p .bench) (r .first / 16) (r .second) (r .first % 16) res → advance file p r ≡ advanceBy file p (r .first / 16) res
+          → ((q : Progress) → q .refusal ≡ 0 → walk file rs q .rows ≡ q .rows ++ rowsOf (eventsFrom rs (q .bench)))
+          → walk file rs (advance file p r) .rows ≡ p .rows ++ rowsOf (eventsBy res (p .bench) r (λ b'. eventsFrom rs b'))
+      go (refused k) d q ih = ap (λ x. x .rows) (ap (walk file rs) q ∙ stuck file rs (advanceBy file p (r .first / 16) (refused k)) d) ∙ sym (append-nil (p .rows))
+      go (carried b' w) d q ih =
+          ap (λ x. walk file rs x .rows) q ∙ ih (advanceBy file p (r .first / 16) (carried b' w)) refl
+          ∙ append-assoc (p .rows) (rowBytes file (r .first / 16) (p .bench .threads (r .first / 16)) w) (rowsOf (eventsFrom rs b'))
+          ∙ ap (λ l. p .rows ++ l) (ap (λ l. l ++ rowsOf (eventsFrom rs b')) (sym (added w d)) ∙ sym (rows-append (eventOf (r .first % 16) (p .bench) r w) (eventsFrom rs b')))
+        where
+          added : (w : Row) → Did (p .bench) (r .first / 16) (r .second) (r .first % 16) (carried b' w)
+              → rowsOf (eventOf (r .first % 16) (p .bench) r w) ≡ rowBytes file (r .first / 16) (p .bench .threads (r .first / 16)) w
+          added noRow d = one-none (r .first % 16) (p .bench) r
+          added (row a k c) d = one-row file (r .first % 16) (p .bench) r a k c one (d .1 .number)
 
 -- Run's rows are the rows of the history, and Run ends where it ends
-pub run-rows : (file : List ℕ) → ended file .rows ≡ rowsOf (eventsFrom (recordsOf file (countOf file)) fresh)
-run-rows file = ap (λ p. p .rows) (walk-is file (countOf file)) ∙ same-run (recordsOf file (countOf file)) begin refl .rows
+pub run-rows : (file : List ℕ) → version file ≡ 1 → ended file .rows ≡ rowsOf (eventsFrom (recordsOf file (countOf file)) fresh)
+run-rows file one = ap (λ p. p .rows) (walk-is file (countOf file)) ∙ rows-same file one (recordsOf file (countOf file)) begin refl
 
 pub run-bench : (file : List ℕ) → ended file .bench ≡ endFrom (recordsOf file (countOf file)) fresh
-run-bench file = ap (λ p. p .bench) (walk-is file (countOf file)) ∙ same-run (recordsOf file (countOf file)) begin refl .bench
+run-bench file = ap (λ p. p .bench) (walk-is file (countOf file)) ∙ bench-same file (recordsOf file (countOf file)) begin refl
 
 -- ---- no more events than records
 pub records-length : (file : List ℕ) (k : ℕ) → length (recordsOf file k) ≡ k
 unfolding recordsOf
 records-length file zero = refl
-records-length file (suc k) = omega (arith, length-append (recordsOf file k) (record { first = firstByte file k; second = secondByte file k } ∷ []), records-length file k)
+records-length file (suc k) = omega (arith, length-append (recordsOf file k) (recordAt file k ∷ []), records-length file k)
 
 one-few : (n : ℕ) (b : Bench) (r : Rec) (w : Row) → length (eventOf n b r w) ≤ 1
 one-few zero b r noRow = omega arith
-one-few zero b r (row a) = omega arith
+one-few zero b r (row _ _ _) = omega arith
 one-few (suc n) b r w = omega arith
 
 pub events-few : (rs : List Rec) (b : Bench) → length (eventsFrom rs b) ≤ length rs
 events-few [] b = omega arith
-events-few (r ∷ rs) b = go (recordStep b (r .first) (r .second)) (λ b'. events-few rs b')
+events-few (r ∷ rs) b = go (recordStep b (r .first) (r .second) (r .extra)) (λ b'. events-few rs b')
   where
     go : (res : Result) → ((b' : Bench) → length (eventsFrom rs b') ≤ length rs) → length (eventsBy res b r (λ b'. eventsFrom rs b')) ≤ suc (length rs)
     go (refused k) ih = omega arith

@@ -1,18 +1,21 @@
 -- What each function has written, one law for each way out; p is the page before. Assumes nothing.
 use mathlib.Core.Path.{_≡_, refl, sym, ap, subst, _∙_}
 use mathlib.Core.Bool.{Bool, true, false}
-use mathlib.Core.List.{List, [], _∷_, _++_, append-assoc}
+use mathlib.Core.List.{List, [], _∷_, _++_, append-assoc, append-nil}
 use Prim.Native.Nat.{ℕ, zero, suc, _+_, _*_, _≤_, _<_}
 use native.Mathlib.Numerals.{add-one}
 use native.Mathlib.Omega.{arith}
 use borrow.Author.Tests.{ne-eqb, ltb-true}
-use lib.Dec.{ltb}
-use lib.ListN.{length, take, drop, set, getD, length-drop, length-set}
-use lib.Seq.{take-suc, take-add, getD-drop, length-take-le}
+use lib.Dec.{eqb, ltb}
+use native.Mathlib.Nat.{add-comm, zero-mul, suc-mul, mul-le-mul-right}
+use lib.ListN.{length, take, drop, set, getD, length-set}
+use lib.Seq.{take-suc, drop-drop, getD-drop}
 use Rattle.container.specs.Choice.{ite}
 use Rattle.definitions.specs.Answers.{no-word, answerWord}
 use Rattle.definitions.specs.Listing.{space, newline, decimal}
-use Rattle.definitions.specs.Printed.{records-word, of-word, refusal-word, stored-word, used-word, actionWord, firstLine, rowLines, lastLine}
+use Rattle.definitions.specs.Run.{rowWidth}
+use Rattle.definitions.specs.Printed.{records-word, of-word, refusal-word, stored-word, used-word, actionWord, firstLine, depthText, rowLine, rowLines, lastLine}
+use Rattle.listing.specs.Texts.{headed}
 use Rattle.buffer.specs.Page.{Page, page, put, putAll}
 use Rattle.buffer.proofs.Laws.{joined, ended}
 
@@ -39,10 +42,10 @@ module _ (p : Page) {a : ℕ} where
   unfolding actionWord ite
   word-join h₁ h₂ h₃ h₄ e = e ∙ rw (ne-eqb _ _ h₁, ne-eqb _ _ h₂, ne-eqb _ _ h₃, ne-eqb _ _ h₄)
 
--- ---- the answer and the end of the line
+-- ---- the answer
 
-pub answer-yes : (p : Page) {y : ℕ} {q : Page} → y ≡ 1 → q ≡ putAll p (121 ∷ 101 ∷ 115 ∷ 10 ∷ []) → q ≡ putAll p (answerWord y ++ newline ∷ [])
-answer-yes p h e = rw h e
+pub answer-yes : (p : Page) {y : ℕ} {q r : Page} → y ≡ 1 → q ≡ putAll p (121 ∷ 101 ∷ []) → r ≡ put q 115 → r ≡ putAll p (answerWord y)
+answer-yes p h e f = rw h (ended p (121 ∷ 101 ∷ []) 115 e f)
 
 word-no : (y : ℕ) → (y ≡ 1 → ⊥) → answerWord y ≡ no-word
 word-no zero h = refl
@@ -54,8 +57,45 @@ word-no (suc (suc (suc (suc (suc zero))))) h = refl
 word-no (suc (suc (suc (suc (suc (suc zero)))))) h = refl
 word-no (suc (suc (suc (suc (suc (suc (suc _))))))) h = refl
 
-pub answer-no : (p : Page) (y : ℕ) {q r : Page} → (y ≡ 1 → ⊥) → q ≡ putAll p no-word → r ≡ put q 10 → r ≡ putAll p (answerWord y ++ newline ∷ [])
-answer-no p y h e f = rw (word-no y h) (ended p no-word 10 e f)
+pub answer-no : (p : Page) (y : ℕ) {q : Page} → (y ≡ 1 → ⊥) → q ≡ putAll p no-word → q ≡ putAll p (answerWord y)
+answer-no p y h e = rw (word-no y h) e
+
+-- ---- the length of a row, in version v
+
+pub width-narrow : (v : ℕ) → v ≡ 1 → 4 ≡ rowWidth (headed v)
+unfolding ite
+width-narrow v e = rw e
+
+pub width-wide : (v : ℕ) → (v ≡ 1 → ⊥) → 14 ≡ rowWidth (headed v)
+unfolding ite
+width-wide v e = rw (ne-eqb _ _ e)
+
+pub width-least : (v : ℕ) → 4 ≤ rowWidth (headed v)
+unfolding ite
+width-least v = by (eqb v 1)
+  where
+    by : (c : Bool) → 4 ≤ ite c 4 14
+    by true = omega arith
+    by false = omega arith
+
+-- ---- the depth of a row that starts at j, in version v
+
+module _ (p : Page) (v : ℕ) (l : List ℕ) (j : ℕ) where
+  pub depth-plain : v ≡ 1 → p ≡ putAll p (depthText (headed v) (drop j l))
+  unfolding depthText putAll ite
+  depth-plain e = rw e
+
+  pub depth-other : (v ≡ 1 → ⊥) → (getD l (j + 1) 0 ≡ 1 → ⊥) → p ≡ putAll p (depthText (headed v) (drop j l))
+  unfolding depthText putAll ite
+  depth-other e a = rw (ne-eqb _ _ e, getD-drop j l 1 0, ne-eqb _ _ a)
+
+  pub depth-no : (v ≡ 1 → ⊥) → getD l (j + 1) 0 ≡ 1 → (getD l (j + 3) 0 ≡ 1 → ⊥) → p ≡ putAll p (depthText (headed v) (drop j l))
+  unfolding depthText putAll ite
+  depth-no e a y = rw (ne-eqb _ _ e, getD-drop j l 1 0, a, getD-drop j l 3 0, ne-eqb _ _ y)
+
+  pub depth-put : {d : ℕ} {q r : Page} → (v ≡ 1 → ⊥) → getD l (j + 1) 0 ≡ 1 → getD l (j + 3) 0 ≡ 1 → d ≡ getD l (j + 4) 0 * 256 + getD l (j + 5) 0 → q ≡ put p 32 → r ≡ putAll q (decimal d) → r ≡ putAll p (depthText (headed v) (drop j l))
+  unfolding depthText putAll ite
+  depth-put {d} e a y h f g = joined p (space ∷ []) (decimal d) f g ∙ rw (ne-eqb _ _ e, getD-drop j l 1 0, a, getD-drop j l 3 0, y, getD-drop j l 4 0, getD-drop j l 5 0, h)
 
 -- ---- a row's line
 
@@ -63,52 +103,39 @@ pub start-put : (p : Page) (t a : ℕ) {q r s w : Page} → q ≡ put p 116 → 
 unfolding putAll
 start-put p t a e f g h = joined p (116 ∷ []) (decimal t ++ space ∷ actionWord a) e (joined _ (decimal t) (space ∷ actionWord a) f (joined _ (space ∷ []) (actionWord a) g h))
 
-pub end-put : (p : Page) (s y : ℕ) {q r u v : Page} → q ≡ put p 32 → r ≡ putAll q (decimal s) → u ≡ put r 32 → v ≡ putAll u (answerWord y ++ newline ∷ []) → v ≡ putAll p (space ∷ (decimal s ++ space ∷ (answerWord y ++ newline ∷ [])))
+pub end-put : (p : Page) (s y : ℕ) {q r u v : Page} → q ≡ put p 32 → r ≡ putAll q (decimal s) → u ≡ put r 32 → v ≡ putAll u (answerWord y) → v ≡ putAll p (space ∷ (decimal s ++ space ∷ answerWord y))
 unfolding putAll
-end-put p s y e f g h =
-    joined p (space ∷ []) (decimal s ++ space ∷ (answerWord y ++ newline ∷ [])) e
-    (joined _ (decimal s) (space ∷ (answerWord y ++ newline ∷ [])) f (joined _ (space ∷ []) (answerWord y ++ newline ∷ []) g h))
+end-put p s y e f g h = joined p (space ∷ []) (decimal s ++ space ∷ answerWord y) e (joined _ (decimal s) (space ∷ answerWord y) f (joined _ (space ∷ []) (answerWord y) g h))
 
-pub row-put : (p : Page) (t a s y : ℕ) {q r : Page} → q ≡ putAll p (116 ∷ (decimal t ++ space ∷ actionWord a)) → r ≡ putAll q (space ∷ (decimal s ++ space ∷ (answerWord y ++ newline ∷ []))) → r ≡ putAll p (rowLines (t ∷ a ∷ s ∷ y ∷ []))
-row-put p t a s y e f =
-    joined p (116 ∷ (decimal t ++ space ∷ actionWord a)) (space ∷ (decimal s ++ space ∷ (answerWord y ++ newline ∷ []))) e f ∙ ap (putAll p) (rw append-assoc)
+pub row-put : (p : Page) (file l : List ℕ) (j : ℕ) {q r s u : Page} → q ≡ putAll p (116 ∷ (decimal (getD l (j + 0) 0) ++ space ∷ actionWord (getD l (j + 1) 0))) → r ≡ putAll q (space ∷ (decimal (getD l (j + 2) 0) ++ space ∷ answerWord (getD l (j + 3) 0)))
+    → s ≡ putAll r (depthText file (drop j l)) → u ≡ put s 10 → u ≡ putAll p (rowLine file (drop j l))
+unfolding rowLine
+row-put p file l j e f g h =
+    joined p (116 ∷ (decimal (getD l (j + 0) 0) ++ space ∷ actionWord (getD l (j + 1) 0))) (space ∷ (decimal (getD l (j + 2) 0) ++ space ∷ answerWord (getD l (j + 3) 0)) ++ (depthText file (drop j l) ++ newline ∷ [])) e
+    (joined _ (space ∷ (decimal (getD l (j + 2) 0) ++ space ∷ answerWord (getD l (j + 3) 0))) (depthText file (drop j l) ++ newline ∷ []) f (ended _ (depthText file (drop j l)) newline g h))
+    ∙ ap (putAll p) (simp (append-assoc, getD-drop))
 
 -- ---- the lines of several rows, one more at a time
 
--- whole rows, then more
-lines-append : (k : ℕ) (xs ys : List ℕ) → length xs ≡ k * 4 → rowLines (xs ++ ys) ≡ rowLines xs ++ rowLines ys
-lines-append zero [] ys h = refl
-lines-append zero (x ∷ xs) ys h = absurd (omega arith)
-lines-append (suc k) [] ys h = absurd (omega arith)
-lines-append (suc k) (_ ∷ []) ys h = absurd (omega arith)
-lines-append (suc k) (_ ∷ _ ∷ []) ys h = absurd (omega arith)
-lines-append (suc k) (_ ∷ _ ∷ _ ∷ []) ys h = absurd (omega arith)
-lines-append (suc k) (t ∷ a ∷ s ∷ y ∷ xs) ys h = rw (lines-append k xs ys (omega arith)) (simp append-assoc)
+lines-more : (file : List ℕ) (k : ℕ) (l : List ℕ) → rowLines file (suc k) l ≡ rowLines file k l ++ rowLine file (drop (k * rowWidth file) l)
+lines-more file zero l = append-nil (rowLine file l) ∙ ap (λ (n : ℕ). rowLine file (drop n l)) (sym (zero-mul (rowWidth file)))
+lines-more file (suc k) l = rw (lines-more file k (drop (rowWidth file) l), drop-drop (k * rowWidth file) (rowWidth file) l, append-assoc)
+    (ap (λ (n : ℕ). rowLine file l ++ (rowLines file k (drop (rowWidth file) l) ++ rowLine file (drop n l))) (add-comm (rowWidth file) (k * rowWidth file) ∙ sym (suc-mul k (rowWidth file))))
 
-first-four : (xs : List ℕ) → 4 ≤ length xs → take 4 xs ≡ getD xs 0 0 ∷ getD xs 1 0 ∷ getD xs 2 0 ∷ getD xs 3 0 ∷ []
-first-four [] h = absurd (omega arith)
-first-four (_ ∷ []) h = absurd (omega arith)
-first-four (_ ∷ _ ∷ []) h = absurd (omega arith)
-first-four (_ ∷ _ ∷ _ ∷ []) h = absurd (omega arith)
-first-four (_ ∷ _ ∷ _ ∷ _ ∷ _) h = refl
+-- row k of n lies in a buffer of m bytes that has room for all of them; w is the length of a row
+pub row-in : (v k w m : ℕ) {n : ℕ} → k < n → n * rowWidth (headed v) ≤ m → w ≡ rowWidth (headed v) → k * w + rowWidth (headed v) ≤ m
+row-in v k w m {n} h l e = let a : suc k * rowWidth (headed v) ≤ n * rowWidth (headed v) = mul-le-mul-right (rowWidth (headed v)) h in rw e (omega (arith, a, suc-mul k (rowWidth (headed v))))
 
 module _ (p : Page) (l : List ℕ) where
-  pub rows-start : p ≡ putAll p (rowLines (take (0 * 4) l))
+  pub rows-start : (file : List ℕ) → p ≡ putAll p (rowLines file 0 l)
   unfolding putAll
-  rows-start = refl
+  rows-start file = refl
 
-  take-row : (j : ℕ) → j + 4 ≤ length l → take (j + 4) l ≡ take j l ++ (getD l (j + 0) 0 ∷ getD l (j + 1) 0 ∷ getD l (j + 2) 0 ∷ getD l (j + 3) 0 ∷ [])
-  take-row j h = take-add j 4 l ∙ ap (λ (xs : List ℕ). take j l ++ xs) (first-four (drop j l) (rw length-drop (omega arith)) ∙ simp getD-drop)
+  pub rows-step : (file : List ℕ) (k w : ℕ) {q r : Page} → w ≡ rowWidth file → q ≡ putAll p (rowLines file k l) → r ≡ putAll q (rowLine file (drop (k * w) l)) → r ≡ putAll p (rowLines file (k + 1) l)
+  rows-step file k w z e f = rw (add-one k, lines-more file k l) (joined p (rowLines file k l) (rowLine file (drop (k * rowWidth file) l)) e (f ∙ rw z))
 
-  pub rows-step : (k n : ℕ) {q r : Page} → k < n → n * 4 ≤ length l → q ≡ putAll p (rowLines (take (k * 4) l)) → r ≡ putAll q (rowLines (getD l (k * 4 + 0) 0 ∷ getD l (k * 4 + 1) 0 ∷ getD l (k * 4 + 2) 0 ∷ getD l (k * 4 + 3) 0 ∷ []))
-      → r ≡ putAll p (rowLines (take ((k + 1) * 4) l))
-  rows-step k n h m e f =
-      let more : (k + 1) * 4 ≡ k * 4 + 4 = omega arith in
-      rw (more, take-row (k * 4) (omega arith), lines-append k (take (k * 4) l) (getD l (k * 4 + 0) 0 ∷ getD l (k * 4 + 1) 0 ∷ getD l (k * 4 + 2) 0 ∷ getD l (k * 4 + 3) 0 ∷ []) (length-take-le (k * 4) l (omega arith)))
-      (joined p (rowLines (take (k * 4) l)) (rowLines (getD l (k * 4 + 0) 0 ∷ getD l (k * 4 + 1) 0 ∷ getD l (k * 4 + 2) 0 ∷ getD l (k * 4 + 3) 0 ∷ [])) e f)
-
-  pub rows-done : (k n : ℕ) {q : Page} → k ≤ n → n ≤ k → q ≡ putAll p (rowLines (take (k * 4) l)) → q ≡ putAll p (rowLines (take (n * 4) l))
-  rows-done k n h m e = let same : n ≡ k = omega arith in rw same e
+  pub rows-done : (file : List ℕ) (k n : ℕ) {q : Page} → k ≤ n → n ≤ k → q ≡ putAll p (rowLines file k l) → q ≡ putAll p (rowLines file n l)
+  rows-done file k n h m e = let same : n ≡ k = omega arith in rw same e
 
   pub text-start : p ≡ putAll p (take 0 l)
   unfolding putAll
@@ -180,4 +207,4 @@ putAll-within p (x ∷ xs) h = putAll-within (put p x) xs (put-within p x h)
 pub ends-within : (l m xs : List ℕ) (n : ℕ) → page l n ≡ putAll (page m 0) xs → n ≤ length l
 ends-within l m xs n e = subst (λ (p : Page). p .at ≤ length (p .bytes)) (sym e) (putAll-within (page m 0) xs (omega arith))
 
-pub ruleset printed-cases = (word-lookup, word-insert, word-remove, word-split, word-join, answer-no, answer-yes, start-put, end-put, row-put, records-put, count-put, refusal-put, first-put, stored-put, used-put, last-put, lines-put, ends-within)
+pub ruleset printed-cases = (word-lookup, word-insert, word-remove, word-split, word-join, answer-no, answer-yes, width-narrow, width-wide, depth-plain, depth-other, depth-no, depth-put, start-put, end-put, row-put, records-put, count-put, refusal-put, first-put, stored-put, used-put, last-put, lines-put, ends-within)

@@ -1,13 +1,14 @@
-// The printed run: Run's report and rows and List's text, as lines.
+// The printed run: Run's report and rows and List's text, as lines. From version 2 on a row is 14 bytes, and a lookup's yes has its depth.
 ghost use mathlib.Core.Path.{_≡_};
 ghost use mathlib.Core.List.{[], _∷_, _++_};
-ghost use Prim.Native.Nat.{_*_, _%_, _≤_};
-ghost use lib.ListN.{length, take};
+ghost use Prim.Native.Nat.{_+_, _*_, _%_, _≤_};
+ghost use lib.ListN.{length, take, drop};
 ghost use Rattle.buffer.specs.Page.{page, putAll};
-ghost use Rattle.definitions.specs.Run.{overlay};
+ghost use Rattle.definitions.specs.Run.{rowWidth, overlay};
 ghost use Rattle.definitions.specs.Answers.{answerWord};
 ghost use Rattle.definitions.specs.Listing.{space, newline, decimal};
-ghost use Rattle.definitions.specs.Printed.{records-word, of-word, refusal-word, stored-word, used-word, actionWord, firstLine, rowLines, lastLine, printed};
+ghost use Rattle.definitions.specs.Printed.{records-word, of-word, refusal-word, stored-word, used-word, actionWord, firstLine, depthText, rowLine, rowLines, lastLine, printed};
+ghost use Rattle.listing.specs.Texts.{headed};
 use buffer::put_byte;
 use buffer::put_decimal;
 use buffer::put_four;
@@ -50,19 +51,26 @@ pub fn put_action(out: &mut [u8], at: usize, a: u8) -> usize
     }
 }
 
-// "yes" or "no", and the end of the line.
+// "yes" or "no".
 pub fn put_answer(out: &mut [u8], at: usize, y: u8) -> usize
-    ensures { λ r. ⌜ page (now (out .exit)) r ≡ putAll (page (now (out .entry)) at) (answerWord y ++ newline ∷ []) ⌝ }
+    ensures { λ r. ⌜ page (now (out .exit)) r ≡ putAll (page (now (out .entry)) at) (answerWord y) ⌝ }
 {
     if y == 1 {
-        put_four(out, at, b'y', b'e', b's', b'\n')
+        let next = put_two(out, at, b'y', b'e');
+        put_byte(out, next, b's')
     } else {
-        let next = put_two(out, at, b'n', b'o');
-        put_byte(out, next, b'\n')
+        put_two(out, at, b'n', b'o')
     }
 }
 
-// ---- the rows
+// ---- the rows; j is where a row starts
+
+// The length of a row.
+fn row_width(version: u8) -> usize
+    ensures { λ r. ⌜ r ≡ rowWidth (headed version) ⌝ }
+{
+    if version == 1 { 4 } else { 14 }
+}
 
 // How a row's line begins: thread and action.
 fn put_start(out: &mut [u8], at: usize, t: u8, a: u8) -> usize
@@ -74,9 +82,9 @@ fn put_start(out: &mut [u8], at: usize, t: u8, a: u8) -> usize
     put_action(out, n3, a)
 }
 
-// How it ends: station and answer.
+// How it goes on: station and answer.
 fn put_end(out: &mut [u8], at: usize, s: u8, y: u8) -> usize
-    ensures { λ r. ⌜ page (now (out .exit)) r ≡ putAll (page (now (out .entry)) at) (space ∷ (decimal s ++ space ∷ (answerWord y ++ newline ∷ []))) ⌝ }
+    ensures { λ r. ⌜ page (now (out .exit)) r ≡ putAll (page (now (out .entry)) at) (space ∷ (decimal s ++ space ∷ answerWord y)) ⌝ }
 {
     let n1 = put_byte(out, at, b' ');
     let n2 = put_decimal(out, n1, s as u16);
@@ -84,31 +92,53 @@ fn put_end(out: &mut [u8], at: usize, s: u8, y: u8) -> usize
     put_answer(out, n3, y)
 }
 
-// The line of a row.
-pub fn put_row(out: &mut [u8], at: usize, t: u8, a: u8, s: u8, y: u8) -> usize
-    ensures { λ r. ⌜ page (now (out .exit)) r ≡ putAll (page (now (out .entry)) at) (rowLines (t ∷ a ∷ s ∷ y ∷ [])) ⌝ }
+// Two bytes, the high one first.
+fn depth_of(high: u8, low: u8) -> u16
+    ensures { λ r. ⌜ r ≡ high * 256 + low ⌝ }
 {
-    let next = put_start(out, at, t, a);
-    put_end(out, next, s, y)
+    high as u16 * 256 + low as u16
+}
+
+// The depth after a lookup's yes, from version 2 on.
+pub fn put_depth(out: &mut [u8], at: usize, version: u8, rows: &[u8], j: usize) -> usize
+    requires { ⌜ j + rowWidth (headed version) ≤ length (now rows) ⌝ }
+    ensures { λ r. ⌜ page (now (out .exit)) r ≡ putAll (page (now (out .entry)) at) (depthText (headed version) (drop j (now (rows .entry)))) ⌝ }
+{
+    if version == 1 {
+        return at;
+    }
+    if rows[j + 1] != 1 {
+        return at;
+    }
+    if rows[j + 3] != 1 {
+        return at;
+    }
+    let d = depth_of(rows[j + 4], rows[j + 5]);
+    let next = put_byte(out, at, b' ');
+    put_decimal(out, next, d)
+}
+
+// The line of a row.
+pub fn put_row(out: &mut [u8], at: usize, version: u8, rows: &[u8], j: usize) -> usize
+    requires { ⌜ j + rowWidth (headed version) ≤ length (now rows) ⌝ }
+    ensures { λ r. ⌜ page (now (out .exit)) r ≡ putAll (page (now (out .entry)) at) (rowLine (headed version) (drop j (now (rows .entry)))) ⌝ }
+{
+    let n1 = put_start(out, at, rows[j + 0], rows[j + 1]);
+    let n2 = put_end(out, n1, rows[j + 2], rows[j + 3]);
+    let n3 = put_depth(out, n2, version, rows, j);
+    put_byte(out, n3, b'\n')
 }
 
 // The lines of the first rows of a buffer.
-pub fn put_rows(out: &mut [u8], at: usize, rows: &[u8], count: usize) -> usize
-    requires { ⌜ count * 4 ≤ length (now rows) ⌝ }
-    ensures { λ r. ⌜ page (now (out .exit)) r ≡ putAll (page (now (out .entry)) at) (rowLines (take (count * 4) (now (rows .entry)))) ⌝ }
+pub fn put_rows(out: &mut [u8], at: usize, version: u8, rows: &[u8], count: usize) -> usize
+    requires { ⌜ count * rowWidth (headed version) ≤ length (now rows) ⌝ }
+    ensures { λ r. ⌜ page (now (out .exit)) r ≡ putAll (page (now (out .entry)) at) (rowLines (headed version) count (now (rows .entry))) ⌝ }
 {
+    let width = row_width(version);
     let mut next = at;
     let mut k = 0;
     while k < count {
-        let j = k * 4;
-        next = put_row(
-            out,
-            next,
-            rows[j + 0],
-            rows[j + 1],
-            rows[j + 2],
-            rows[j + 3],
-        );
+        next = put_row(out, next, version, rows, k * width);
         k += 1;
     }
     next
@@ -199,20 +229,21 @@ pub fn put_last(out: &mut [u8], at: usize, stored: u64, used: u64) -> usize
 
 // ---- the whole
 
-// The lines of a run: its report and rows, its text, and the file's count.
+// The lines of a run: its report and rows, its text, and the file's version and count.
 pub fn put_lines(
     out: &mut [u8],
+    version: u8,
     count: u64,
     r: Report,
     rows: &[u8],
     l: Listed,
     text: &[u8],
 ) -> usize
-    requires { ⌜ (r .rows * 4 ≤ length (now rows)) × (l .length ≤ length (now text)) ⌝ }
-    ensures { λ n. ⌜ page (now (out .exit)) n ≡ putAll (page (now (out .entry)) 0) (firstLine (r .records % 10000) (count % 10000) (r .refusal % 10000) ++ (rowLines (take (r .rows * 4) (now (rows .entry))) ++ (take (l .length) (now (text .entry)) ++ lastLine (r .stored % 10000) (r .used % 10000)))) ⌝ }
+    requires { ⌜ (r .rows * rowWidth (headed version) ≤ length (now rows)) × (l .length ≤ length (now text)) ⌝ }
+    ensures { λ n. ⌜ page (now (out .exit)) n ≡ putAll (page (now (out .entry)) 0) (firstLine (r .records % 10000) (count % 10000) (r .refusal % 10000) ++ (rowLines (headed version) (r .rows) (now (rows .entry)) ++ (take (l .length) (now (text .entry)) ++ lastLine (r .stored % 10000) (r .used % 10000)))) ⌝ }
 {
     let n1 = put_first(out, 0, r.records, count, r.refusal);
-    let n2 = put_rows(out, n1, rows, r.rows as usize);
+    let n2 = put_rows(out, n1, version, rows, r.rows as usize);
     let n3 = put_text(out, n2, text, l.length as usize);
     put_last(out, n3, r.stored, r.used)
 }
@@ -225,11 +256,12 @@ pub fn print_run(schedule: &[u8], out: &mut [u8]) -> usize
     let bad = schedule::file_refusal(schedule);
     if bad == 0 {
         let count = schedule::count_of(schedule);
-        let mut rows = [0u8; 8192];
-        let mut text = [0u8; 4096];
+        let version = schedule[0];
+        let mut rows = [0u8; 28672];
+        let mut text = [0u8; 8192];
         let r = run::run(schedule, &mut rows);
         let l = list::list(schedule, &mut text);
-        return put_lines(out, count as u64, r, &rows, l, &text);
+        return put_lines(out, version, count as u64, r, &rows, l, &text);
     }
     put_first(out, 0, 0, 0, bad)
 }

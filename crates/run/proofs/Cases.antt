@@ -1,30 +1,80 @@
 -- The cases of a row and of a file's refusal, each with the code's own facts as premises. Assumes nothing.
-use mathlib.Core.Path.{_≡_, _∙_}
+use mathlib.Core.Path.{_≡_, refl, sym, ap, _∙_}
 use mathlib.Core.List.{List, [], _∷_}
-use Prim.Native.Nat.{ℕ, _-_, _*_, _≤_, _<_}
+use Prim.Native.Nat.{ℕ, _-_, _*_, _/_, _%_, _≤_, _<_}
+use native.Mathlib.Decide.{ℕ-discrete}
+use borrow.Author.Tests.{eq-eqb, ne-eqb}
+use lib.Dec.{eqb}
+use Rattle.container.specs.Choice.{ite}
 use Rattle.buffer.specs.Page.{Page, putAll}
-use Rattle.definitions.specs.Answers.{answerNumber}
+use Rattle.buffer.proofs.Laws.{putAll-append}
+use Rattle.definitions.specs.Answers.{answerNumber, shown}
 use Rattle.definitions.specs.Records.{row, actionNumber}
+use Rattle.definitions.specs.Versions.{version, rowRoom}
 use Rattle.definitions.specs.Schedule.{countOf, fileRefusal}
-use Rattle.definitions.specs.Run.{rowBytes, runRefusal}
+use Rattle.definitions.specs.Run.{bytesOf, widerRow, rowBytes, runRefusal}
 use Rattle.definitions.specs.declared.Answer.{Answer}
+use Rattle.definitions.specs.declared.Answer.the-variants.{No, Yes, At, Lacking, Blocked, Lost, NeighbourBlocked, StoodDown, Stopped}
 use Rattle.definitions.specs.declared.Thread.{Thread}
+use Rattle.run.specs.Standing.{rowOf}
 use Rattle.run.proofs.Room.{by-file, by-room, by-none}
 
 -- ---- a row
-pub row-put : (p : Page) (t : ℕ) (th : Thread) (b : Answer) {q : Page} {a y : ℕ} → a ≡ actionNumber (th .action) → y ≡ answerNumber b → q ≡ putAll p (t ∷ a ∷ th .station ∷ y ∷ []) → q ≡ putAll p (rowBytes t th (row b))
-row-put p t th b f g h = h ∙ rw (f, g)
+
+-- a row shows the answer's own number
+shown-number : (a : Answer) → answerNumber (shown a) ≡ answerNumber a
+shown-number No = refl
+shown-number Yes = refl
+shown-number (At x) = refl
+shown-number Lacking = refl
+shown-number Blocked = refl
+shown-number Lost = refl
+shown-number NeighbourBlocked = refl
+shown-number StoodDown = refl
+shown-number Stopped = refl
+
+-- the depth and the empty set after its four bytes
+pub wide-put : (p a b : Page) (d : ℕ) {q : Page} → a ≡ putAll p (d / 256 ∷ d % 256 ∷ []) → b ≡ putAll a (0 ∷ 0 ∷ 0 ∷ 0 ∷ []) → q ≡ putAll b (0 ∷ 0 ∷ 0 ∷ 0 ∷ []) → q ≡ putAll p (widerRow d 0)
+unfolding bytesOf
+wide-put p a b d e f g = g ∙ rw (f, e, ← putAll-append, ← putAll-append)
+
+module _ (p : Page) (v t : ℕ) (th : Thread) (b : Answer) (d : ℕ) {a y : ℕ} (f : a ≡ actionNumber (th .action)) (g : y ≡ answerNumber b) where
+  pub row-put : {q : Page} → v ≡ 1 → q ≡ putAll p (t ∷ a ∷ th .station ∷ y ∷ []) → q ≡ putAll p (rowOf v t th b d)
+  unfolding ite
+  row-put z h = h ∙ rw (f, g, shown-number b, eq-eqb v 1 z)
+
+  pub wide-row-put : {q r : Page} {w : ℕ} → (v ≡ 1 → ⊥) → q ≡ putAll p (t ∷ a ∷ th .station ∷ y ∷ []) → w ≡ d → r ≡ putAll q (widerRow w 0) → r ≡ putAll p (rowOf v t th b d)
+  unfolding ite
+  wide-row-put z h j i = i ∙ rw (h, j, ← putAll-append, f, g, shown-number b, ne-eqb v 1 z)
+
+-- a row's bytes depend on the file's version alone: in version 1 the depth is not among them
+pub row-as : (file : List ℕ) (v t : ℕ) (th : Thread) (b : Answer) (d d' : ℕ) → v ≡ version file → ((version file ≡ 1 → ⊥) → d ≡ d') → rowOf v t th b d ≡ rowBytes file t th (row (shown b) d' 0)
+unfolding ite
+row-as file v t th b d d' w f = elim (ℕ-discrete (version file) 1) [
+  | yes e ↦ rw (w, eq-eqb (version file) 1 e)
+  | no e ↦ rw (w, ne-eqb (version file) 1 e, f e)
+]
 
 -- ---- the refusal of a file and a row buffer
+pub room-one : (v count : ℕ) → v ≡ 1 → 2 * count ≡ ite (eqb v 1) 2 7 * count
+unfolding ite
+room-one v count z = rw (eq-eqb v 1 z)
+
+pub room-two : (v count : ℕ) → (v ≡ 1 → ⊥) → 7 * count ≡ ite (eqb v 1) 2 7 * count
+unfolding ite
+room-two v count z = rw (ne-eqb v 1 z)
+
+pub ruleset room-cases = (room-one, room-two)
+
 module _ (file : List ℕ) (room : ℕ) {bad : ℕ} (e : bad ≡ fileRefusal file) where
   pub refusal-file : (bad ≡ 0 → ⊥) → bad ≡ runRefusal file room
   unfolding runRefusal
   refusal-file z = by-file room _ 5 e z
 
-  pub refusal-room : {count : ℕ} → bad ≡ 0 → count ≡ countOf file → room < 2 * count → 5 ≡ runRefusal file room
+  pub refusal-room : {count needed : ℕ} → bad ≡ 0 → count ≡ countOf file → needed ≡ rowRoom file count → room < needed → 5 ≡ runRefusal file room
   unfolding runRefusal
-  refusal-room z d l = by-room room _ 5 e z (rw d at l)
+  refusal-room z d i l = by-room room _ 5 e z (rw (i, d) at l)
 
-  pub refusal-none : {count : ℕ} → bad ≡ 0 → count ≡ countOf file → 2 * count ≤ room → 0 ≡ runRefusal file room
+  pub refusal-none : {count needed : ℕ} → bad ≡ 0 → count ≡ countOf file → needed ≡ rowRoom file count → needed ≤ room → 0 ≡ runRefusal file room
   unfolding runRefusal
-  refusal-none z d l = by-none room _ 5 e z (rw d at l)
+  refusal-none z d i l = by-none room _ 5 e z (rw (i, d) at l)

@@ -1,19 +1,21 @@
 -- The rows of every run fit: they are half as many as the records at most, for an operation that finishes took a start and a step
 -- of its own. Assumes nothing.
-use mathlib.Core.Path.{_≡_, refl, ap}
+use mathlib.Core.Path.{_≡_, refl, ap, _∙_}
 use mathlib.Core.Bool.{Bool, true, false}
-use mathlib.Core.List.{List}
+use mathlib.Core.List.{List, []}
 use Prim.Native.Nat.{ℕ, zero, suc, _+_, _*_, _/_, _%_, _≤_, _<_}
 use native.Mathlib.Omega.{arith}
 use borrow.Author.Tests.{ltb-false}
+use lib.Dec.{eqb}
 use lib.ListN.{length, length-append}
 use Rattle.container.specs.Choice.{ite, upd}
-use Rattle.definitions.specs.Bench.{Bench, begun, idle}
+use Rattle.definitions.specs.Bench.{Bench, begun, idle, sightOf}
 use Rattle.definitions.specs.Places.{placeOf}
 use Rattle.definitions.specs.Steps.{step}
 use Rattle.definitions.specs.Records.{Row, noRow, row, Result, refused, carried, taken, isIdle, stepped, started, acted, recordStep}
-use Rattle.definitions.specs.Schedule.{firstByte, secondByte}
-use Rattle.definitions.specs.Run.{Progress, rowBytes, rowCount, advanceBy, advance, after}
+use Rattle.definitions.specs.Versions.{version, rowWidth, rowRoom}
+use Rattle.definitions.specs.Schedule.{Rec, recordAt}
+use Rattle.definitions.specs.Run.{Progress, bytesOf, widerRow, rowBytes, rowCount, advanceBy, advance, after}
 use Rattle.definitions.specs.declared.Action.{Action}
 use Rattle.definitions.specs.declared.Action.the-variants.{Lookup, Insert, Remove, Split, Join}
 use Rattle.definitions.specs.declared.Thread.{Thread}
@@ -60,10 +62,10 @@ unfolding ite
 pick b true r r' p q = p refl
 pick b false r r' p q = q refl
 
-module _ (b : Bench) (t y : ℕ) (h : t < 4) where
-  starts : (a : Action) → Paid b (started b t a y)
+module _ (b : Bench) (t y d : ℕ) (h : t < 4) where
+  starts : (a : Action) → Paid b (started b t a y d)
   unfolding started busy one
-  starts a = pick b _ _ _ (λ _. tt) (λ _. pick b _ _ _ (λ i. omega (arith, replaced (b .threads) (begun a y 1) t h, ap one i)) (λ _. tt))
+  starts a = pick b _ _ _ (λ _. tt) (λ _. pick b _ _ _ (λ _. pick b _ _ _ (λ i. omega (arith, replaced (b .threads) (begun a y d 1) t h, ap one i)) (λ _. tt)) (λ _. tt))
 
   takes : (o : Turn) → isIdle (b .threads t) ≡ false → Paid b (taken b t o)
   unfolding taken busy one
@@ -71,11 +73,11 @@ module _ (b : Bench) (t y : ℕ) (h : t < 4) where
   takes (Finishes e a) i = omega (arith, replaced (b .threads) idle t h, ap one i)
   takes Full i = tt
 
-  steps : Paid b (stepped b t y)
+  steps : Paid b (stepped b t y d)
   unfolding stepped
-  steps = pick b _ _ _ (λ _. pick b _ _ _ (λ _. tt) (takes (step (placeOf (b .threads t .place)) (b .store) (b .threads t)))) (λ _. tt)
+  steps = pick b _ _ _ (λ _. pick b _ _ _ (λ _. pick b _ _ _ (λ _. tt) (takes (step (placeOf (b .threads t .place)) (sightOf (b .store)) (b .threads t)))) (λ _. tt)) (λ _. tt)
 
-  acts : (n : ℕ) → Paid b (acted n b t y)
+  acts : (n : ℕ) → Paid b (acted n b t y d)
   acts zero = steps
   acts (suc zero) = starts Lookup
   acts (suc (suc zero)) = starts Insert
@@ -84,53 +86,76 @@ module _ (b : Bench) (t y : ℕ) (h : t < 4) where
   acts (suc (suc (suc (suc (suc zero))))) = starts Join
   acts (suc (suc (suc (suc (suc (suc n)))))) = tt
 
-paid : (b : Bench) (x y : ℕ) → Paid b (recordStep b x y)
+paid : (b : Bench) (x y d : ℕ) → Paid b (recordStep b x y d)
 unfolding recordStep
-paid b x y = pick b _ _ _ (λ _. tt) (λ e. acts b (x / 16) y (omega (arith, ltb-false 3 (x / 16) e)) (x % 16))
+paid b x y d = pick b _ _ _ (λ _. tt) (λ e. acts b (x / 16) y d (omega (arith, ltb-false 3 (x / 16) e)) (x % 16))
+
+-- ---- the bytes of a row, and of several
+row-length : (file : List ℕ) (t : ℕ) (th : Thread) (w : Row) → length (rowBytes file t th w) ≡ rowWidth file * rowCount w
+unfolding ite bytesOf
+row-length file t th noRow = omega arith
+row-length file t th (row a d c) = by (eqb (version file) 1)
+  where
+    by : (v : Bool) → suc (suc (suc (suc (length (ite v [] (widerRow d c)))))) ≡ ite v 4 14 * 1
+    by true = refl
+    by false = refl
+
+rows-add : (v : Bool) (a b : ℕ) → ite v 4 14 * a + ite v 4 14 * b ≡ ite v 4 14 * (b + a)
+unfolding ite
+rows-add true a b = omega arith
+rows-add false a b = omega arith
 
 -- ---- every run
 
 -- after k records
-record Fits (p : Progress) (k : ℕ) : Type 0 where
-  rows : length (p .rows) ≡ 4 * p .finished
+record Fits (file : List ℕ) (p : Progress) (k : ℕ) : Type 0 where
+  rows : length (p .rows) ≡ rowWidth file * p .finished
   spent : 2 * p .finished + busies (p .bench .threads) ≤ p .done
   few : p .done ≤ k
 
-row-length : (t : ℕ) (th : Thread) (w : Row) → length (rowBytes t th w) ≡ 4 * rowCount w
-row-length t th noRow = refl
-row-length t th (row a) = refl
+module _ (file : List ℕ) where
+  advances : (p : Progress) (k t : ℕ) → Fits file p k → (r : Result) → Paid (p .bench) r → Fits file (advanceBy file p t r) (suc k)
+  advances p k t f (refused n) c = record { rows = f .rows; spent = f .spent; few = omega (arith, f .few) }
+  advances p k t f (carried b w) c = record {
+    rows = length-append (p .rows) (rowBytes file t (p .bench .threads t) w) ∙ rw (f .rows, row-length file t (p .bench .threads t) w) (rows-add (eqb (version file) 1) (p .finished) (rowCount w));
+    spent = omega (arith, f .spent, c);
+    few = omega (arith, f .few);
+  }
 
-advances : (p : Progress) (k t : ℕ) → Fits p k → (r : Result) → Paid (p .bench) r → Fits (advanceBy p t r) (suc k)
-advances p k t f (refused n) c = record { rows = f .rows; spent = f .spent; few = omega (arith, f .few) }
-advances p k t f (carried b w) c =
-    record { rows = omega (arith, length-append (p .rows) (rowBytes t (p .bench .threads t) w), row-length t (p .bench .threads t) w, f .rows); spent = omega (arith, f .spent, c); few = omega (arith, f .few) }
+  either : (p : Progress) (k : ℕ) (c : Bool) {q : Progress} → Fits file p k → Fits file q (suc k) → Fits file (ite c q p) (suc k)
+  unfolding ite
+  either p k true f g = g
+  either p k false f g = record { rows = f .rows; spent = f .spent; few = omega (arith, f .few) }
 
-either : (p : Progress) (k : ℕ) (c : Bool) {q : Progress} → Fits p k → Fits q (suc k) → Fits (ite c q p) (suc k)
-unfolding ite
-either p k true f g = g
-either p k false f g = record { rows = f .rows; spent = f .spent; few = omega (arith, f .few) }
-
-onward : (p : Progress) (k x y : ℕ) → Fits p k → Fits (advance p x y) (suc k)
-unfolding advance
-onward p k x y f = either p k _ f (advances p k (x / 16) f (recordStep (p .bench) x y) (paid (p .bench) x y))
+  onward : (p : Progress) (k : ℕ) (r : Rec) → Fits file p k → Fits file (advance file p r) (suc k)
+  unfolding advance
+  onward p k r f = either p k _ f (advances p k (r .first / 16) f (recordStep (p .bench) (r .first) (r .second) (r .extra)) (paid (p .bench) (r .first) (r .second) (r .extra)))
 
 none-busy : busies (λ _. idle) ≡ 0
 unfolding busies busy one
 none-busy = refl
 
-fits : (file : List ℕ) (k : ℕ) → Fits (after file k) k
+fits : (file : List ℕ) (k : ℕ) → Fits file (after file k) k
 unfolding after
-fits file zero = record { rows = refl; spent = omega (arith, none-busy); few = omega arith }
-fits file (suc k) = onward (after file k) k (firstByte file k) (secondByte file k) (fits file k)
+fits file zero = record { rows = omega arith; spent = omega (arith, none-busy); few = omega arith }
+fits file (suc k) = onward file (after file k) k (recordAt file k) (fits file k)
 
-pub rows-length : (file : List ℕ) (k : ℕ) → length (after file k .rows) ≡ after file k .finished * 4
-rows-length file k = omega (arith, fits file k)
+pub rows-length : (file : List ℕ) (k : ℕ) → length (after file k .rows) ≡ rowWidth file * after file k .finished
+rows-length file k = fits file k .rows
 
-pub rows-fit : (file : List ℕ) (k : ℕ) → length (after file k .rows) ≤ 2 * k
-rows-fit file k = omega (arith, fits file k)
+pub rows-fit : (file : List ℕ) (k : ℕ) → length (after file k .rows) ≤ rowRoom file k
+unfolding ite
+rows-fit file k = by (eqb (version file) 1) (rows-length file k)
+  where
+    by : (v : Bool) → length (after file k .rows) ≡ ite v 4 14 * after file k .finished → length (after file k .rows) ≤ ite v 2 7 * k
+    by true e = omega (arith, fits file k)
+    by false e = omega (arith, fits file k)
 
 pub done-few : (file : List ℕ) (k : ℕ) → after file k .done ≤ k
 done-few file k = fits file k .few
 
 pub finished-few : (file : List ℕ) (k : ℕ) → after file k .finished ≤ k
-finished-few file k = omega (arith, fits file k)
+finished-few file k = omega (arith, fits file k .spent, fits file k .few)
+
+pub finished-half : (file : List ℕ) (k : ℕ) → 2 * after file k .finished ≤ k
+finished-half file k = omega (arith, fits file k .spent, fits file k .few)

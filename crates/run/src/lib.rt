@@ -1,15 +1,22 @@
 // Run: a schedule carried out on a fresh bench, with its rows written into a lent buffer.
 ghost use mathlib.Core.Path.{_≡_};
-ghost use Prim.Native.Nat.{_+_, _*_, _≤_};
+ghost use mathlib.Core.List.{[], _∷_};
+ghost use Prim.Native.Nat.{_+_, _*_, _/_, _%_, _≤_};
+ghost use lib.Dec.{eqb};
 ghost use lib.ListN.{length};
+ghost use Rattle.container.specs.Choice.{ite};
 ghost use Rattle.nodes.specs.Cells.{table};
+ghost use Rattle.depths.specs.Rows.{rows as depthRows};
+ghost use Rattle.machine.specs.Enacted.{depthBy};
 ghost use Rattle.schedule.specs.Proper.{Proper};
 ghost use Rattle.buffer.specs.Page.{page, putAll};
-ghost use Rattle.definitions.specs.Nodes.{emptyBase};
+ghost use Rattle.definitions.specs.Nodes.{shape, emptyBase};
 ghost use Rattle.definitions.specs.Answers.{answerNumber};
-ghost use Rattle.definitions.specs.Records.{row, actionNumber};
-ghost use Rattle.definitions.specs.Run.{rowBytes, runRefusal, runReport, runBuffer};
-ghost use Rattle.run.specs.Standing.{Carried};
+ghost use Rattle.definitions.specs.Records.{actionNumber};
+ghost use Rattle.definitions.specs.Schedule.{countOf};
+ghost use Rattle.definitions.specs.Versions.{version, by, width};
+ghost use Rattle.definitions.specs.Run.{ended, reportOf, overlay, widerRow, runRefusal, runReport, runBuffer};
+ghost use Rattle.run.specs.Standing.{Lent, rowOf, Carried};
 use definitions::Action;
 use definitions::Answer;
 use definitions::Report;
@@ -48,6 +55,7 @@ pub fn answer_number(a: Answer) -> u8
     match a {
         Answer::No => 0,
         Answer::Yes => 1,
+        Answer::At(_) => 1,
         Answer::Lacking => 2,
         Answer::Blocked => 3,
         Answer::Lost => 4,
@@ -57,39 +65,66 @@ pub fn answer_number(a: Answer) -> u8
     }
 }
 
-// The row of thread t, which was th and has its answer.
-pub fn put_row(rows: &mut [u8], at: usize, t: u8, th: Thread, answer: Answer) -> usize
-    ensures { λ r. ⌜ page (now (rows .exit)) r ≡ putAll (page (now (rows .entry)) at) (rowBytes t th (row answer)) ⌝ }
+// What a row has after its four bytes from version 2 on: the depth, and no set.
+fn put_depth(rows: &mut [u8], at: usize, depth: u16) -> usize
+    ensures { λ r. ⌜ page (now (rows .exit)) r ≡ putAll (page (now (rows .entry)) at) (widerRow depth 0) ⌝ }
+{
+    let a = buffer::put_two(rows, at, (depth / 256) as u8, (depth % 256) as u8);
+    let b = buffer::put_four(rows, a, 0, 0, 0, 0);
+    buffer::put_four(rows, b, 0, 0, 0, 0)
+}
+
+// The row of thread t, which was th and has its answer, in a file of version v; from version 2 on with a lookup's depth.
+pub fn put_row(
+    rows: &mut [u8],
+    at: usize,
+    v: u8,
+    t: u8,
+    th: Thread,
+    answer: Answer,
+    depths: &[u16],
+) -> usize
+    ensures { λ r. ⌜ page (now (rows .exit)) r ≡ putAll (page (now (rows .entry)) at) (rowOf v t th answer (depthBy answer (depthRows (now (depths .entry))) (th .station))) ⌝ }
 {
     let action = th.action;
     let a = action_number(action);
     let y = answer_number(answer);
-    buffer::put_four(rows, at, t, a, th.station, y)
+    let next = buffer::put_four(rows, at, t, a, th.station, y);
+    if v == 1 {
+        return next;
+    }
+    let depth = machine::depth_of(depths, answer, th.station);
+    put_depth(rows, next, depth)
 }
 
-// The first `count` records, from a fresh bench; the first one refused ends them. A thread's record changes where it lies; what
-// decides a step gets a copy, made once the place is known, so that only the notes it reads are loaded.
+// All records of a file that is not refused, from a fresh bench; the first one refused ends them. A thread's record changes where it
+// lies; what decides a step gets a copy, made once the place is known, so that only the notes it reads are loaded. The first two bytes
+// of a record are read as in version 1; a version that has more reads it again, whole, so that version 1 pays nothing for it.
 pub fn carry_out(
     cells: &mut [u8; 4096],
     sets: &mut [u64; 256],
+    depths: &mut [u16],
     schedule: &[u8],
-    count: usize,
     rows: &mut [u8],
 ) -> Standing
-    requires { ⌜ (count ≤ 4096) × ((3 + 2 * count ≤ length (now schedule)) × (table (now cells) (now sets) ≡ (λ _. emptyBase))) ⌝ }
-    ensures { λ r. ⌜ Carried (now (schedule .entry)) count (table (now (cells .exit)) (now (sets .exit))) r (now (rows .entry)) (now (rows .exit)) ⌝ }
+    requires { ⌜ Proper (now schedule) × ((table (now cells) (now sets) ≡ (λ _. shape emptyBase)) × Lent (now schedule) (now depths)) ⌝ }
+    ensures { λ r. ⌜ Carried (now (schedule .entry)) (countOf (now (schedule .entry))) (table (now (cells .exit)) (now (sets .exit))) (now (depths .exit)) r (now (rows .entry)) (now (rows .exit)) ⌝ }
 {
+    let v = schedule::version_of(schedule);
     let idle = definitions::idle_thread();
     let mut threads = [idle; 4];
     let mut root = 0u8;
     let mut used = 1u16;
     let mut finished = 0usize;
     let mut at = 0usize;
+    let mut from = 3usize;
     let mut k = 0usize;
-    while k < count {
-        let record = schedule::read(schedule, k);
+    while from < schedule.len() {
+        let short = schedule::read(schedule, from, 1);
+        let record = short.found;
+        let mut after = short.at;
         // a proper file has as many records as its header says
-        let Record::Pair(x, y) = record else {
+        let Record::Of(x, y, _) = record else {
             return Standing {
                 root: root,
                 used: used,
@@ -102,7 +137,35 @@ pub fn carry_out(
         let next = k + 1;
         let t = (x / 16 % 4) as usize;
         let place = threads[t].place;
-        let asked = machine::ask(x, y, place);
+        let mut extra = 0u16;
+        if v != 1 {
+            let whole = schedule::read(schedule, from, v);
+            let wide = whole.found;
+            let Record::Of(_, _, e) = wide else {
+                return Standing {
+                    root: root,
+                    used: used,
+                    refusal: 0,
+                    done: k,
+                    finished: finished,
+                    at: at,
+                };
+            };
+            extra = e;
+            after = whole.at;
+            let wrong = machine::ask(x, y, extra, place);
+            if 1 < wrong {
+                return Standing {
+                    root: root,
+                    used: used,
+                    refusal: wrong,
+                    done: k,
+                    finished: finished,
+                    at: at,
+                };
+            }
+        }
+        let asked = machine::ask(x, y, 0, place);
         match asked {
             // a step: 1 and 2, 3, 10 to 13, or 15 to 51 decide
             0 => {
@@ -131,7 +194,7 @@ pub fn carry_out(
                     };
                 }
                 let effect = d.effect;
-                root = machine::enact(cells, sets, root, used, d.writes, effect);
+                root = machine::enact(cells, sets, depths, root, used, d.writes, effect);
                 used = machine::used_then(used, d.writes, effect);
                 if what == 0 {
                     let note = d.note;
@@ -152,14 +215,14 @@ pub fn carry_out(
                 } else {
                     let th = threads[t];
                     let answer = d.answer;
-                    at = put_row(rows, at, x / 16, th, answer);
+                    at = put_row(rows, at, v, x / 16, th, answer, depths);
                     finished = finished + 1;
                     threads[t] = idle;
                 }
             }
             // a start
             1 => {
-                let begun = machine::begin(x % 16, y);
+                let begun = machine::begin(x % 16, y, extra);
                 threads[t] = begun;
             }
             // a refusal
@@ -174,6 +237,7 @@ pub fn carry_out(
                 };
             }
         }
+        from = after;
         k = next;
     }
     Standing {
@@ -186,6 +250,14 @@ pub fn carry_out(
     }
 }
 
+// The bytes of a row buffer that Run asks for in version v.
+fn room_for(v: u8, count: usize) -> usize
+    requires { ⌜ count ≤ 4096 ⌝ }
+    ensures { λ r. ⌜ r ≡ ite (eqb v 1) 2 7 * count ⌝ }
+{
+    if v == 1 { 2 * count } else { 7 * count }
+}
+
 // The refusal of a file and a row buffer, 0 for none.
 pub fn refusal_of(schedule: &[u8], room: usize) -> u64
     ensures { λ r. ⌜ (r ≡ runRefusal (now (schedule .entry)) room) × (r ≡ 0 → Proper (now (schedule .entry))) ⌝ }
@@ -193,7 +265,8 @@ pub fn refusal_of(schedule: &[u8], room: usize) -> u64
     let wrong = schedule::file_refusal(schedule);
     if wrong == 0 {
         let count = schedule::count_of(schedule);
-        if room < 2 * count {
+        let needed = room_for(schedule[0], count);
+        if room < needed {
             return 5;
         }
         return 0;
@@ -201,27 +274,39 @@ pub fn refusal_of(schedule: &[u8], room: usize) -> u64
     wrong
 }
 
-// Run: the report, and the rows in the buffer.
+// Run of a file that is not refused, over the depths that are lent.
+fn report(depths: &mut [u16], schedule: &[u8], rows: &mut [u8]) -> Report
+    requires { ⌜ Proper (now schedule) × (Lent (now schedule) (now depths) × (by (now schedule) 2 7 * countOf (now schedule) ≤ length (now rows))) ⌝ }
+    ensures { λ r. ⌜ (r ≡ reportOf (ended (now (schedule .entry)))) × (now (rows .exit) ≡ overlay (ended (now (schedule .entry)) .rows) (now (rows .entry))) ⌝ }
+{
+    let mut cells = [0u8; 4096];
+    let mut sets = [0u64; 256];
+    let p = carry_out(&mut cells, &mut sets, depths, schedule, rows);
+    let set = tree::set_below(&cells, &sets, p.root, 18446744073709551615, 63);
+    let stored = tree::stored_below(&cells, &sets, p.root, 18446744073709551615, 63);
+    Report {
+        refusal: p.refusal as u64,
+        records: p.done as u64,
+        rows: p.finished as u64,
+        set: set,
+        stored: stored,
+        used: p.used as u64,
+    }
+}
+
+// Run: the report, and the rows in the buffer. Version 1 has no use for depths.
 pub fn run(schedule: &[u8], rows: &mut [u8]) -> Report
     ensures { λ r. ⌜ (r ≡ runReport (now (schedule .entry)) (length (now (rows .entry)))) × (now (rows .exit) ≡ runBuffer (now (schedule .entry)) (now (rows .entry))) ⌝ }
 {
     let room = rows.len();
     let bad = refusal_of(schedule, room);
     if bad == 0 {
-        let mut cells = [0u8; 4096];
-        let mut sets = [0u64; 256];
-        let count = schedule::count_of(schedule);
-        let p = carry_out(&mut cells, &mut sets, schedule, count, rows);
-        let set = tree::set_below(&cells, &sets, p.root, 18446744073709551615, 63);
-        let stored = tree::stored_below(&cells, &sets, p.root, 18446744073709551615, 63);
-        return Report {
-            refusal: p.refusal as u64,
-            records: p.done as u64,
-            rows: p.finished as u64,
-            set: set,
-            stored: stored,
-            used: p.used as u64,
-        };
+        if schedule[0] == 1 {
+            let mut none = [0u16; 1];
+            return report(&mut none[..0], schedule, rows);
+        }
+        let mut depths = [0u16; 16384];
+        return report(&mut depths[..], schedule, rows);
     }
     Report {
         refusal: bad,

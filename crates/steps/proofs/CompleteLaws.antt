@@ -17,8 +17,8 @@ use Rattle.definitions.specs.declared.Effect.the-variants.{Quiet, Mark, Settle,
 use Rattle.definitions.specs.declared.Answer.the-variants.{Yes}
 use Rattle.definitions.specs.declared.Turn.{Turn}
 use Rattle.definitions.specs.declared.Turn.the-variants.{Moves, Finishes}
-use Rattle.definitions.specs.Nodes.{Nodes, kidOf, isDone}
-use Rattle.definitions.specs.Bench.{store}
+use Rattle.definitions.specs.Nodes.{Shapes, kidOf, isDone}
+use Rattle.definitions.specs.Bench.{sight}
 use Rattle.definitions.specs.Places.{nowhere, places, placeOf, to}
 use Rattle.definitions.specs.Steps.{goes, ended, invalid, names, replacement, cutAt, cutOn, cutRight, freeing, step}
 use Rattle.steps.proofs.JoinLaws.{past}
@@ -59,7 +59,7 @@ pub ruleset invalid-cases = (invalid-one)
 pub ruleset replace-cases = (replace-union, replace-other)
 
 -- ---- 46: m is the main, b the grandparent, k whether the child read is the parent, x the replacement
-module _ (m : Node) (n : Nodes) (root : ℕ) (th : Thread) {k : Bool} {r : Turn} where
+module _ (m : Node) (n : Shapes) (root : ℕ) (th : Thread) {k : Bool} {r : Turn} where
   pub cut-root : {x : ℕ} → m .grandparent ≡ Nil → k ≡ names (m .parent) root → k ≡ true → x ≡ replacement m → r ≡ Moves (to 51 th) (Swing Root x) → r ≡ cutAt (m .grandparent) m n root th
   unfolding ite
   cut-root h i t j q = q ∙ rw (j, h, ← i, t)
@@ -79,7 +79,7 @@ module _ (m : Node) (n : Nodes) (root : ℕ) (th : Thread) {k : Bool} {r : Turn}
 pub ruleset cut-cases = (cut-root, cut-root-gone, cut-left, cut-not-left)
 
 -- ---- 47, 49: b is the grandparent, y its child on the side d
-module _ (d : Bool) (m : Node) (n : Nodes) (th : Thread) {r : Turn} where
+module _ (d : Bool) (m : Node) (n : Shapes) (th : Thread) {r : Turn} where
   pub side-none : m .grandparent ≡ Nil → r ≡ goes (to 46 th) → r ≡ cutOn d (m .grandparent) m n th
   side-none h q = q ∙ rw h
 
@@ -94,7 +94,7 @@ module _ (d : Bool) (m : Node) (n : Nodes) (th : Thread) {r : Turn} where
 pub ruleset side-cases = (side-none, side-cut, side-gone)
 
 -- ---- 48: b is the grandparent
-module _ (m : Node) (n : Nodes) (th : Thread) {r : Turn} where
+module _ (m : Node) (n : Shapes) (th : Thread) {r : Turn} where
   pub right-none : m .grandparent ≡ Nil → r ≡ goes (to 46 th) → r ≡ cutRight (m .grandparent) m n th
   right-none h q = q ∙ rw h
 
@@ -109,7 +109,7 @@ module _ (m : Node) (n : Nodes) (th : Thread) {r : Turn} where
 pub ruleset right-cases = (right-none, right-there, right-gone)
 
 -- ---- 50: b is the grandparent, k whether its mark is the main
-module _ (l : Link) (n : Nodes) (th : Thread) {r : Turn} where
+module _ (l : Link) (n : Shapes) (th : Thread) {r : Turn} where
   pub free-none : l ≡ Nil → r ≡ goes (to 51 th) → r ≡ freeing l n th
   free-none h q = q ∙ rw h
 
@@ -124,44 +124,44 @@ module _ (l : Link) (n : Nodes) (th : Thread) {r : Turn} where
 pub ruleset free-cases = (free-none, free-mark, free-other)
 
 -- ---- the places 40 and 45 to 51: m is the main
-module _ (n : Nodes) (root used : ℕ) (th : Thread) where
-  pub at-40-done : {m : Node} {k : Bool} {r : Turn} → th .place ≡ 40 → m ≡ n (th .main) → k ≡ isDone (m .stage) → k ≡ true → r ≡ ended Quiet th → r ≡ step (placeOf (th .place)) (store n root used) th
+module _ (n : Shapes) (root used : ℕ) (th : Thread) where
+  pub at-40-done : {m : Node} {k : Bool} {r : Turn} → th .place ≡ 40 → m ≡ n (th .main) → k ≡ isDone (m .stage) → k ≡ true → r ≡ ended Quiet th → r ≡ step (placeOf (th .place)) (sight n root used) th
   unfolding step ite
   at-40-done h e i t q = q ∙ rw (h, ← e, ← i, t)
 
-  pub at-40 : {m : Node} {k : Bool} {r : Turn} → th .place ≡ 40 → m ≡ n (th .main) → k ≡ isDone (m .stage) → k ≡ false → r ≡ goes (to 41 th) → r ≡ step (placeOf (th .place)) (store n root used) th
+  pub at-40 : {m : Node} {k : Bool} {r : Turn} → th .place ≡ 40 → m ≡ n (th .main) → k ≡ isDone (m .stage) → k ≡ false → r ≡ goes (to 41 th) → r ≡ step (placeOf (th .place)) (sight n root used) th
   unfolding step ite
   at-40 h e i t q = q ∙ rw (h, ← e, ← i, t)
 
-  pub at-45 : {m : Node} {o : Effect} {r : Turn} → th .place ≡ 45 → m ≡ n (th .main) → o ≡ invalid (m .parent) → r ≡ Moves (to 46 th) o → r ≡ step (placeOf (th .place)) (store n root used) th
+  pub at-45 : {m : Node} {o : Effect} {r : Turn} → th .place ≡ 45 → m ≡ n (th .main) → o ≡ invalid (m .parent) → r ≡ Moves (to 46 th) o → r ≡ step (placeOf (th .place)) (sight n root used) th
   unfolding step
   at-45 h e i q = q ∙ rw (i, h, ← e)
 
-  pub at-46 : {m : Node} {r : Turn} → th .place ≡ 46 → m ≡ n (th .main) → r ≡ cutAt (m .grandparent) m n root th → r ≡ step (placeOf (th .place)) (store n root used) th
+  pub at-46 : {m : Node} {r : Turn} → th .place ≡ 46 → m ≡ n (th .main) → r ≡ cutAt (m .grandparent) m n root th → r ≡ step (placeOf (th .place)) (sight n root used) th
   unfolding step
   at-46 h e q = q ∙ rw (h, ← e)
 
-  pub at-47 : {m : Node} {r : Turn} → th .place ≡ 47 → m ≡ n (th .main) → r ≡ cutOn true (m .grandparent) m n th → r ≡ step (placeOf (th .place)) (store n root used) th
+  pub at-47 : {m : Node} {r : Turn} → th .place ≡ 47 → m ≡ n (th .main) → r ≡ cutOn true (m .grandparent) m n th → r ≡ step (placeOf (th .place)) (sight n root used) th
   unfolding step
   at-47 h e q = q ∙ rw (h, ← e)
 
-  pub at-48 : {m : Node} {r : Turn} → th .place ≡ 48 → m ≡ n (th .main) → r ≡ cutRight (m .grandparent) m n th → r ≡ step (placeOf (th .place)) (store n root used) th
+  pub at-48 : {m : Node} {r : Turn} → th .place ≡ 48 → m ≡ n (th .main) → r ≡ cutRight (m .grandparent) m n th → r ≡ step (placeOf (th .place)) (sight n root used) th
   unfolding step
   at-48 h e q = q ∙ rw (h, ← e)
 
-  pub at-49 : {m : Node} {r : Turn} → th .place ≡ 49 → m ≡ n (th .main) → r ≡ cutOn false (m .grandparent) m n th → r ≡ step (placeOf (th .place)) (store n root used) th
+  pub at-49 : {m : Node} {r : Turn} → th .place ≡ 49 → m ≡ n (th .main) → r ≡ cutOn false (m .grandparent) m n th → r ≡ step (placeOf (th .place)) (sight n root used) th
   unfolding step
   at-49 h e q = q ∙ rw (h, ← e)
 
-  pub at-50 : {m : Node} {r : Turn} → th .place ≡ 50 → m ≡ n (th .main) → r ≡ freeing (m .grandparent) n th → r ≡ step (placeOf (th .place)) (store n root used) th
+  pub at-50 : {m : Node} {r : Turn} → th .place ≡ 50 → m ≡ n (th .main) → r ≡ freeing (m .grandparent) n th → r ≡ step (placeOf (th .place)) (sight n root used) th
   unfolding step
   at-50 h e q = q ∙ rw (h, ← e)
 
-  pub at-51 : {r : Turn} → th .place ≡ 51 → r ≡ ended (Settle (th .main) Done) th → r ≡ step (placeOf (th .place)) (store n root used) th
+  pub at-51 : {r : Turn} → th .place ≡ 51 → r ≡ ended (Settle (th .main) Done) th → r ≡ step (placeOf (th .place)) (sight n root used) th
   unfolding step
   at-51 h q = q ∙ rw h
 
-  pub at-over : {r : Turn} → 45 ≤ th .place → (th .place ≡ 45 → ⊥) → (th .place ≡ 46 → ⊥) → (th .place ≡ 47 → ⊥) → (th .place ≡ 48 → ⊥) → (th .place ≡ 49 → ⊥) → (th .place ≡ 50 → ⊥) → (th .place ≡ 51 → ⊥) → r ≡ goes th → r ≡ step (placeOf (th .place)) (store n root used) th
+  pub at-over : {r : Turn} → 45 ≤ th .place → (th .place ≡ 45 → ⊥) → (th .place ≡ 46 → ⊥) → (th .place ≡ 47 → ⊥) → (th .place ≡ 48 → ⊥) → (th .place ≡ 49 → ⊥) → (th .place ≡ 50 → ⊥) → (th .place ≡ 51 → ⊥) → r ≡ goes th → r ≡ step (placeOf (th .place)) (sight n root used) th
   unfolding step
   at-over l f₀ f₁ f₂ f₃ f₄ f₅ f₆ q = q ∙ rw (List·getD-eq-default places nowhere (past 51 (past 50 (past 49 (past 48 (past 47 (past 46 (past 45 l f₀) f₁) f₂) f₃) f₄) f₅) f₆))
 

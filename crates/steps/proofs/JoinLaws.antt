@@ -6,7 +6,6 @@ use native.Mathlib.Omega.{arith}
 use lib.Dec.{leb}
 use borrow.Author.Tests.{eq-eqb, ne-eqb, le-leb, lt-leb}
 use Rattle.container.specs.Choice.{ite}
-use Rattle.container.specs.Container.{union}
 use Rattle.definitions.specs.declared.Link.{Link}
 use Rattle.definitions.specs.declared.Link.the-variants.{Nil, To}
 use Rattle.definitions.specs.declared.Kind.the-variants.{Main}
@@ -15,13 +14,14 @@ use Rattle.definitions.specs.declared.Check.{Check}
 use Rattle.definitions.specs.declared.Node.{Node}
 use Rattle.definitions.specs.declared.Spot.the-variants.{Under}
 use Rattle.definitions.specs.declared.Thread.{Thread}
+use Rattle.definitions.specs.declared.Content.the-variants.{Of}
 use Rattle.definitions.specs.declared.Effect.{Effect}
 use Rattle.definitions.specs.declared.Effect.the-variants.{Mark, Settle, Base, Commit}
 use Rattle.definitions.specs.declared.Answer.the-variants.{Lost, NeighbourBlocked, StoodDown}
 use Rattle.definitions.specs.declared.Turn.{Turn}
 use Rattle.definitions.specs.declared.Turn.the-variants.{Moves, Finishes, Full}
-use Rattle.definitions.specs.Nodes.{Nodes, kidOf, childFor, isRoute, isPreparing, check, isReplaceable, replaceable}
-use Rattle.definitions.specs.Bench.{store}
+use Rattle.definitions.specs.Nodes.{Shapes, kidOf, childFor, isRoute, isPreparing, check, isReplaceable, replaceable}
+use Rattle.definitions.specs.Bench.{sight}
 use Rattle.definitions.specs.Places.{p36, p37, placeOf, to, toRoute, toSide, toFound, toMain, toGrandparent, toOther}
 use Rattle.definitions.specs.Steps.{goes, says, beside, hooked, isNil, marking, topped, climbed, grandMarking, backOut, unionParent, closed, unmark, step}
 
@@ -40,7 +40,7 @@ pub last : {p k : ℕ} → k ≤ p → p < k + 1 → p ≡ k
 last l m = omega arith
 
 -- ---- 22, 23: b is the node read, k whether it is a route
-module _ (n : Nodes) (th : Thread) (x : ℕ) {b : Node} {k : Bool} {r : Turn} where
+module _ (n : Shapes) (th : Thread) (x : ℕ) {b : Node} {k : Bool} {r : Turn} where
   pub beside-route : b ≡ n x → k ≡ isRoute (b .kind) → k ≡ true → r ≡ goes (toRoute 23 x th) → r ≡ beside n th x
   unfolding beside ite
   beside-route e i t q = q ∙ rw (← e, ← i, t)
@@ -52,12 +52,12 @@ module _ (n : Nodes) (th : Thread) (x : ℕ) {b : Node} {k : Bool} {r : Turn} wh
 pub ruleset beside-cases = (beside-route, beside-base)
 
 -- ---- 25: p is the parent, x its child on the base's side, b the base
-module _ (n : Nodes) (used : ℕ) (th : Thread) {p : Node} {x : ℕ} {r : Turn} where
+module _ (n : Shapes) (used : ℕ) (th : Thread) {p : Node} {x : ℕ} {r : Turn} where
   pub hook-full : p ≡ n (th .parent) → x ≡ kidOf (th .left) p → x ≡ th .base → 255 < used → r ≡ Full → r ≡ hooked n used th
   unfolding ite
   hook-full e i h l q = q ∙ rw (← e, ← i, eq-eqb _ _ h, short used l)
 
-  pub hook-made : {b : Node} → p ≡ n (th .parent) → x ≡ kidOf (th .left) p → x ≡ th .base → used ≤ 255 → b ≡ n (th .base) → r ≡ Moves (toMain 26 used true th) (Base (Under (th .parent) (th .left)) used Main (b .parent) (b .container) 0) → r ≡ hooked n used th
+  pub hook-made : {b : Node} → p ≡ n (th .parent) → x ≡ kidOf (th .left) p → x ≡ th .base → used ≤ 255 → b ≡ n (th .base) → r ≡ Moves (toMain 26 used true th) (Base (Under (th .parent) (th .left)) used Main (b .parent) (Of (th .base)) 0) → r ≡ hooked n used th
   unfolding ite
   hook-made e i h l f q = q ∙ rw (f, ← e, ← i, eq-eqb _ _ h, enough used l)
 
@@ -68,7 +68,7 @@ module _ (n : Nodes) (used : ℕ) (th : Thread) {p : Node} {x : ℕ} {r : Turn} 
 pub ruleset hook-cases = (hook-full, hook-made, hook-lost)
 
 -- ---- 30, 33: b is the route g, k whether its mark is none
-module _ (n : Nodes) (g p o : ℕ) (th : Thread) {b : Node} {k : Bool} {r : Turn} where
+module _ (n : Shapes) (g p o : ℕ) (th : Thread) {b : Node} {k : Bool} {r : Turn} where
   pub mark-set : b ≡ n g → k ≡ isNil (b .mark) → k ≡ true → r ≡ Moves (to p th) (Mark g (To (th .main))) → r ≡ marking n g p o th
   unfolding ite
   mark-set e i t q = q ∙ rw (← e, ← i, t)
@@ -80,7 +80,7 @@ module _ (n : Nodes) (g p o : ℕ) (th : Thread) {b : Node} {k : Bool} {r : Turn
 pub ruleset mark-cases = (mark-set, mark-held)
 
 -- ---- 31: b is the root
-module _ (n : Nodes) (root : ℕ) (th : Thread) {r : Turn} where
+module _ (n : Shapes) (root : ℕ) (th : Thread) {r : Turn} where
   pub top-parent : root ≡ th .parent → r ≡ goes (toGrandparent 34 Nil th) → r ≡ topped n root th
   unfolding ite
   top-parent h q = q ∙ rw (eq-eqb _ _ h)
@@ -96,7 +96,7 @@ module _ (n : Nodes) (root : ℕ) (th : Thread) {r : Turn} where
 pub ruleset top-cases = (top-parent, top-route, top-base)
 
 -- ---- 32: b is the child x
-module _ (n : Nodes) (x : ℕ) (th : Thread) {r : Turn} where
+module _ (n : Shapes) (x : ℕ) (th : Thread) {r : Turn} where
   pub climb-parent : x ≡ th .parent → r ≡ goes (toGrandparent 33 (To (th .route)) th) → r ≡ climbed n x th
   unfolding ite
   climb-parent h q = q ∙ rw (eq-eqb _ _ h)
@@ -112,7 +112,7 @@ module _ (n : Nodes) (x : ℕ) (th : Thread) {r : Turn} where
 pub ruleset climb-cases = (climb-parent, climb-route, climb-base)
 
 -- ---- 33
-module _ (n : Nodes) (th : Thread) where
+module _ (n : Shapes) (th : Thread) where
   pub grand-none : {r : Turn} → th .grandparent ≡ Nil → r ≡ goes (to 37 th) → r ≡ grandMarking (th .grandparent) n th
   grand-none h q = q ∙ rw h
 
@@ -122,7 +122,7 @@ module _ (n : Nodes) (th : Thread) where
 pub ruleset grand-cases = (grand-none, grand-mark)
 
 -- ---- 35: x is the neighbour
-module _ (n : Nodes) (th : Thread) where
+module _ (n : Shapes) (th : Thread) where
   pub union-grand : th .other ≡ th .neighbour → th .grandparent ≡ unionParent n th
   unfolding ite
   union-grand h = rw (eq-eqb _ _ h)
@@ -141,15 +141,15 @@ back-under : (l : Link) → isNil l ≡ false → backOut l ≡ p36
 back-under Nil h = cc
 back-under (To g) h = refl
 
--- m is the main, p the union node's parent and c its container
-module _ (n : Nodes) (used : ℕ) (th : Thread) {m : Node} {k : Bool} {r : Turn} where
+-- m is the main, p the union node's parent
+module _ (n : Shapes) (used : ℕ) (th : Thread) {m : Node} {k : Bool} {r : Turn} where
   pub close-full : m ≡ n (th .main) → k ≡ isPreparing (m .stage) → k ≡ true → 255 < used → r ≡ Full → r ≡ closed n used th
   unfolding ite
   close-full e i t l q = q ∙ rw (← e, ← i, t, short used l)
 
-  pub close-made : {x : Node} {p : Link} {c : ℕ} → m ≡ n (th .main) → k ≡ isPreparing (m .stage) → k ≡ true → used ≤ 255 → x ≡ n (th .neighbour) → p ≡ unionParent n th → c ≡ union (m .container) (x .container) → r ≡ Moves (to 40 th) (Commit (th .main) used p c (th .neighbour) (th .grandparent) (th .other)) → r ≡ closed n used th
+  pub close-made : {p : Link} → m ≡ n (th .main) → k ≡ isPreparing (m .stage) → k ≡ true → used ≤ 255 → p ≡ unionParent n th → r ≡ Moves (to 40 th) (Commit (th .main) used p (th .neighbour) (th .grandparent) (th .other)) → r ≡ closed n used th
   unfolding ite
-  close-made e i t l f g u q = q ∙ rw (g, u, f, ← e, ← i, t, enough used l)
+  close-made e i t l g q = q ∙ rw (g, ← e, ← i, t, enough used l)
 
   pub close-alone : {o : Bool} → m ≡ n (th .main) → k ≡ isPreparing (m .stage) → k ≡ false → o ≡ isNil (th .grandparent) → o ≡ true → r ≡ goes (to 37 th) → r ≡ closed n used th
   unfolding ite
@@ -168,81 +168,81 @@ unmark-one l r h = rw h
 pub ruleset unmark-cases = (unmark-one)
 
 -- ---- the places 20 to 25: p is the parent, x the child read
-module _ (n : Nodes) (root used : ℕ) (th : Thread) where
-  pub at-20-left : {p : Node} {r : Turn} → th .place ≡ 20 → p ≡ n (th .parent) → p .left ≡ th .base → r ≡ goes (toSide 22 true th) → r ≡ step (placeOf (th .place)) (store n root used) th
+module _ (n : Shapes) (root used : ℕ) (th : Thread) where
+  pub at-20-left : {p : Node} {r : Turn} → th .place ≡ 20 → p ≡ n (th .parent) → p .left ≡ th .base → r ≡ goes (toSide 22 true th) → r ≡ step (placeOf (th .place)) (sight n root used) th
   unfolding step ite
   at-20-left h e k q = q ∙ rw (h, ← e, eq-eqb _ _ k)
 
-  pub at-20-other : {p : Node} {r : Turn} → th .place ≡ 20 → p ≡ n (th .parent) → (p .left ≡ th .base → ⊥) → r ≡ goes (to 21 th) → r ≡ step (placeOf (th .place)) (store n root used) th
+  pub at-20-other : {p : Node} {r : Turn} → th .place ≡ 20 → p ≡ n (th .parent) → (p .left ≡ th .base → ⊥) → r ≡ goes (to 21 th) → r ≡ step (placeOf (th .place)) (sight n root used) th
   unfolding step ite
   at-20-other h e k q = q ∙ rw (h, ← e, ne-eqb _ _ k)
 
-  pub at-21-right : {p : Node} {r : Turn} → th .place ≡ 21 → p ≡ n (th .parent) → p .right ≡ th .base → r ≡ goes (toSide 22 false th) → r ≡ step (placeOf (th .place)) (store n root used) th
+  pub at-21-right : {p : Node} {r : Turn} → th .place ≡ 21 → p ≡ n (th .parent) → p .right ≡ th .base → r ≡ goes (toSide 22 false th) → r ≡ step (placeOf (th .place)) (sight n root used) th
   unfolding step ite
   at-21-right h e k q = q ∙ rw (h, ← e, eq-eqb _ _ k)
 
-  pub at-21-gone : {p : Node} {r : Turn} → th .place ≡ 21 → p ≡ n (th .parent) → (p .right ≡ th .base → ⊥) → r ≡ says Lost → r ≡ step (placeOf (th .place)) (store n root used) th
+  pub at-21-gone : {p : Node} {r : Turn} → th .place ≡ 21 → p ≡ n (th .parent) → (p .right ≡ th .base → ⊥) → r ≡ says Lost → r ≡ step (placeOf (th .place)) (sight n root used) th
   unfolding step ite
   at-21-gone h e k q = q ∙ rw (h, ← e, ne-eqb _ _ k)
 
-  pub at-22 : {p : Node} {x : ℕ} {r : Turn} → th .place ≡ 22 → p ≡ n (th .parent) → x ≡ kidOf (not (th .left)) p → r ≡ beside n th x → r ≡ step (placeOf (th .place)) (store n root used) th
+  pub at-22 : {p : Node} {x : ℕ} {r : Turn} → th .place ≡ 22 → p ≡ n (th .parent) → x ≡ kidOf (not (th .left)) p → r ≡ beside n th x → r ≡ step (placeOf (th .place)) (sight n root used) th
   unfolding step
   at-22 h e i q = q ∙ rw (h, ← e, i)
 
-  pub at-23 : {p : Node} {x : ℕ} {r : Turn} → th .place ≡ 23 → p ≡ n (th .route) → x ≡ kidOf (th .left) p → r ≡ beside n th x → r ≡ step (placeOf (th .place)) (store n root used) th
+  pub at-23 : {p : Node} {x : ℕ} {r : Turn} → th .place ≡ 23 → p ≡ n (th .route) → x ≡ kidOf (th .left) p → r ≡ beside n th x → r ≡ step (placeOf (th .place)) (sight n root used) th
   unfolding step
   at-23 h e i q = q ∙ rw (h, ← e, i)
 
-  pub at-24-free : {c : Check} {k : Bool} {r : Turn} → th .place ≡ 24 → c ≡ check n (th .found) → k ≡ isReplaceable c → k ≡ true → r ≡ goes (to 25 th) → r ≡ step (placeOf (th .place)) (store n root used) th
+  pub at-24-free : {c : Check} {k : Bool} {r : Turn} → th .place ≡ 24 → c ≡ check n (th .found) → k ≡ isReplaceable c → k ≡ true → r ≡ goes (to 25 th) → r ≡ step (placeOf (th .place)) (sight n root used) th
   unfolding step replaceable ite
   at-24-free h e i t q = q ∙ rw (h, ← e, ← i, t)
 
-  pub at-24-busy : {c : Check} {k : Bool} {r : Turn} → th .place ≡ 24 → c ≡ check n (th .found) → k ≡ isReplaceable c → k ≡ false → r ≡ says NeighbourBlocked → r ≡ step (placeOf (th .place)) (store n root used) th
+  pub at-24-busy : {c : Check} {k : Bool} {r : Turn} → th .place ≡ 24 → c ≡ check n (th .found) → k ≡ isReplaceable c → k ≡ false → r ≡ says NeighbourBlocked → r ≡ step (placeOf (th .place)) (sight n root used) th
   unfolding step replaceable ite
   at-24-busy h e i t q = q ∙ rw (h, ← e, ← i, t)
 
-  pub at-25 : {r : Turn} → 20 ≤ th .place → th .place < 26 → (th .place ≡ 20 → ⊥) → (th .place ≡ 21 → ⊥) → (th .place ≡ 22 → ⊥) → (th .place ≡ 23 → ⊥) → (th .place ≡ 24 → ⊥) → r ≡ hooked n used th → r ≡ step (placeOf (th .place)) (store n root used) th
+  pub at-25 : {r : Turn} → 20 ≤ th .place → th .place < 26 → (th .place ≡ 20 → ⊥) → (th .place ≡ 21 → ⊥) → (th .place ≡ 22 → ⊥) → (th .place ≡ 23 → ⊥) → (th .place ≡ 24 → ⊥) → r ≡ hooked n used th → r ≡ step (placeOf (th .place)) (sight n root used) th
   unfolding step
   at-25 l m f g h i j q = q ∙ rw (last (past 24 (past 23 (past 22 (past 21 (past 20 l f) g) h) i) j) m)
 
   -- ---- 30 to 38
-  pub at-30 : {r : Turn} → th .place ≡ 30 → r ≡ marking n (th .parent) 31 38 th → r ≡ step (placeOf (th .place)) (store n root used) th
+  pub at-30 : {r : Turn} → th .place ≡ 30 → r ≡ marking n (th .parent) 31 38 th → r ≡ step (placeOf (th .place)) (sight n root used) th
   unfolding step
   at-30 h q = q ∙ rw h
 
-  pub at-31 : {r : Turn} → th .place ≡ 31 → r ≡ topped n root th → r ≡ step (placeOf (th .place)) (store n root used) th
+  pub at-31 : {r : Turn} → th .place ≡ 31 → r ≡ topped n root th → r ≡ step (placeOf (th .place)) (sight n root used) th
   unfolding step
   at-31 h q = q ∙ rw h
 
-  pub at-32 : {p b : Node} {x : ℕ} {r : Turn} → th .place ≡ 32 → p ≡ n (th .parent) → b ≡ n (th .route) → x ≡ childFor (p .key) b → r ≡ climbed n x th → r ≡ step (placeOf (th .place)) (store n root used) th
+  pub at-32 : {p b : Node} {x : ℕ} {r : Turn} → th .place ≡ 32 → p ≡ n (th .parent) → b ≡ n (th .route) → x ≡ childFor (p .key) b → r ≡ climbed n x th → r ≡ step (placeOf (th .place)) (sight n root used) th
   unfolding step
   at-32 h e f i q = q ∙ rw (h, ← e, ← f, i)
 
-  pub at-33 : {r : Turn} → th .place ≡ 33 → r ≡ grandMarking (th .grandparent) n th → r ≡ step (placeOf (th .place)) (store n root used) th
+  pub at-33 : {r : Turn} → th .place ≡ 33 → r ≡ grandMarking (th .grandparent) n th → r ≡ step (placeOf (th .place)) (sight n root used) th
   unfolding step
   at-33 h q = q ∙ rw h
 
-  pub at-34 : {p : Node} {x : ℕ} {r : Turn} → th .place ≡ 34 → p ≡ n (th .parent) → x ≡ kidOf (not (th .left)) p → r ≡ goes (toOther 35 x th) → r ≡ step (placeOf (th .place)) (store n root used) th
+  pub at-34 : {p : Node} {x : ℕ} {r : Turn} → th .place ≡ 34 → p ≡ n (th .parent) → x ≡ kidOf (not (th .left)) p → r ≡ goes (toOther 35 x th) → r ≡ step (placeOf (th .place)) (sight n root used) th
   unfolding step
   at-34 h e i q = q ∙ rw (h, ← e, i)
 
-  pub at-35 : {r : Turn} → th .place ≡ 35 → r ≡ closed n used th → r ≡ step (placeOf (th .place)) (store n root used) th
+  pub at-35 : {r : Turn} → th .place ≡ 35 → r ≡ closed n used th → r ≡ step (placeOf (th .place)) (sight n root used) th
   unfolding step
   at-35 h q = q ∙ rw h
 
-  pub at-36 : {o : Effect} {r : Turn} → th .place ≡ 36 → o ≡ unmark (th .grandparent) → r ≡ Moves (to 37 th) o → r ≡ step (placeOf (th .place)) (store n root used) th
+  pub at-36 : {o : Effect} {r : Turn} → th .place ≡ 36 → o ≡ unmark (th .grandparent) → r ≡ Moves (to 37 th) o → r ≡ step (placeOf (th .place)) (sight n root used) th
   unfolding step
   at-36 h i q = q ∙ rw (i, h)
 
-  pub at-37 : {r : Turn} → th .place ≡ 37 → r ≡ Moves (to 38 th) (Mark (th .parent) Nil) → r ≡ step (placeOf (th .place)) (store n root used) th
+  pub at-37 : {r : Turn} → th .place ≡ 37 → r ≡ Moves (to 38 th) (Mark (th .parent) Nil) → r ≡ step (placeOf (th .place)) (sight n root used) th
   unfolding step
   at-37 h q = q ∙ rw h
 
-  pub at-38 : {r : Turn} → th .place ≡ 38 → r ≡ Finishes (Settle (th .main) Aborted) StoodDown → r ≡ step (placeOf (th .place)) (store n root used) th
+  pub at-38 : {r : Turn} → th .place ≡ 38 → r ≡ Finishes (Settle (th .main) Aborted) StoodDown → r ≡ step (placeOf (th .place)) (sight n root used) th
   unfolding step
   at-38 h q = q ∙ rw h
 
-  pub at-39 : {r : Turn} → 30 ≤ th .place → th .place < 40 → (th .place ≡ 30 → ⊥) → (th .place ≡ 31 → ⊥) → (th .place ≡ 32 → ⊥) → (th .place ≡ 33 → ⊥) → (th .place ≡ 34 → ⊥) → (th .place ≡ 35 → ⊥) → (th .place ≡ 36 → ⊥) → (th .place ≡ 37 → ⊥) → (th .place ≡ 38 → ⊥) → r ≡ goes th → r ≡ step (placeOf (th .place)) (store n root used) th
+  pub at-39 : {r : Turn} → 30 ≤ th .place → th .place < 40 → (th .place ≡ 30 → ⊥) → (th .place ≡ 31 → ⊥) → (th .place ≡ 32 → ⊥) → (th .place ≡ 33 → ⊥) → (th .place ≡ 34 → ⊥) → (th .place ≡ 35 → ⊥) → (th .place ≡ 36 → ⊥) → (th .place ≡ 37 → ⊥) → (th .place ≡ 38 → ⊥) → r ≡ goes th → r ≡ step (placeOf (th .place)) (sight n root used) th
   unfolding step
   at-39 l m f₀ f₁ f₂ f₃ f₄ f₅ f₆ f₇ f₈ q = q ∙ rw (last (past 38 (past 37 (past 36 (past 35 (past 34 (past 33 (past 32 (past 31 (past 30 l f₀) f₁) f₂) f₃) f₄) f₅) f₆) f₇) f₈) m)
 

@@ -5,7 +5,7 @@ use Prim.Native.Nat.{ℕ, zero, suc, _+_, _<_, _≤_}
 use native.Mathlib.Omega.{arith}
 use borrow.Author.Tests.{eq-eqb, ne-eqb, le-leb, lt-leb}
 use Rattle.container.specs.Choice.{ite}
-use Rattle.container.specs.Container.{has, insert, remove, upperHalf, lowerHalf, least, splitKey}
+use Rattle.container.specs.Container.{has, upperHalf, least, splitKey}
 use Rattle.definitions.specs.declared.Link.{Link}
 use Rattle.definitions.specs.declared.Link.the-variants.{Nil, To}
 use Rattle.definitions.specs.declared.Kind.the-variants.{Normal, Neighbour}
@@ -19,13 +19,14 @@ use Rattle.definitions.specs.declared.Spot.the-variants.{Root, Under}
 use Rattle.definitions.specs.declared.Probe.{Probe}
 use Rattle.definitions.specs.declared.Probe.the-variants.{Hit, Next, Miss}
 use Rattle.definitions.specs.declared.Thread.{Thread}
+use Rattle.definitions.specs.declared.Content.the-variants.{Of, With, Without}
 use Rattle.definitions.specs.declared.Effect.the-variants.{Swing, Base, Fork}
 use Rattle.definitions.specs.declared.Answer.{Answer}
 use Rattle.definitions.specs.declared.Answer.the-variants.{Yes}
 use Rattle.definitions.specs.declared.Turn.{Turn}
 use Rattle.definitions.specs.declared.Turn.the-variants.{Moves, Finishes, Full}
-use Rattle.definitions.specs.Nodes.{Nodes}
-use Rattle.definitions.specs.Bench.{store}
+use Rattle.definitions.specs.Nodes.{Shapes}
+use Rattle.definitions.specs.Bench.{sight}
 use Rattle.definitions.specs.Places.{quarterOf, quarterNumber, swap, own, found, united, to, toNeighbour}
 use Rattle.definitions.specs.Answers.{said}
 use Rattle.definitions.specs.Steps.{goes, room, probe, replaced, replacedAs, lost, ownBy, foundBy, unitedBy, step}
@@ -41,7 +42,7 @@ pub quarter-place : (first : ℕ) (q : Quarter) {a : Quarter} {j : ℕ} → q �
 quarter-place first q e l = rw (e, l)
 
 -- ---- one of the four steps for the base x
-module _ (ns : Nodes) (root : ℕ) (l : Link) (x : ℕ) (q : Quarter) where
+module _ (ns : Shapes) (root : ℕ) (l : Link) (x : ℕ) (q : Quarter) where
   as-probe : {k : Link} {a : Quarter} → l ≡ k → q ≡ a → probe a k ns root x ≡ probe q l ns root x
   as-probe e d = rw (e, d)
 
@@ -131,62 +132,62 @@ module _ (v : Spot) (b : Node) (u : ℕ) (th : Thread) where
   pub split-full : {r : Turn} → th .action ≡ Split → 253 < u → r ≡ Full → r ≡ replaced v b u th
   split-full e h q = q ∙ (no-room 3 u _ (omega arith) ∙ as-replaced e)
 
-  pub inserted : {m : Bool} {y : Answer} {c : ℕ} {r : Turn} → th .action ≡ Insert → u ≤ 255 → m ≡ has (b .container) (th .station) → y ≡ said (not m) → c ≡ insert (b .container) (th .station) → r ≡ Finishes (Base v u Normal (b .parent) c 0) y → r ≡ replaced v b u th
-  inserted e h i y j q = q ∙ (rw (y, i, j) (has-room 1 u _ (omega arith) ∙ as-replaced e))
+  pub inserted : {m : Bool} {y : Answer} {r : Turn} → th .action ≡ Insert → u ≤ 255 → m ≡ has (b .container) (th .station) → y ≡ said (not m) → r ≡ Finishes (Base v u Normal (b .parent) (With (th .base) (th .station) (th .extra)) 0) y → r ≡ replaced v b u th
+  inserted e h i y q = q ∙ (rw (y, i) (has-room 1 u _ (omega arith) ∙ as-replaced e))
 
-  pub removed : {m : Bool} {y : Answer} {c : ℕ} {r : Turn} → th .action ≡ Remove → u ≤ 255 → m ≡ has (b .container) (th .station) → y ≡ said m → c ≡ remove (b .container) (th .station) → r ≡ Finishes (Base v u Normal (b .parent) c 0) y → r ≡ replaced v b u th
-  removed e h i y j q = q ∙ (rw (y, i, j) (has-room 1 u _ (omega arith) ∙ as-replaced e))
+  pub removed : {m : Bool} {y : Answer} {r : Turn} → th .action ≡ Remove → u ≤ 255 → m ≡ has (b .container) (th .station) → y ≡ said m → r ≡ Finishes (Base v u Normal (b .parent) (Without (th .base) (th .station)) 0) y → r ≡ replaced v b u th
+  removed e h i y q = q ∙ (rw (y, i) (has-room 1 u _ (omega arith) ∙ as-replaced e))
 
-  pub parted : {hi lo k : ℕ} {r : Turn} → th .action ≡ Split → u ≤ 253 → hi ≡ upperHalf (b .container) → lo ≡ lowerHalf (b .container) → k ≡ least hi → r ≡ Finishes (Fork v u (u + 1) (u + 2) k lo hi) Yes → r ≡ replaced v b u th
+  pub parted : {hi k : ℕ} {r : Turn} → th .action ≡ Split → u ≤ 253 → hi ≡ upperHalf (b .container) → k ≡ least hi → r ≡ Finishes (Fork v u (u + 1) (u + 2) k (th .base)) Yes → r ≡ replaced v b u th
   unfolding splitKey
-  parted e h i j k q = q ∙ (rw (k, i, j) (has-room 3 u _ (omega arith) ∙ as-replaced e))
+  parted e h i k q = q ∙ (rw (k, i) (has-room 3 u _ (omega arith) ∙ as-replaced e))
 
 -- ---- 10 to 13: b is the thread's base, w what is seen
-module _ (ns : Nodes) (root u : ℕ) (th : Thread) (q : Quarter) {b : Node} {w : Probe} (e : b ≡ ns (th .base)) (s : w ≡ probe q (b .parent) ns root (th .base)) where
-  as-own : {a : Probe} → w ≡ a → ownBy a b u th ≡ step (swap own q) (store ns root u) th
+module _ (ns : Shapes) (root u : ℕ) (th : Thread) (q : Quarter) {b : Node} {w : Probe} (e : b ≡ ns (th .base)) (s : w ≡ probe q (b .parent) ns root (th .base)) where
+  as-own : {a : Probe} → w ≡ a → ownBy a b u th ≡ step (swap own q) (sight ns root u) th
   unfolding step
   as-own d = rw (← d, s, e)
 
-  pub own-hit : {v : Spot} {r : Turn} → w ≡ Hit v → r ≡ replaced v b u th → r ≡ step (swap own q) (store ns root u) th
+  pub own-hit : {v : Spot} {r : Turn} → w ≡ Hit v → r ≡ replaced v b u th → r ≡ step (swap own q) (sight ns root u) th
   own-hit d i = i ∙ as-own d
 
-  pub own-next : {k : Quarter} {p : ℕ} {r : Turn} → w ≡ Next k → p ≡ 10 + quarterNumber k → r ≡ goes (to p th) → r ≡ step (swap own q) (store ns root u) th
+  pub own-next : {k : Quarter} {p : ℕ} {r : Turn} → w ≡ Next k → p ≡ 10 + quarterNumber k → r ≡ goes (to p th) → r ≡ step (swap own q) (sight ns root u) th
   own-next d i j = j ∙ (rw i (as-own d))
 
-  pub own-miss : {r : Turn} → w ≡ Miss → r ≡ lost th → r ≡ step (swap own q) (store ns root u) th
+  pub own-miss : {r : Turn} → w ≡ Miss → r ≡ lost th → r ≡ step (swap own q) (sight ns root u) th
   own-miss d i = i ∙ as-own d
 
 -- ---- 26 to 29: b is the base found
-module _ (ns : Nodes) (root u : ℕ) (th : Thread) (q : Quarter) {b : Node} {w : Probe} (e : b ≡ ns (th .found)) (s : w ≡ probe q (b .parent) ns root (th .found)) where
-  as-found : {a : Probe} → w ≡ a → foundBy a b u th ≡ step (swap found q) (store ns root u) th
+module _ (ns : Shapes) (root u : ℕ) (th : Thread) (q : Quarter) {b : Node} {w : Probe} (e : b ≡ ns (th .found)) (s : w ≡ probe q (b .parent) ns root (th .found)) where
+  as-found : {a : Probe} → w ≡ a → foundBy a b u th ≡ step (swap found q) (sight ns root u) th
   unfolding step
   as-found d = rw (← d, s, e)
 
-  pub found-full : {v : Spot} {r : Turn} → w ≡ Hit v → 255 < u → r ≡ Full → r ≡ step (swap found q) (store ns root u) th
+  pub found-full : {v : Spot} {r : Turn} → w ≡ Hit v → 255 < u → r ≡ Full → r ≡ step (swap found q) (sight ns root u) th
   found-full d h i = i ∙ (no-room 1 u _ (omega arith) ∙ as-found d)
 
-  pub found-hit : {v : Spot} {r : Turn} → w ≡ Hit v → u ≤ 255 → r ≡ Moves (toNeighbour 30 u th) (Base v u Neighbour (b .parent) (b .container) (th .main)) → r ≡ step (swap found q) (store ns root u) th
+  pub found-hit : {v : Spot} {r : Turn} → w ≡ Hit v → u ≤ 255 → r ≡ Moves (toNeighbour 30 u th) (Base v u Neighbour (b .parent) (Of (th .found)) (th .main)) → r ≡ step (swap found q) (sight ns root u) th
   found-hit d h i = i ∙ (has-room 1 u _ (omega arith) ∙ as-found d)
 
-  pub found-next : {k : Quarter} {p : ℕ} {r : Turn} → w ≡ Next k → p ≡ 26 + quarterNumber k → r ≡ goes (to p th) → r ≡ step (swap found q) (store ns root u) th
+  pub found-next : {k : Quarter} {p : ℕ} {r : Turn} → w ≡ Next k → p ≡ 26 + quarterNumber k → r ≡ goes (to p th) → r ≡ step (swap found q) (sight ns root u) th
   found-next d i j = j ∙ (rw i (as-found d))
 
-  pub found-miss : {r : Turn} → w ≡ Miss → r ≡ goes (to 38 th) → r ≡ step (swap found q) (store ns root u) th
+  pub found-miss : {r : Turn} → w ≡ Miss → r ≡ goes (to 38 th) → r ≡ step (swap found q) (sight ns root u) th
   found-miss d i = i ∙ as-found d
 
 -- ---- 41 to 44: m is the main, b its neighbour
-module _ (ns : Nodes) (root u : ℕ) (th : Thread) (q : Quarter) {m b : Node} {w : Probe} (f : m ≡ ns (th .main)) (e : b ≡ ns (m .neighbour)) (s : w ≡ probe q (b .parent) ns root (m .neighbour)) where
-  as-united : {a : Probe} → w ≡ a → unitedBy a m th ≡ step (swap united q) (store ns root u) th
+module _ (ns : Shapes) (root u : ℕ) (th : Thread) (q : Quarter) {m b : Node} {w : Probe} (f : m ≡ ns (th .main)) (e : b ≡ ns (m .neighbour)) (s : w ≡ probe q (b .parent) ns root (m .neighbour)) where
+  as-united : {a : Probe} → w ≡ a → unitedBy a m th ≡ step (swap united q) (sight ns root u) th
   unfolding step
   as-united d = rw (← d, s, e, f)
 
-  pub united-hit : {v : Spot} {r : Turn} → w ≡ Hit v → r ≡ Moves (to 45 th) (Swing v (m .union)) → r ≡ step (swap united q) (store ns root u) th
+  pub united-hit : {v : Spot} {r : Turn} → w ≡ Hit v → r ≡ Moves (to 45 th) (Swing v (m .union)) → r ≡ step (swap united q) (sight ns root u) th
   united-hit d i = i ∙ as-united d
 
-  pub united-next : {k : Quarter} {p : ℕ} {r : Turn} → w ≡ Next k → p ≡ 41 + quarterNumber k → r ≡ goes (to p th) → r ≡ step (swap united q) (store ns root u) th
+  pub united-next : {k : Quarter} {p : ℕ} {r : Turn} → w ≡ Next k → p ≡ 41 + quarterNumber k → r ≡ goes (to p th) → r ≡ step (swap united q) (sight ns root u) th
   united-next d i j = j ∙ (rw i (as-united d))
 
-  pub united-miss : {r : Turn} → w ≡ Miss → r ≡ goes (to 45 th) → r ≡ step (swap united q) (store ns root u) th
+  pub united-miss : {r : Turn} → w ≡ Miss → r ≡ goes (to 45 th) → r ≡ step (swap united q) (sight ns root u) th
   united-miss d i = i ∙ as-united d
 
 pub ruleset look-cases = (root-hit, root-miss, root-left, root-read, root-right, left-seen, left-unseen, left-hit, left-miss, right-seen, right-unseen, right-hit, right-miss)

@@ -2,13 +2,14 @@
 ghost use mathlib.Core.Path.{_≡_};
 ghost use Prim.Native.Nat.{_<_, _≤_};
 ghost use Rattle.nodes.specs.Cells.{table};
-ghost use Rattle.definitions.specs.Bench.{store};
+ghost use Rattle.definitions.specs.Bench.{sight};
 ghost use Rattle.definitions.specs.Places.{placeOf};
 ghost use Rattle.definitions.specs.Steps.{beside, hooked, isNil, marking, topped, climbed, unionParent, closed, unmark, grandMarking, step};
 ghost use Rattle.steps.specs.Decision.{turnOf};
 use super::Decision;
 use super::notes;
 use definitions::Answer;
+use definitions::Content;
 use definitions::Effect;
 use definitions::Kind;
 use definitions::Link;
@@ -52,7 +53,7 @@ pub fn hook(cells: &[u8; 4096], sets: &[u64; 256], used: u16, th: Thread) -> Dec
                 at: at,
                 kind: Kind::Main,
                 parent: parent,
-                container: b.container,
+                content: Content::Of(th.base),
                 main: 0,
             },
         );
@@ -63,7 +64,7 @@ pub fn hook(cells: &[u8; 4096], sets: &[u64; 256], used: u16, th: Thread) -> Dec
 // 20 to 25.
 pub fn approach(cells: &[u8; 4096], sets: &[u64; 256], root: u8, used: u16, th: Thread) -> Decision
     requires { ⌜ (20 ≤ th .place) × (th .place < 26) ⌝ }
-    ensures { λ r. ⌜ turnOf th r ≡ step (placeOf (th .place)) (store (table (now (cells .entry)) (now (sets .entry))) root used) th ⌝ }
+    ensures { λ r. ⌜ turnOf th r ≡ step (placeOf (th .place)) (sight (table (now (cells .entry)) (now (sets .entry))) root used) th ⌝ }
 {
     let place = th.place;
     match place {
@@ -208,9 +209,7 @@ pub fn close(cells: &[u8; 4096], sets: &[u64; 256], used: u16, th: Thread) -> De
         if 255 < used {
             return notes::full(th);
         }
-        let n = nodes::node_at(cells, sets, th.neighbour);
         let parent = union_parent(cells, sets, th);
-        let c = container::united(m.container, n.container);
         return notes::go_writing(
             th,
             40,
@@ -218,7 +217,6 @@ pub fn close(cells: &[u8; 4096], sets: &[u64; 256], used: u16, th: Thread) -> De
                 main: th.main,
                 at: used as u8,
                 parent: parent,
-                container: c,
                 neighbour: th.neighbour,
                 grandparent: grandparent,
                 other: th.other,
@@ -248,7 +246,7 @@ pub fn unmarked(l: Link) -> Effect
 // 30 to 38.
 pub fn prepare(cells: &[u8; 4096], sets: &[u64; 256], root: u8, used: u16, th: Thread) -> Decision
     requires { ⌜ (30 ≤ th .place) × (th .place < 40) ⌝ }
-    ensures { λ r. ⌜ turnOf th r ≡ step (placeOf (th .place)) (store (table (now (cells .entry)) (now (sets .entry))) root used) th ⌝ }
+    ensures { λ r. ⌜ turnOf th r ≡ step (placeOf (th .place)) (sight (table (now (cells .entry)) (now (sets .entry))) root used) th ⌝ }
 {
     let place = th.place;
     match place {

@@ -2,7 +2,7 @@
 ghost use mathlib.Core.Path.{_≡_};
 ghost use Prim.Native.Nat.{_<_, _≤_};
 ghost use Rattle.nodes.specs.Cells.{table};
-ghost use Rattle.definitions.specs.Bench.{store};
+ghost use Rattle.definitions.specs.Bench.{sight};
 ghost use Rattle.definitions.specs.Places.{placeOf};
 ghost use Rattle.definitions.specs.Steps.{step};
 ghost use Rattle.steps.specs.Decision.{turnOf};
@@ -60,7 +60,7 @@ pub fn decide_swap(
     th: Thread,
 ) -> Decision
     requires { ⌜ (10 ≤ th .place) × (th .place < 14) ⌝ }
-    ensures { λ r. ⌜ turnOf th r ≡ step (placeOf (th .place)) (store (table (now (cells .entry)) (now (sets .entry))) root used) th ⌝ }
+    ensures { λ r. ⌜ turnOf th r ≡ step (placeOf (th .place)) (sight (table (now (cells .entry)) (now (sets .entry))) root used) th ⌝ }
 {
     let place = th.place;
     let q = swap::quarter(place - 10);
@@ -76,7 +76,7 @@ pub fn decide_join(
     th: Thread,
 ) -> Decision
     requires { ⌜ 14 ≤ th .place ⌝ }
-    ensures { λ r. ⌜ turnOf th r ≡ step (placeOf (th .place)) (store (table (now (cells .entry)) (now (sets .entry))) root used) th ⌝ }
+    ensures { λ r. ⌜ turnOf th r ≡ step (placeOf (th .place)) (sight (table (now (cells .entry)) (now (sets .entry))) root used) th ⌝ }
 {
     let place = th.place;
     match place {

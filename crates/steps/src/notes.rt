@@ -5,6 +5,8 @@ ghost use mathlib.Core.Bool.{true, false};
 ghost use Rattle.definitions.specs.declared.Link.the-variants.{Nil, To};
 ghost use Rattle.definitions.specs.declared.Turn.the-variants.{Moves, Finishes, Full};
 ghost use Rattle.definitions.specs.Places.{to, toRoute, toBase, toParent, toSide, toFound, toNeighbour, toMain, toGrandparent, toOther};
+ghost use Rattle.container.specs.Choice.{ite};
+ghost use Rattle.definitions.specs.declared.Answer.the-variants.{No, At};
 ghost use Rattle.definitions.specs.Answers.{said};
 ghost use Rattle.definitions.specs.Steps.{goes, says};
 ghost use Rattle.steps.specs.Decision.{turnOf};
@@ -211,11 +213,18 @@ pub fn say(th: Thread, answer: Answer) -> Decision
     }
 }
 
-// The answer of a lookup, an insert or a remove.
+// The answer of an insert or a remove.
 pub fn yes_or_no(yes: bool) -> Answer
     ensures { λ r. ⌜ r ≡ said yes ⌝ }
 {
     if yes { Answer::Yes } else { Answer::No }
+}
+
+// What a lookup says at the base x.
+pub fn found_at(held: bool, x: u8) -> Answer
+    ensures { λ r. ⌜ r ≡ ite held (At x) No ⌝ }
+{
+    if held { Answer::At(x) } else { Answer::No }
 }
 
 // Numbers have run out.

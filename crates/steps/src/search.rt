@@ -2,7 +2,7 @@
 ghost use mathlib.Core.Path.{_≡_};
 ghost use Prim.Native.Nat.{_<_, _≤_};
 ghost use Rattle.nodes.specs.Cells.{table};
-ghost use Rattle.definitions.specs.Bench.{store};
+ghost use Rattle.definitions.specs.Bench.{sight};
 ghost use Rattle.definitions.specs.Places.{placeOf};
 ghost use Rattle.definitions.specs.Steps.{reached, helpBy, blocked, lacks, cleared, lost, step};
 ghost use Rattle.steps.specs.Decision.{turnOf};
@@ -31,7 +31,7 @@ pub fn reach(cells: &[u8; 4096], sets: &[u64; 256], th: Thread, x: u8) -> Decisi
     match action {
         Action::Lookup => {
             let held = container::contains(n.container, th.station);
-            let answer = notes::yes_or_no(held);
+            let answer = notes::found_at(held, x);
             notes::say(th, answer)
         }
         Action::Insert => next,
@@ -129,7 +129,7 @@ pub fn clear(b: Node, th: Thread) -> Decision
 // 1, 2.
 pub fn find(cells: &[u8; 4096], sets: &[u64; 256], root: u8, used: u16, th: Thread) -> Decision
     requires { ⌜ th .place < 3 ⌝ }
-    ensures { λ r. ⌜ turnOf th r ≡ step (placeOf (th .place)) (store (table (now (cells .entry)) (now (sets .entry))) root used) th ⌝ }
+    ensures { λ r. ⌜ turnOf th r ≡ step (placeOf (th .place)) (sight (table (now (cells .entry)) (now (sets .entry))) root used) th ⌝ }
 {
     let place = th.place;
     match place {
@@ -146,7 +146,7 @@ pub fn find(cells: &[u8; 4096], sets: &[u64; 256], root: u8, used: u16, th: Thre
 // 3: is the base replaceable?
 pub fn examine(cells: &[u8; 4096], sets: &[u64; 256], root: u8, used: u16, th: Thread) -> Decision
     requires { ⌜ (3 ≤ th .place) × (th .place < 10) ⌝ }
-    ensures { λ r. ⌜ turnOf th r ≡ step (placeOf (th .place)) (store (table (now (cells .entry)) (now (sets .entry))) root used) th ⌝ }
+    ensures { λ r. ⌜ turnOf th r ≡ step (placeOf (th .place)) (sight (table (now (cells .entry)) (now (sets .entry))) root used) th ⌝ }
 {
     let place = th.place;
     match place {
@@ -170,7 +170,7 @@ pub fn examine(cells: &[u8; 4096], sets: &[u64; 256], root: u8, used: u16, th: T
 // 15, 16.
 pub fn unblock(cells: &[u8; 4096], sets: &[u64; 256], root: u8, used: u16, th: Thread) -> Decision
     requires { ⌜ (14 ≤ th .place) × (th .place < 20) ⌝ }
-    ensures { λ r. ⌜ turnOf th r ≡ step (placeOf (th .place)) (store (table (now (cells .entry)) (now (sets .entry))) root used) th ⌝ }
+    ensures { λ r. ⌜ turnOf th r ≡ step (placeOf (th .place)) (sight (table (now (cells .entry)) (now (sets .entry))) root used) th ⌝ }
 {
     let place = th.place;
     match place {

@@ -2,7 +2,7 @@
 ghost use mathlib.Core.Path.{_≡_};
 ghost use Prim.Native.Nat.{_+_, _<_};
 ghost use Rattle.nodes.specs.Cells.{table};
-ghost use Rattle.definitions.specs.Bench.{store};
+ghost use Rattle.definitions.specs.Bench.{sight};
 ghost use Rattle.definitions.specs.Places.{quarterOf, quarterNumber, swap, own, found, united};
 ghost use Rattle.definitions.specs.Steps.{probe, replaced, step};
 ghost use Rattle.steps.specs.Decision.{turnOf};
@@ -11,6 +11,7 @@ use super::notes;
 use super::search;
 use definitions::Action;
 use definitions::Answer;
+use definitions::Content;
 use definitions::Effect;
 use definitions::Kind;
 use definitions::Link;
@@ -119,7 +120,6 @@ pub fn replace(spot: Spot, b: Node, used: u16, th: Thread) -> Decision
             }
             let held = container::contains(b.container, th.station);
             let answer = notes::yes_or_no(!held);
-            let c = container::with(b.container, th.station);
             notes::say_writing(
                 th,
                 Effect::Base {
@@ -127,7 +127,7 @@ pub fn replace(spot: Spot, b: Node, used: u16, th: Thread) -> Decision
                     at: used as u8,
                     kind: Kind::Normal,
                     parent: parent,
-                    container: c,
+                    content: Content::With(th.base, th.station, th.extra),
                     main: 0,
                 },
                 answer,
@@ -139,7 +139,6 @@ pub fn replace(spot: Spot, b: Node, used: u16, th: Thread) -> Decision
             }
             let held = container::contains(b.container, th.station);
             let answer = notes::yes_or_no(held);
-            let c = container::without(b.container, th.station);
             notes::say_writing(
                 th,
                 Effect::Base {
@@ -147,7 +146,7 @@ pub fn replace(spot: Spot, b: Node, used: u16, th: Thread) -> Decision
                     at: used as u8,
                     kind: Kind::Normal,
                     parent: parent,
-                    container: c,
+                    content: Content::Without(th.base, th.station),
                     main: 0,
                 },
                 answer,
@@ -159,7 +158,6 @@ pub fn replace(spot: Spot, b: Node, used: u16, th: Thread) -> Decision
             }
             let at = used as u8;
             let high = container::upper_half(b.container);
-            let low = container::lower_half(b.container);
             let key = container::lowest(high);
             notes::say_writing(
                 th,
@@ -169,8 +167,7 @@ pub fn replace(spot: Spot, b: Node, used: u16, th: Thread) -> Decision
                     left: at + 1,
                     right: at + 2,
                     key: key,
-                    low: low,
-                    high: high,
+                    base: th.base,
                 },
                 Answer::Yes,
             )
@@ -188,7 +185,7 @@ pub fn own(
     th: Thread,
     q: Quarter,
 ) -> Decision
-    ensures { λ r. ⌜ turnOf th r ≡ step (swap own q) (store (table (now (cells .entry)) (now (sets .entry))) root used) th ⌝ }
+    ensures { λ r. ⌜ turnOf th r ≡ step (swap own q) (sight (table (now (cells .entry)) (now (sets .entry))) root used) th ⌝ }
 {
     let b = nodes::node_at(cells, sets, th.base);
     let parent = b.parent;
@@ -212,7 +209,7 @@ pub fn found(
     th: Thread,
     q: Quarter,
 ) -> Decision
-    ensures { λ r. ⌜ turnOf th r ≡ step (swap found q) (store (table (now (cells .entry)) (now (sets .entry))) root used) th ⌝ }
+    ensures { λ r. ⌜ turnOf th r ≡ step (swap found q) (sight (table (now (cells .entry)) (now (sets .entry))) root used) th ⌝ }
 {
     let b = nodes::node_at(cells, sets, th.found);
     let parent = b.parent;
@@ -232,7 +229,7 @@ pub fn found(
                     at: at,
                     kind: Kind::Neighbour,
                     parent: parent,
-                    container: b.container,
+                    content: Content::Of(th.found),
                     main: th.main,
                 },
             )
@@ -254,7 +251,7 @@ pub fn united(
     th: Thread,
     q: Quarter,
 ) -> Decision
-    ensures { λ r. ⌜ turnOf th r ≡ step (swap united q) (store (table (now (cells .entry)) (now (sets .entry))) root used) th ⌝ }
+    ensures { λ r. ⌜ turnOf th r ≡ step (swap united q) (sight (table (now (cells .entry)) (now (sets .entry))) root used) th ⌝ }
 {
     let m = nodes::node_at(cells, sets, th.main);
     let b = nodes::node_at(cells, sets, m.neighbour);

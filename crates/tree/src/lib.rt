@@ -1,7 +1,8 @@
-// The tree's set and the stored count, by a walk down with levels left.
+// The tree's set and the stored count, by a walk down with levels left; and the depth of a station in it.
 ghost use mathlib.Core.Path.{_≡_};
 ghost use Rattle.nodes.specs.Cells.{table};
-ghost use Rattle.definitions.specs.Tree.{setBelow, storedBelow};
+ghost use Rattle.depths.specs.Rows.{rows, full};
+ghost use Rattle.tree.specs.Below.{setBelow, countBelow, depthUnder};
 
 // The stations below node x, whose range is given.
 pub fn set_below(cells: &[u8; 4096], sets: &[u64; 256], x: u8, range: u64, levels: u8) -> u64
@@ -24,7 +25,7 @@ pub fn set_below(cells: &[u8; 4096], sets: &[u64; 256], x: u8, range: u64, level
 
 // How many stations are below node x, whose range is given: in each base's container, inside the base's range.
 pub fn stored_below(cells: &[u8; 4096], sets: &[u64; 256], x: u8, range: u64, levels: u8) -> u64
-    ensures { λ r. ⌜ r ≡ storedBelow levels (table (now (cells .entry)) (now (sets .entry))) x range ⌝ }
+    ensures { λ r. ⌜ r ≡ countBelow levels (table (now (cells .entry)) (now (sets .entry))) x range ⌝ }
 {
     let n = nodes::node_at(cells, sets, x);
     let kind = n.kind;
@@ -40,4 +41,30 @@ pub fn stored_below(cells: &[u8; 4096], sets: &[u64; 256], x: u8, range: u64, le
         return a + b;
     }
     container::count(inside) as u64
+}
+
+// The depth of station s where it leads to from node x, with at most so many steps down.
+pub fn depth_under(
+    cells: &[u8; 4096],
+    sets: &[u64; 256],
+    depths: &[u16],
+    x: u8,
+    levels: u8,
+    s: u8,
+) -> u16
+    ensures { λ r. ⌜ r ≡ depthUnder levels (full (table (now (cells .entry)) (now (sets .entry))) (rows (now (depths .entry)))) x s ⌝ }
+{
+    let mut y = x;
+    let mut k = levels;
+    while 0 < k {
+        let n = nodes::node_at(cells, sets, y);
+        let kind = n.kind;
+        if nodes::is_route(kind) {
+            y = nodes::child_for(s, n);
+            k -= 1;
+        } else {
+            return depths::depth_at(depths, y, s);
+        }
+    }
+    depths::depth_at(depths, y, s)
 }

@@ -5,15 +5,16 @@ use Prim.Native.String.{String}
 use lib.Count.{onesIn, trailingZeros}
 use Rattle.container.specs.Choice.{ite}
 use Rattle.container.specs.Container.{has, insert, remove, union, cut, below, from, size, least, dropLeast, upperHalf, lowerHalf, splitKey}
+use Rattle.container.specs.Depths.{put, takeOut, merge, within, lower, upper}
 use Rattle.definitions.specs.Nodes.{check, replaceable}
 use Rattle.definitions.specs.Steps.{reached, blocked, lacks, cleared, lost, probe, replaced, beside, step}
 use Rattle.definitions.specs.Records.{taken, stepped, started, recordStep}
-use Rattle.definitions.specs.Schedule.{countOf, fileRefusal}
-use Rattle.definitions.specs.Run.{runRefusal}
+use Rattle.definitions.specs.Schedule.{countOf, recordAt, fileRefusal}
+use Rattle.definitions.specs.Run.{bytesOf, runRefusal}
 use Rattle.definitions.specs.Listing.{decimal, stationsTo, stationsText, routeLine, baseLine, setLine, listRefusal}
-use Rattle.definitions.specs.Printed.{actionWord, firstLine, lastLine, printed}
+use Rattle.definitions.specs.Printed.{actionWord, firstLine, depthText, rowLine, lastLine, printed}
 use Rattle.definitions.proofs.Quick.{quickPrinted, quickPrinted-printed}
-use Rattle.vectors.proofs.Written.{bytesOf, textOf}
+use Rattle.vectors.proofs.Written.{fileOf, textOf}
 
 -- ---- 0000
 
@@ -63,12 +64,12 @@ text0000 =
     ∷ "d 3 used 51;"
     ∷ []
 
-computed0000 : quickPrinted (bytesOf file0000) ≡ textOf text0000
-unfolding decimal stationsTo stationsText routeLine baseLine setLine listRefusal check replaceable actionWord firstLine lastLine taken stepped started recordStep runRefusal countOf fileRefusal reached blocked lacks cleared lost probe replaced beside step ite has insert remove union cut below from size least dropLeast upperHalf lowerHalf splitKey onesIn trailingZeros
+computed0000 : quickPrinted (fileOf file0000) ≡ textOf text0000
+unfolding bytesOf recordAt put takeOut merge within lower upper depthText rowLine decimal stationsTo stationsText routeLine baseLine setLine listRefusal check replaceable actionWord firstLine lastLine taken stepped started recordStep runRefusal countOf fileRefusal reached blocked lacks cleared lost probe replaced beside step ite has insert remove union cut below from size least dropLeast upperHalf lowerHalf splitKey onesIn trailingZeros
 computed0000 = refl
 
-pub printed0000 : printed (bytesOf file0000) ≡ textOf text0000
-printed0000 = sym (quickPrinted-printed (bytesOf file0000)) ∙ computed0000
+pub printed0000 : printed (fileOf file0000) ≡ textOf text0000
+printed0000 = sym (quickPrinted-printed (fileOf file0000)) ∙ computed0000
 
 -- ---- 0001
 
@@ -115,12 +116,12 @@ text0001 =
     ∷ "3 remove 0 no;t3 join 0 no;t2 remove 0 no;0 normal -;set -;stored 0 used 75;"
     ∷ []
 
-computed0001 : quickPrinted (bytesOf file0001) ≡ textOf text0001
-unfolding decimal stationsTo stationsText routeLine baseLine setLine listRefusal check replaceable actionWord firstLine lastLine taken stepped started recordStep runRefusal countOf fileRefusal reached blocked lacks cleared lost probe replaced beside step ite has insert remove union cut below from size least dropLeast upperHalf lowerHalf splitKey onesIn trailingZeros
+computed0001 : quickPrinted (fileOf file0001) ≡ textOf text0001
+unfolding bytesOf recordAt put takeOut merge within lower upper depthText rowLine decimal stationsTo stationsText routeLine baseLine setLine listRefusal check replaceable actionWord firstLine lastLine taken stepped started recordStep runRefusal countOf fileRefusal reached blocked lacks cleared lost probe replaced beside step ite has insert remove union cut below from size least dropLeast upperHalf lowerHalf splitKey onesIn trailingZeros
 computed0001 = refl
 
-pub printed0001 : printed (bytesOf file0001) ≡ textOf text0001
-printed0001 = sym (quickPrinted-printed (bytesOf file0001)) ∙ computed0001
+pub printed0001 : printed (fileOf file0001) ≡ textOf text0001
+printed0001 = sym (quickPrinted-printed (fileOf file0001)) ∙ computed0001
 
 -- ---- 0002
 
@@ -157,12 +158,12 @@ text0002 =
     ∷ "tored 4 used 53;"
     ∷ []
 
-computed0002 : quickPrinted (bytesOf file0002) ≡ textOf text0002
-unfolding decimal stationsTo stationsText routeLine baseLine setLine listRefusal check replaceable actionWord firstLine lastLine taken stepped started recordStep runRefusal countOf fileRefusal reached blocked lacks cleared lost probe replaced beside step ite has insert remove union cut below from size least dropLeast upperHalf lowerHalf splitKey onesIn trailingZeros
+computed0002 : quickPrinted (fileOf file0002) ≡ textOf text0002
+unfolding bytesOf recordAt put takeOut merge within lower upper depthText rowLine decimal stationsTo stationsText routeLine baseLine setLine listRefusal check replaceable actionWord firstLine lastLine taken stepped started recordStep runRefusal countOf fileRefusal reached blocked lacks cleared lost probe replaced beside step ite has insert remove union cut below from size least dropLeast upperHalf lowerHalf splitKey onesIn trailingZeros
 computed0002 = refl
 
-pub printed0002 : printed (bytesOf file0002) ≡ textOf text0002
-printed0002 = sym (quickPrinted-printed (bytesOf file0002)) ∙ computed0002
+pub printed0002 : printed (fileOf file0002) ≡ textOf text0002
+printed0002 = sym (quickPrinted-printed (fileOf file0002)) ∙ computed0002
 
 -- ---- 0003
 
@@ -197,12 +198,12 @@ text0003 =
     ∷ "0 remove 24 no;t2 remove 25 yes;t3 insert 25 yes;0 normal 25;set 25;stored 1 used 49;"
     ∷ []
 
-computed0003 : quickPrinted (bytesOf file0003) ≡ textOf text0003
-unfolding decimal stationsTo stationsText routeLine baseLine setLine listRefusal check replaceable actionWord firstLine lastLine taken stepped started recordStep runRefusal countOf fileRefusal reached blocked lacks cleared lost probe replaced beside step ite has insert remove union cut below from size least dropLeast upperHalf lowerHalf splitKey onesIn trailingZeros
+computed0003 : quickPrinted (fileOf file0003) ≡ textOf text0003
+unfolding bytesOf recordAt put takeOut merge within lower upper depthText rowLine decimal stationsTo stationsText routeLine baseLine setLine listRefusal check replaceable actionWord firstLine lastLine taken stepped started recordStep runRefusal countOf fileRefusal reached blocked lacks cleared lost probe replaced beside step ite has insert remove union cut below from size least dropLeast upperHalf lowerHalf splitKey onesIn trailingZeros
 computed0003 = refl
 
-pub printed0003 : printed (bytesOf file0003) ≡ textOf text0003
-printed0003 = sym (quickPrinted-printed (bytesOf file0003)) ∙ computed0003
+pub printed0003 : printed (fileOf file0003) ≡ textOf text0003
+printed0003 = sym (quickPrinted-printed (fileOf file0003)) ∙ computed0003
 
 -- ---- 0004
 
@@ -243,12 +244,12 @@ text0004 =
     ∷ " split 2 no;0 normal -;set -;stored 0 used 28;"
     ∷ []
 
-computed0004 : quickPrinted (bytesOf file0004) ≡ textOf text0004
-unfolding decimal stationsTo stationsText routeLine baseLine setLine listRefusal check replaceable actionWord firstLine lastLine taken stepped started recordStep runRefusal countOf fileRefusal reached blocked lacks cleared lost probe replaced beside step ite has insert remove union cut below from size least dropLeast upperHalf lowerHalf splitKey onesIn trailingZeros
+computed0004 : quickPrinted (fileOf file0004) ≡ textOf text0004
+unfolding bytesOf recordAt put takeOut merge within lower upper depthText rowLine decimal stationsTo stationsText routeLine baseLine setLine listRefusal check replaceable actionWord firstLine lastLine taken stepped started recordStep runRefusal countOf fileRefusal reached blocked lacks cleared lost probe replaced beside step ite has insert remove union cut below from size least dropLeast upperHalf lowerHalf splitKey onesIn trailingZeros
 computed0004 = refl
 
-pub printed0004 : printed (bytesOf file0004) ≡ textOf text0004
-printed0004 = sym (quickPrinted-printed (bytesOf file0004)) ∙ computed0004
+pub printed0004 : printed (fileOf file0004) ≡ textOf text0004
+printed0004 = sym (quickPrinted-printed (fileOf file0004)) ∙ computed0004
 
 -- ---- 0005
 
@@ -289,9 +290,9 @@ text0005 =
     ∷ " 60 61;set 18 19 20 21 26 31 32 33 34 38 39 40 43 44 45 48 51 53 60 61;stored 20 used 57;"
     ∷ []
 
-computed0005 : quickPrinted (bytesOf file0005) ≡ textOf text0005
-unfolding decimal stationsTo stationsText routeLine baseLine setLine listRefusal check replaceable actionWord firstLine lastLine taken stepped started recordStep runRefusal countOf fileRefusal reached blocked lacks cleared lost probe replaced beside step ite has insert remove union cut below from size least dropLeast upperHalf lowerHalf splitKey onesIn trailingZeros
+computed0005 : quickPrinted (fileOf file0005) ≡ textOf text0005
+unfolding bytesOf recordAt put takeOut merge within lower upper depthText rowLine decimal stationsTo stationsText routeLine baseLine setLine listRefusal check replaceable actionWord firstLine lastLine taken stepped started recordStep runRefusal countOf fileRefusal reached blocked lacks cleared lost probe replaced beside step ite has insert remove union cut below from size least dropLeast upperHalf lowerHalf splitKey onesIn trailingZeros
 computed0005 = refl
 
-pub printed0005 : printed (bytesOf file0005) ≡ textOf text0005
-printed0005 = sym (quickPrinted-printed (bytesOf file0005)) ∙ computed0005
+pub printed0005 : printed (fileOf file0005) ≡ textOf text0005
+printed0005 = sym (quickPrinted-printed (fileOf file0005)) ∙ computed0005

@@ -5,15 +5,16 @@ use Prim.Native.String.{String}
 use lib.Count.{onesIn, trailingZeros}
 use Rattle.container.specs.Choice.{ite}
 use Rattle.container.specs.Container.{has, insert, remove, union, cut, below, from, size, least, dropLeast, upperHalf, lowerHalf, splitKey}
+use Rattle.container.specs.Depths.{put, takeOut, merge, within, lower, upper}
 use Rattle.definitions.specs.Nodes.{check, replaceable}
 use Rattle.definitions.specs.Steps.{reached, blocked, lacks, cleared, lost, probe, replaced, beside, step}
 use Rattle.definitions.specs.Records.{taken, stepped, started, recordStep}
-use Rattle.definitions.specs.Schedule.{countOf, fileRefusal}
-use Rattle.definitions.specs.Run.{runRefusal}
+use Rattle.definitions.specs.Schedule.{countOf, recordAt, fileRefusal}
+use Rattle.definitions.specs.Run.{bytesOf, runRefusal}
 use Rattle.definitions.specs.Listing.{decimal, stationsTo, stationsText, routeLine, baseLine, setLine, listRefusal}
-use Rattle.definitions.specs.Printed.{actionWord, firstLine, lastLine, printed}
+use Rattle.definitions.specs.Printed.{actionWord, firstLine, depthText, rowLine, lastLine, printed}
 use Rattle.definitions.proofs.Quick.{quickPrinted, quickPrinted-printed}
-use Rattle.vectors.proofs.Written.{bytesOf, textOf}
+use Rattle.vectors.proofs.Written.{fileOf, textOf}
 
 -- ---- 0006
 
@@ -63,12 +64,12 @@ text0006 =
     ∷ "lookup 2 yes;0 route 4;1 route 1;2 normal -;2 route 2;3 normal 1;3 normal 2;1 normal -;set 1 2;stored 2 used 33;"
     ∷ []
 
-computed0006 : quickPrinted (bytesOf file0006) ≡ textOf text0006
-unfolding decimal stationsTo stationsText routeLine baseLine setLine listRefusal check replaceable actionWord firstLine lastLine taken stepped started recordStep runRefusal countOf fileRefusal reached blocked lacks cleared lost probe replaced beside step ite has insert remove union cut below from size least dropLeast upperHalf lowerHalf splitKey onesIn trailingZeros
+computed0006 : quickPrinted (fileOf file0006) ≡ textOf text0006
+unfolding bytesOf recordAt put takeOut merge within lower upper depthText rowLine decimal stationsTo stationsText routeLine baseLine setLine listRefusal check replaceable actionWord firstLine lastLine taken stepped started recordStep runRefusal countOf fileRefusal reached blocked lacks cleared lost probe replaced beside step ite has insert remove union cut below from size least dropLeast upperHalf lowerHalf splitKey onesIn trailingZeros
 computed0006 = refl
 
-pub printed0006 : printed (bytesOf file0006) ≡ textOf text0006
-printed0006 = sym (quickPrinted-printed (bytesOf file0006)) ∙ computed0006
+pub printed0006 : printed (fileOf file0006) ≡ textOf text0006
+printed0006 = sym (quickPrinted-printed (fileOf file0006)) ∙ computed0006
 
 -- ---- 0007
 
@@ -92,12 +93,12 @@ text0007 =
     ∷ "5 16 17 18;stored 4 used 19;"
     ∷ []
 
-computed0007 : quickPrinted (bytesOf file0007) ≡ textOf text0007
-unfolding decimal stationsTo stationsText routeLine baseLine setLine listRefusal check replaceable actionWord firstLine lastLine taken stepped started recordStep runRefusal countOf fileRefusal reached blocked lacks cleared lost probe replaced beside step ite has insert remove union cut below from size least dropLeast upperHalf lowerHalf splitKey onesIn trailingZeros
+computed0007 : quickPrinted (fileOf file0007) ≡ textOf text0007
+unfolding bytesOf recordAt put takeOut merge within lower upper depthText rowLine decimal stationsTo stationsText routeLine baseLine setLine listRefusal check replaceable actionWord firstLine lastLine taken stepped started recordStep runRefusal countOf fileRefusal reached blocked lacks cleared lost probe replaced beside step ite has insert remove union cut below from size least dropLeast upperHalf lowerHalf splitKey onesIn trailingZeros
 computed0007 = refl
 
-pub printed0007 : printed (bytesOf file0007) ≡ textOf text0007
-printed0007 = sym (quickPrinted-printed (bytesOf file0007)) ∙ computed0007
+pub printed0007 : printed (fileOf file0007) ≡ textOf text0007
+printed0007 = sym (quickPrinted-printed (fileOf file0007)) ∙ computed0007
 
 -- ---- 0008
 
@@ -142,9 +143,9 @@ text0008 =
     ∷ "46 yes;t0 remove 49 yes;t0 join 45 no;0 normal 45 50;set 45 50;stored 2 used 75;"
     ∷ []
 
-computed0008 : quickPrinted (bytesOf file0008) ≡ textOf text0008
-unfolding decimal stationsTo stationsText routeLine baseLine setLine listRefusal check replaceable actionWord firstLine lastLine taken stepped started recordStep runRefusal countOf fileRefusal reached blocked lacks cleared lost probe replaced beside step ite has insert remove union cut below from size least dropLeast upperHalf lowerHalf splitKey onesIn trailingZeros
+computed0008 : quickPrinted (fileOf file0008) ≡ textOf text0008
+unfolding bytesOf recordAt put takeOut merge within lower upper depthText rowLine decimal stationsTo stationsText routeLine baseLine setLine listRefusal check replaceable actionWord firstLine lastLine taken stepped started recordStep runRefusal countOf fileRefusal reached blocked lacks cleared lost probe replaced beside step ite has insert remove union cut below from size least dropLeast upperHalf lowerHalf splitKey onesIn trailingZeros
 computed0008 = refl
 
-pub printed0008 : printed (bytesOf file0008) ≡ textOf text0008
-printed0008 = sym (quickPrinted-printed (bytesOf file0008)) ∙ computed0008
+pub printed0008 : printed (fileOf file0008) ≡ textOf text0008
+printed0008 = sym (quickPrinted-printed (fileOf file0008)) ∙ computed0008

@@ -5,15 +5,16 @@ use Prim.Native.String.{String}
 use lib.Count.{onesIn, trailingZeros}
 use Rattle.container.specs.Choice.{ite}
 use Rattle.container.specs.Container.{has, insert, remove, union, cut, below, from, size, least, dropLeast, upperHalf, lowerHalf, splitKey}
+use Rattle.container.specs.Depths.{put, takeOut, merge, within, lower, upper}
 use Rattle.definitions.specs.Nodes.{check, replaceable}
 use Rattle.definitions.specs.Steps.{reached, blocked, lacks, cleared, lost, probe, replaced, beside, step}
 use Rattle.definitions.specs.Records.{taken, stepped, started, recordStep}
-use Rattle.definitions.specs.Schedule.{countOf, fileRefusal}
-use Rattle.definitions.specs.Run.{runRefusal}
+use Rattle.definitions.specs.Schedule.{countOf, recordAt, fileRefusal}
+use Rattle.definitions.specs.Run.{bytesOf, runRefusal}
 use Rattle.definitions.specs.Listing.{decimal, stationsTo, stationsText, routeLine, baseLine, setLine, listRefusal}
-use Rattle.definitions.specs.Printed.{actionWord, firstLine, lastLine, printed}
+use Rattle.definitions.specs.Printed.{actionWord, firstLine, depthText, rowLine, lastLine, printed}
 use Rattle.definitions.proofs.Quick.{quickPrinted, quickPrinted-printed}
-use Rattle.vectors.proofs.Written.{bytesOf, textOf}
+use Rattle.vectors.proofs.Written.{fileOf, textOf}
 
 -- ---- 0009
 
@@ -190,12 +191,12 @@ text0009 =
     ∷ " normal 37 39 43;set 1 2 4 5 6 7 11 12 13 14 15 18 27 28 29 32 37 39 43;stored 19 used 256;"
     ∷ []
 
-computed0009 : quickPrinted (bytesOf file0009) ≡ textOf text0009
-unfolding decimal stationsTo stationsText routeLine baseLine setLine listRefusal check replaceable actionWord firstLine lastLine taken stepped started recordStep runRefusal countOf fileRefusal reached blocked lacks cleared lost probe replaced beside step ite has insert remove union cut below from size least dropLeast upperHalf lowerHalf splitKey onesIn trailingZeros
+computed0009 : quickPrinted (fileOf file0009) ≡ textOf text0009
+unfolding bytesOf recordAt put takeOut merge within lower upper depthText rowLine decimal stationsTo stationsText routeLine baseLine setLine listRefusal check replaceable actionWord firstLine lastLine taken stepped started recordStep runRefusal countOf fileRefusal reached blocked lacks cleared lost probe replaced beside step ite has insert remove union cut below from size least dropLeast upperHalf lowerHalf splitKey onesIn trailingZeros
 computed0009 = refl
 
-pub printed0009 : printed (bytesOf file0009) ≡ textOf text0009
-printed0009 = sym (quickPrinted-printed (bytesOf file0009)) ∙ computed0009
+pub printed0009 : printed (fileOf file0009) ≡ textOf text0009
+printed0009 = sym (quickPrinted-printed (fileOf file0009)) ∙ computed0009
 
 -- ---- 0010
 
@@ -237,12 +238,12 @@ text0010 =
     ∷ "18 19 20;set 17 18 19 20;stored 4 used 53;"
     ∷ []
 
-computed0010 : quickPrinted (bytesOf file0010) ≡ textOf text0010
-unfolding decimal stationsTo stationsText routeLine baseLine setLine listRefusal check replaceable actionWord firstLine lastLine taken stepped started recordStep runRefusal countOf fileRefusal reached blocked lacks cleared lost probe replaced beside step ite has insert remove union cut below from size least dropLeast upperHalf lowerHalf splitKey onesIn trailingZeros
+computed0010 : quickPrinted (fileOf file0010) ≡ textOf text0010
+unfolding bytesOf recordAt put takeOut merge within lower upper depthText rowLine decimal stationsTo stationsText routeLine baseLine setLine listRefusal check replaceable actionWord firstLine lastLine taken stepped started recordStep runRefusal countOf fileRefusal reached blocked lacks cleared lost probe replaced beside step ite has insert remove union cut below from size least dropLeast upperHalf lowerHalf splitKey onesIn trailingZeros
 computed0010 = refl
 
-pub printed0010 : printed (bytesOf file0010) ≡ textOf text0010
-printed0010 = sym (quickPrinted-printed (bytesOf file0010)) ∙ computed0010
+pub printed0010 : printed (fileOf file0010) ≡ textOf text0010
+printed0010 = sym (quickPrinted-printed (fileOf file0010)) ∙ computed0010
 
 -- ---- 0011
 
@@ -277,55 +278,9 @@ text0011 =
     ∷ "2 normal 45;set 23 30 34 45;stored 4 used 36;"
     ∷ []
 
-computed0011 : quickPrinted (bytesOf file0011) ≡ textOf text0011
-unfolding decimal stationsTo stationsText routeLine baseLine setLine listRefusal check replaceable actionWord firstLine lastLine taken stepped started recordStep runRefusal countOf fileRefusal reached blocked lacks cleared lost probe replaced beside step ite has insert remove union cut below from size least dropLeast upperHalf lowerHalf splitKey onesIn trailingZeros
+computed0011 : quickPrinted (fileOf file0011) ≡ textOf text0011
+unfolding bytesOf recordAt put takeOut merge within lower upper depthText rowLine decimal stationsTo stationsText routeLine baseLine setLine listRefusal check replaceable actionWord firstLine lastLine taken stepped started recordStep runRefusal countOf fileRefusal reached blocked lacks cleared lost probe replaced beside step ite has insert remove union cut below from size least dropLeast upperHalf lowerHalf splitKey onesIn trailingZeros
 computed0011 = refl
 
-pub printed0011 : printed (bytesOf file0011) ≡ textOf text0011
-printed0011 = sym (quickPrinted-printed (bytesOf file0011)) ∙ computed0011
-
--- ---- 0012
-
-abbrev file0012 : List String
-file0012 =
-    "01020821001209100010001000120a2000210820002202200020002000240b2000340c30003000300032083000200020002309200020002000200020"
-    ∷ "002000220d200020002000200020002000240b0207000000000000000000000201000000002000200020002201200020002000100010001000100030"
-    ∷ "0020002000210010001000130b1000100010001000000000000000000000000000000000000000030c00000000300030003000300030003000000000"
-    ∷ "000000000002050000000000001000100010001000100010001000100011041000100013081000100010001000100012083000300020002000220320"
-    ∷ "002000200020003000300030003000300030003000320530003000300030003000340530003000300030003000320530003000300010001000000000"
-    ∷ "00000010001000100010001000140230003000300030003000300030003000300030003000310520002000200020002000200020002000230d200020"
-    ∷ "002000200020002000210c200020002309300030003000310b1000100010001000100010001204100010001000100010001000100010001305100010"
-    ∷ "001000100020002000100010001000110910001000120510003000300033073000300030003000300030003000310120001000100010001000100010"
-    ∷ "001402100010001000100010001000100030003000300030003304300030000000000000000000000020002000200021071000110910001000130310"
-    ∷ "001000100010001000100010001000100011051000100010001305100010001000100010002000000000000206000020002000000000003000300030"
-    ∷ "0030002302200020002000200010001000100010001000300030001000100010001000140a100010001000120b100030000000000000000000000031"
-    ∷ "0230003000300030003000330c300030003000300030003000310c300000003000330430003000300030003000300010003000300030003308300010"
-    ∷ "001000100010001305100010001000100010001000100014081000100010001000110520002000100010001000120210002000300030002000220320"
-    ∷ "002000200020002000200020002000200023072000200020002000000000000000100010001000100010001000100013041000100010001000100000"
-    ∷ "000000030d100010001000100012071000100020002000000000000000000000000000010c00000000010a2000200020002000200020002000200021"
-    ∷ "0d3000300030003000300030003000300000002000200021022000300030003000320810001000100010000000200020002000200021072000200020"
-    ∷ "002200200002090000000000003000300030003000300030003000330c30001000100010002000200000000000000002030000000000000000000020"
-    ∷ "0030003000300030003000340000000000000030001000"
-    ∷ []
-
-abbrev text0012 : List String
-text0012 =
-    "records 520 of 520 refusal 0;t1 insert 9 yes;t2 lookup 0 no;t2 lookup 8 no;t2 insert 2 yes;t3 split 12 yes;t2 split 11 n"
-    ∷ "o;t2 remove 9 yes;t2 insert 13 yes;t0 insert 7 yes;t2 split 11 no;t2 insert 1 yes;t1 insert 10 yes;t0 insert 1 no;t0 rem"
-    ∷ "ove 12 no;t1 remove 11 no;t1 lookup 4 no;t1 remove 8 no;t2 lookup 0 no;t3 insert 8 yes;t3 insert 5 yes;t3 split 5 yes;t1"
-    ∷ " insert 8 no;t3 insert 5 no;t2 insert 3 yes;t2 remove 13 yes;t2 lookup 12 no;t3 lookup 5 yes;t1 split 2 yes;t1 insert 4 "
-    ∷ "yes;t1 remove 5 yes;t1 lookup 9 no;t3 lookup 11 no;t3 remove 7 yes;t1 insert 5 yes;t3 lookup 1 yes;t2 remove 9 no;t1 spl"
-    ∷ "it 2 yes;t1 lookup 9 no;t1 remove 3 yes;t1 lookup 5 yes;t0 insert 5 no;t2 lookup 7 no;t1 remove 5 yes;t1 split 10 no;t3 "
-    ∷ "remove 4 yes;t3 lookup 2 yes;t3 remove 12 no;t3 lookup 12 no;t3 remove 4 no;t1 insert 11 yes;t1 remove 5 no;t1 split 8 n"
-    ∷ "o;t1 lookup 5 no;t2 remove 2 yes;t2 insert 3 yes;t1 insert 2 yes;t0 insert 6 yes;t1 remove 4 no;t0 remove 13 no;t0 looku"
-    ∷ "p 12 no;t2 remove 7 no;t2 lookup 13 no;t3 remove 8 yes;t0 lookup 10 yes;t2 lookup 2 yes;t2 lookup 7 no;t3 insert 8 yes;t"
-    ∷ "0 insert 9 yes;t3 remove 12 no;0 route 9;1 route 5;2 route 2;3 normal 1;3 route 3;4 normal 2;4 normal 3;2 normal 6 8;1 n"
-    ∷ "ormal 9 10 11;set 1 2 3 6 8 9 10 11;stored 8 used 54;"
-    ∷ []
-
-computed0012 : quickPrinted (bytesOf file0012) ≡ textOf text0012
-unfolding decimal stationsTo stationsText routeLine baseLine setLine listRefusal check replaceable actionWord firstLine lastLine taken stepped started recordStep runRefusal countOf fileRefusal reached blocked lacks cleared lost probe replaced beside step ite has insert remove union cut below from size least dropLeast upperHalf lowerHalf splitKey onesIn trailingZeros
-computed0012 = refl
-
-pub printed0012 : printed (bytesOf file0012) ≡ textOf text0012
-printed0012 = sym (quickPrinted-printed (bytesOf file0012)) ∙ computed0012
+pub printed0011 : printed (fileOf file0011) ≡ textOf text0011
+printed0011 = sym (quickPrinted-printed (fileOf file0011)) ∙ computed0011

@@ -16,9 +16,9 @@ onto over more = more
 onto (h then over) more = more
 onto (h then (l then s)) more = (16 * digit (code h) + digit (code l)) ∷ onto s more
 
-abbrev pub bytesOf : List String → List ℕ
-bytesOf [] = []
-bytesOf (s ∷ ss) = onto s (bytesOf ss)
+abbrev pub fileOf : List String → List ℕ
+fileOf [] = []
+fileOf (s ∷ ss) = onto s (fileOf ss)
 
 -- a semicolon is the end of a line
 abbrev letter : ℕ → ℕ

@@ -3,7 +3,7 @@ ghost use mathlib.Core.Path.{_≡_};
 
 // How many there are.
 pub fn count() -> u64
-    ensures { λ r. ⌜ r ≡ 60 ⌝ }
+    ensures { λ r. ⌜ r ≡ 85 ⌝ }
 {
-    60
+    85
 }

@@ -1,17 +1,20 @@
-//! The paper's answers rule, checked of the reference: the plain set against rows and tree at every moment; the
-//! stored rule: the stored count is the size of the plain set; and the reasons rule: what splits and joins answer
-//! is held to the places and to whether they made their change.
+//! The paper's answers rule, checked of the reference: the plain table of depths against rows and tree at every
+//! moment, for both versions (version 1 puts depth 0); the stored rule: the stored count is the number of stations in
+//! the plain table; and the reasons rule: what splits and joins answer is held to the places and to whether they made
+//! their change.
 
-use reference::{Bench, Row, INSERT, JOIN, LOOKUP, REMOVE, SPLIT, STEP, THREADS};
+use crate::ways::Ways;
+use reference::{sizes, Bench, Row, Rows, INSERT, JOIN, LOOKUP, REMOVE, SPLIT, STEP, THREADS};
 
-/// What the plain set knows of a thread's open operation.
-#[derive(Clone, Copy, Default)]
+/// What the plain table knows of a thread's open operation.
+#[derive(Clone, Default)]
 struct Open {
     action: u8,
     station: u8,
+    depth: u16,
     stepped: bool,
-    seen_in: bool,
-    seen_out: bool,
+    /// What the table said of the station at the moments of its span.
+    seen: Vec<Option<u16>>,
     /// A split's swap has succeeded, or the stage of a join's main has become a node number.
     made: bool,
 }
@@ -24,9 +27,27 @@ struct Seen {
     used: usize,
 }
 
-#[derive(Default)]
+/// A record: its first two bytes, and what the last two say, 0 in version 1.
+#[derive(Clone, Copy)]
+pub struct Record {
+    pub first: u8,
+    pub second: u8,
+    pub extra: u16,
+}
+
+impl Record {
+    pub fn thread(self) -> usize {
+        usize::from(self.first >> 4)
+    }
+
+    pub fn action(self) -> u8 {
+        self.first & 15
+    }
+}
+
 struct Plain {
-    set: u64,
+    /// The depth of each station that is in.
+    table: [Option<u16>; 64],
     open: [Option<Open>; THREADS],
 }
 
@@ -34,40 +55,38 @@ impl Plain {
     /// Feeds an accepted record and the row it added.
     fn accept(
         &mut self,
-        first: u8,
-        second: u8,
-        row: Option<Row>,
+        record: Record,
+        row: Option<(Row, u16)>,
         seen: Seen,
+        ways: &mut Ways,
     ) -> Result<(), String> {
-        let thread = usize::from(first >> 4);
-        let action = first & 15;
-        if action != STEP {
+        let thread = record.thread();
+        if record.action() != STEP {
             self.open[thread] = Some(Open {
-                action,
-                station: second,
+                action: record.action(),
+                station: record.second,
+                depth: record.extra,
                 ..Open::default()
             });
             return Ok(());
         }
-        let mut open = self.open[thread].ok_or("a step of a closed operation")?;
+        let open = self.open[thread].as_mut().ok_or("a step of a closed operation")?;
         open.stepped = true;
         open.made |= match open.action {
             SPLIT => seen.used > 0,
             JOIN => (seen.place, seen.next) == (35, 40),
             _ => false,
         };
-        self.open[thread] = Some(open);
-        let Some([by, action, station, answer]) = row else {
+        let Some(([by, action, station, answer], depth)) = row else {
             return Ok(());
         };
         if (usize::from(by), action, station) != (thread, open.action, open.station) {
             return Err(format!("the row {row:?} is not of the open operation"));
         }
-        let bit = 1 << station;
-        let was_in = self.set & bit != 0;
+        let was = self.table[usize::from(station)];
         match action {
-            INSERT => self.set |= bit,
-            REMOVE => self.set &= !bit,
+            INSERT => self.table[usize::from(station)] = Some(open.depth),
+            REMOVE => self.table[usize::from(station)] = None,
             _ => {}
         }
         self.moment();
@@ -75,27 +94,41 @@ impl Plain {
             .take()
             .ok_or("the operation closed itself")?;
         let holds = match (action, answer) {
-            (INSERT, 0 | 1) => (answer == 1) != was_in,
-            (REMOVE, 0 | 1) => (answer == 1) == was_in,
-            (LOOKUP, 1) => open.seen_in,
-            (LOOKUP, 0) => open.seen_out,
-            (SPLIT | JOIN, 1) => open.made,
-            (SPLIT | JOIN, _) => !open.made && is_reason(action, answer, seen.place),
+            (INSERT, 0 | 1) => depth == 0 && (answer == 1) != was.is_some(),
+            (REMOVE, 0 | 1) => depth == 0 && (answer == 1) == was.is_some(),
+            (LOOKUP, 1) => open.seen.contains(&Some(depth)),
+            (LOOKUP, 0) => depth == 0 && open.seen.contains(&None),
+            (SPLIT | JOIN, 1) => depth == 0 && open.made,
+            (SPLIT | JOIN, _) => depth == 0 && !open.made && is_reason(action, answer, seen.place),
             _ => false,
         };
+        match (action, answer) {
+            (LOOKUP, 1) => ways.found(depth, self.table[usize::from(station)]),
+            (INSERT, _) => ways.inserted(was, open.depth),
+            _ => {}
+        }
         holds
             .then_some(())
             .ok_or_else(|| format!("the answer of {row:?} breaks the rule"))
     }
 
-    /// Notes for every operation under way whether its station is in now.
+    /// Notes for every lookup under way what is said of its station now.
     fn moment(&mut self) {
-        let set = self.set;
-        for open in self.open.iter_mut().flatten().filter(|open| open.stepped) {
-            let is_in = set >> open.station & 1 == 1;
-            open.seen_in |= is_in;
-            open.seen_out |= !is_in;
+        let table = &self.table;
+        let lookups = self.open.iter_mut().flatten();
+        for open in lookups.filter(|open| open.stepped && open.action == LOOKUP) {
+            let now = table[usize::from(open.station)];
+            if open.seen.last() != Some(&now) {
+                open.seen.push(now);
+            }
         }
+    }
+
+    fn depths(&self) -> usize {
+        let mut depths: Vec<u16> = self.table.iter().flatten().copied().collect();
+        depths.sort_unstable();
+        depths.dedup();
+        depths.len()
     }
 }
 
@@ -111,37 +144,58 @@ fn is_reason(action: u8, answer: u8, place: u8) -> bool {
     }
 }
 
-/// Checks a schedule's records, without its header.
-pub fn check(records: &[u8]) -> Result<(), String> {
-    let mut bench = Bench::new();
-    let mut plain = Plain::default();
-    for (index, record) in records.chunks_exact(2).enumerate() {
-        let thread = usize::from(record[0] >> 4).min(THREADS - 1);
+/// Checks a schedule's records, whatever its header.
+pub fn check(file: &[u8], ways: &mut Ways) -> Result<(), String> {
+    let version = file.first().copied().unwrap_or(1);
+    ways.header(file);
+    let mut bench = Bench::<Rows>::new();
+    let mut plain = Plain {
+        table: [None; 64],
+        open: Default::default(),
+    };
+    let records = file.get(3..).unwrap_or(&[]).chunks_exact(sizes(version)[0]);
+    for (index, bytes) in records.enumerate() {
+        let record = Record {
+            first: bytes[0],
+            second: bytes[1],
+            extra: bytes.get(2..4).map_or(0, |last| u16::from_be_bytes([last[0], last[1]])),
+        };
+        let thread = record.thread().min(THREADS - 1);
         let (place, used) = (bench.place(thread), bench.used());
-        let result = bench.record(record[0], record[1]);
-        if let Ok(row) = result {
-            let seen = Seen {
-                place,
-                next: bench.place(thread),
-                used: bench.used() - used,
-            };
-            plain
-                .accept(record[0], record[1], row, seen)
-                .map_err(|why| format!("record {index}: {why}"))?;
-            plain.moment();
+        ways.places(&bench);
+        let result = bench.record(record.first, record.second, record.extra);
+        match result {
+            Ok(row) => {
+                let row = row.map(|row| (row, bench.depth(row)));
+                let seen = Seen {
+                    place,
+                    next: bench.place(thread),
+                    used: bench.used() - used,
+                };
+                plain
+                    .accept(record, row, seen, ways)
+                    .map_err(|why| format!("record {index}: {why}"))?;
+                plain.moment();
+                if seen.used == 3 || (place, seen.next) == (35, 40) {
+                    ways.carried(seen.used == 3, plain.depths());
+                }
+            }
+            Err(number) => ways.refused(number, record, place > 0),
         }
-        if bench.set() != plain.set {
-            return Err(format!(
-                "record {index}: the tree has {:#x}, the plain set {:#x}",
-                bench.set(),
-                plain.set
-            ));
+        let (set, depths) = bench.held();
+        for (station, &expected) in plain.table.iter().enumerate() {
+            let held = (set >> station & 1 == 1).then_some(depths[station]);
+            if held != expected {
+                return Err(format!(
+                    "record {index}: of station {station} the tree says {held:?}, the plain table {expected:?}"
+                ));
+            }
         }
-        if bench.stored() != u64::from(plain.set.count_ones()) {
+        if bench.stored() != plain.table.iter().flatten().count() as u64 {
             return Err(format!(
                 "record {index}: stored {}, and {} stations are in",
                 bench.stored(),
-                plain.set.count_ones()
+                plain.table.iter().flatten().count()
             ));
         }
         if result.is_err() {

@@ -3,8 +3,9 @@
 use crate::guard::Guarded;
 use crate::library;
 use crate::rng::Rng;
-use reference::{Counter, Observer, EVENT, HISTORY_HEADER, LIST_BUFFER, MAX_RECORDS};
+use reference::{sizes, Counter, Observer, EVENT, HISTORY_HEADER, MAX_RECORDS};
 use std::fmt::Debug;
+use std::ops::Range;
 
 /// The most a buffer is longer than it need be.
 const SLACK: usize = 300;
@@ -14,8 +15,8 @@ pub struct Comparer {
     file: Guarded,
     buffer: Guarded,
     twin: Vec<u8>,
-    /// What the reference reached.
-    pub counter: Counter,
+    /// What the reference reached, in files of version 2 and in all others.
+    pub counters: [Counter; 2],
     /// Records carried out, each file counted once.
     pub records: u64,
 }
@@ -25,27 +26,28 @@ impl Comparer {
     pub fn new(longest: usize) -> Self {
         Comparer {
             file: Guarded::new(longest),
-            buffer: Guarded::new(HISTORY_HEADER + EVENT * MAX_RECORDS + SLACK),
+            buffer: Guarded::new(sizes(2)[2] * MAX_RECORDS + SLACK),
             twin: Vec::new(),
-            counter: Counter::new(),
+            counters: [Counter::new(), Counter::new()],
             records: 0,
         }
     }
 
     /// Compares Run, List and History on a file, with buffers of several lengths; the first difference ends it.
     pub fn file(&mut self, file: &[u8], rng: &mut Rng) -> Result<(), String> {
-        let need = 2 * claimed(file);
+        let [_, _, room, text] = sizes(file.first().copied().unwrap_or(0));
+        let need = room * claimed(file);
         self.run(file, need, rng, true)?;
         self.run(file, need + 1 + rng.below(SLACK), rng, false)?;
         if need > 0 {
             self.run(file, need - 1, rng, false)?;
             self.run(file, rng.below(need), rng, false)?;
         }
-        self.list(file, LIST_BUFFER, rng)?;
-        self.list(file, LIST_BUFFER + 1 + rng.below(SLACK), rng)?;
-        self.list(file, LIST_BUFFER - 1, rng)?;
-        self.list(file, rng.below(LIST_BUFFER), rng)?;
-        let need = HISTORY_HEADER + 2 * need;
+        self.list(file, text, rng)?;
+        self.list(file, text + 1 + rng.below(SLACK), rng)?;
+        self.list(file, text - 1, rng)?;
+        self.list(file, rng.below(text), rng)?;
+        let need = HISTORY_HEADER + EVENT * claimed(file);
         self.history(file, need, rng)?;
         self.history(file, need + 1 + rng.below(SLACK), rng)?;
         self.history(file, need - 1, rng)?;
@@ -55,7 +57,7 @@ impl Comparer {
     fn run(&mut self, file: &[u8], room: usize, rng: &mut Rng, counts: bool) -> Result<(), String> {
         let mut ignored = Counter::new();
         let counter = if counts {
-            &mut self.counter
+            &mut self.counters[version_index(file)]
         } else {
             &mut ignored
         };
@@ -67,13 +69,13 @@ impl Comparer {
             room,
             rng,
         );
-        let expected = reference::run_observed(file, &mut self.twin[place.buffer.clone()], counter);
+        let expected = reference::run_observed(file, &mut self.twin[place.twin.clone()], counter);
         let lent = &mut self.buffer.bytes_mut()[place.buffer.clone()];
         let got = library::run(&self.file.bytes()[place.file.clone()], lent);
         if counts {
             self.records += expected.records;
         } else if expected.refusal == 5 {
-            self.counter.refusal(5, 0);
+            self.counters[version_index(file)].refusal(5, 0);
         }
         self.judge("Run", room, file, place, (got, expected))
     }
@@ -87,11 +89,11 @@ impl Comparer {
             room,
             rng,
         );
-        let expected = reference::list(file, &mut self.twin[place.buffer.clone()]);
+        let expected = reference::list(file, &mut self.twin[place.twin.clone()]);
         let lent = &mut self.buffer.bytes_mut()[place.buffer.clone()];
         let got = library::list(&self.file.bytes()[place.file.clone()], lent);
         if expected.refusal == 6 {
-            self.counter.refusal(6, 0);
+            self.counters[version_index(file)].refusal(6, 0);
         }
         self.judge("List", room, file, place, (got, expected))
     }
@@ -105,7 +107,7 @@ impl Comparer {
             room,
             rng,
         );
-        let expected = reference::history(file, &mut self.twin[place.buffer.clone()]);
+        let expected = reference::history(file, &mut self.twin[place.twin.clone()]);
         let lent = &mut self.buffer.bytes_mut()[place.buffer.clone()];
         let got = library::history(&self.file.bytes()[place.file.clone()], lent);
         self.judge("History", room, file, place, (got, expected))
@@ -124,12 +126,12 @@ impl Comparer {
                 "{name} with {room} bytes gives {got:?}, not {expected:?}"
             ));
         }
-        let bytes = self.buffer.bytes();
+        let bytes = &self.buffer.bytes()[place.seen.clone()];
         if bytes != self.twin {
             let at = (0..bytes.len())
                 .find(|&i| bytes[i] != self.twin[i])
                 .expect("they differ");
-            let offset = at as isize - place.buffer.start as isize;
+            let offset = at as isize - place.twin.start as isize;
             let (got, expected) = (bytes[at], self.twin[at]);
             return Err(format!(
                 "{name} with {room} bytes: byte {offset} is {got}, not {expected}"
@@ -142,13 +144,16 @@ impl Comparer {
     }
 }
 
-/// Where the file and the buffer were lent.
+/// Where the file and the buffer were lent, the bytes looked at, which are some more than the buffer's, and where the
+/// buffer lies in their twin.
 struct Place {
-    file: std::ops::Range<usize>,
-    buffer: std::ops::Range<usize>,
+    file: Range<usize>,
+    buffer: Range<usize>,
+    seen: Range<usize>,
+    twin: Range<usize>,
 }
 
-/// Copies the file in, and fills the buffer's whole memory and its twin with one random pattern.
+/// Copies the file in, and fills the buffer, what lies beside it and the twin with one random pattern.
 fn prepare(
     memory: &mut Guarded,
     buffer: &mut Guarded,
@@ -158,18 +163,25 @@ fn prepare(
     rng: &mut Rng,
 ) -> Place {
     let at_start = rng.once_in(2);
+    let lent = buffer.place(room, at_start);
+    let seen = buffer.place((room + SLACK).min(buffer.bytes().len()), at_start);
     let place = Place {
         file: memory.place(file.len(), at_start),
-        buffer: buffer.place(room, at_start),
+        twin: lent.start - seen.start..lent.end - seen.start,
+        buffer: lent,
+        seen,
     };
     memory.bytes_mut()[place.file.clone()].copy_from_slice(file);
     let (first, stride) = (rng.byte(), rng.byte() | 1);
     twin.clear();
-    twin.extend(
-        (0..buffer.bytes().len()).map(|i| first.wrapping_add((i as u8).wrapping_mul(stride))),
-    );
-    buffer.bytes_mut().copy_from_slice(twin);
+    twin.extend((0..place.seen.len()).map(|i| first.wrapping_add((i as u8).wrapping_mul(stride))));
+    buffer.bytes_mut()[place.seen.clone()].copy_from_slice(twin);
     place
+}
+
+/// Where what a file reaches is counted.
+pub fn version_index(file: &[u8]) -> usize {
+    usize::from(file.first() == Some(&2))
 }
 
 /// The count that the header states, as far as there is a header, and no more than a file may hold.

@@ -55,15 +55,19 @@ const TURNS: [(u8, u8, &str); 24] = [
     (51, 1, "a helper ends the join"),
 ];
 
-/// Prints the table; hands back what was never reached.
-pub fn report(counter: &Counter) -> Vec<String> {
+/// Refusals that a version's files cannot get: depths come with version 2, and a file of version 2 has no other.
+const NEVER: [&[u8]; 2] = [&[14], &[2]];
+
+/// Prints the table of version 1 (0) or 2 (1); hands back what was never reached.
+pub fn report(index: usize, counter: &Counter) -> Vec<String> {
     let mut missing = Vec::new();
     let mut need = |count: u64, what: String| {
         if count == 0 {
-            missing.push(what);
+            missing.push(format!("version {}: {what}", index + 1));
         }
         count
     };
+    println!("version {}", index + 1);
     println!("place      reached  led to (0: finished)");
     for place in PLACES {
         let turns: Vec<String> = (0..PLACE_LIMIT as u8)
@@ -105,7 +109,7 @@ pub fn report(counter: &Counter) -> Vec<String> {
         }
     }
     println!("refusal    reached");
-    for number in 1..REFUSALS as u8 {
+    for number in (1..REFUSALS as u8).filter(|number| !NEVER[index].contains(number)) {
         println!(
             "{number:7} {:10}",
             need(counter.refusals(number), format!("refusal {number}"))

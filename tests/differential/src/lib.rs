@@ -11,3 +11,4 @@ pub mod plan;
 pub mod random;
 pub mod rng;
 pub mod systematic;
+pub mod ways;

@@ -1,14 +1,16 @@
 //! Compares the library with the reference and prints what was covered.
 //!
-//! `differential [--files N] [--records N] [--seed S] [--trace] [--write PATH]`: the systematic files, then
-//! random ones until there are N files and N records carried out; then pairs of files to merge, N of them at
-//! random, and histories. `--trace` names each file before it is run;
-//! `--write` puts them all into one file, each after its length in four bytes, the low one first.
+//! `differential [--files N] [--records N] [--seed S] [--first] [--trace] [--write PATH]`: pairs of files to merge, N
+//! of them at random, and histories; then the systematic files of both versions, then random ones until there are N
+//! files and N records carried out. `--first` ends at the first difference and looks for nothing else: no rule is
+//! checked of the reference. `--trace` names each file before it is run; `--write` puts them all into one file, each
+//! after its length in four bytes, the low one first.
 
 use differential::compare::Comparer;
 use differential::histories::Histories;
 use differential::merges::Merger;
 use differential::rng::Rng;
+use differential::ways::Ways;
 use differential::{answers, coverage, random, systematic};
 use std::fs::File;
 use std::io::{BufWriter, Write};
@@ -23,6 +25,7 @@ struct Options {
     files: u64,
     records: u64,
     seed: u64,
+    first: bool,
     trace: bool,
     write: Option<String>,
 }
@@ -32,6 +35,7 @@ fn options() -> Result<Options, String> {
         files: DEFAULT_FILES,
         records: 0,
         seed: DEFAULT_SEED,
+        first: false,
         trace: false,
         write: None,
     };
@@ -49,6 +53,7 @@ fn options() -> Result<Options, String> {
             "--files" => options.files = number()?,
             "--records" => options.records = number()?,
             "--seed" => options.seed = number()?,
+            "--first" => options.first = true,
             "--trace" => options.trace = true,
             _ => return Err(format!("unknown word {word}")),
         }
@@ -58,8 +63,10 @@ fn options() -> Result<Options, String> {
 
 struct Session {
     comparer: Comparer,
+    ways: Ways,
     histories: Histories,
     rng: Rng,
+    first: bool,
     trace: bool,
     written: Option<BufWriter<File>>,
     passed: u64,
@@ -80,15 +87,33 @@ impl Session {
             let put = out.write_all(&length).and_then(|()| out.write_all(file));
             put.expect("the files cannot be written");
         }
-        self.histories.run_of(file, &mut self.rng);
-        let rule = answers::check(file.get(3..).unwrap_or(&[]));
+        let mut rule = Ok(());
+        if !self.first {
+            self.histories.run_of(file, &mut self.rng);
+            rule = answers::check(file, &mut self.ways);
+        }
         match rule.and_then(|()| self.comparer.file(file, &mut self.rng)) {
             Ok(()) => self.passed += 1,
             Err(why) => {
                 self.failed += 1;
                 println!("FAILED: file {number} ({name}): {why}");
+                self.end_at_first();
                 self.keep(number, file);
             }
+        }
+    }
+
+    fn tell_histories(&self) {
+        for why in self.histories.failures.iter().take(MOST_FAILURES as usize) {
+            println!("FAILED: file of a history: {why}");
+            self.end_at_first();
+        }
+    }
+
+    /// With `--first` one difference is enough.
+    fn end_at_first(&self) {
+        if self.first {
+            std::process::exit(1);
         }
     }
 
@@ -113,8 +138,10 @@ fn main() -> ExitCode {
     };
     let mut session = Session {
         comparer: Comparer::new(random::LONGEST_FILE),
+        ways: Ways::default(),
         histories: Histories::new(),
         rng: Rng::new(!options.seed),
+        first: options.first,
         trace: options.trace,
         written: options
             .write
@@ -122,17 +149,7 @@ fn main() -> ExitCode {
         passed: 0,
         failed: 0,
     };
-    systematic::each(&mut |name, file| session.file(name, &file));
-    let systematic = session.passed + session.failed;
     let mut rng = Rng::new(options.seed);
-    let mut files = 0;
-    while (files < options.files || session.comparer.records < options.records)
-        && session.failed < MOST_FAILURES
-    {
-        let (name, file) = random::file(&mut rng);
-        session.file(name, &file);
-        files += 1;
-    }
     let mut merger = Merger::default();
     let mut merges = merger.systematic(&mut rng);
     for _ in 0..options.files {
@@ -143,6 +160,7 @@ fn main() -> ExitCode {
         Err(why) => {
             session.failed += 1;
             println!("FAILED: file pair {}: {why}", merger.pairs);
+            session.end_at_first();
         }
     }
     println!("{} pairs of files merged or refused", merger.pairs);
@@ -152,10 +170,39 @@ fn main() -> ExitCode {
         let schedule = random::short(&mut rng);
         session.histories.run_of(&schedule, &mut session.rng);
     }
-    for why in session.histories.failures.iter().take(MOST_FAILURES as usize) {
-        println!("FAILED: file of a history: {why}");
+    if options.first {
+        session.tell_histories();
     }
-    let mut missing = coverage::report(&session.comparer.counter);
+    if options.first {
+        // a few of all kinds find most differences
+        let mut number = 0;
+        for version in [2, 1] {
+            systematic::each(version, &mut |name, file| {
+                number += 1;
+                if name == "fault" || number % 37 == 0 {
+                    session.file(name, &file);
+                }
+            });
+        }
+    }
+    let merged = session.passed + session.failed;
+    for version in [1, 2] {
+        systematic::each(version, &mut |name, file| session.file(name, &file));
+    }
+    let systematic = session.passed + session.failed - merged;
+    let mut files = 0;
+    while (files < options.files || session.comparer.records < options.records)
+        && session.failed < MOST_FAILURES
+    {
+        let (name, file) = random::file(&mut rng);
+        session.file(name, &file);
+        files += 1;
+    }
+    session.tell_histories();
+    let mut missing = session.ways.report();
+    for (index, counter) in session.comparer.counters.iter().enumerate() {
+        missing.extend(coverage::report(index, counter));
+    }
     missing.extend(merger.missing());
     missing.extend(session.histories.report());
     for what in &missing {

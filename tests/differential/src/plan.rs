@@ -1,27 +1,31 @@
-//! A schedule under construction, carried out on a reference bench as it grows.
+//! A schedule under construction, of either version, carried out on a reference bench as it grows.
 
-use reference::{Bench, CAPACITY, MAX_RECORDS, STEP};
+use reference::{sizes, Bench, Rows, CAPACITY, DEEPEST, INSERT, MAX_RECORDS, STEP};
 
 /// No operation alone takes more steps than this: 63 routes down and up, and the places around them.
 const LONGEST_ALONE: usize = 400;
 
 pub struct Plan {
+    version: u8,
     records: Vec<u8>,
-    bench: Bench,
+    bench: Bench<Rows>,
+    inserts: u16,
     refused: bool,
 }
 
 impl Plan {
-    pub fn new() -> Self {
+    pub fn new(version: u8) -> Self {
         Plan {
+            version,
             records: Vec::new(),
             bench: Bench::new(),
+            inserts: 0,
             refused: false,
         }
     }
 
     pub fn count(&self) -> usize {
-        self.records.len() / 2
+        self.records.len() / sizes(self.version)[0]
     }
 
     /// Nothing more can be added or carried out.
@@ -42,23 +46,37 @@ impl Plan {
         CAPACITY - self.bench.used()
     }
 
-    /// Adds a record as it is, unless the file is full.
-    pub fn record(&mut self, first: u8, second: u8) {
+    /// Adds a record as it is, unless the file is full; version 1 leaves the last two bytes out.
+    pub fn record(&mut self, first: u8, second: u8, extra: u16) {
         if self.count() == MAX_RECORDS {
             return;
         }
         self.records.extend([first, second]);
+        let extra = if self.version == 2 { extra } else { 0 };
+        if self.version == 2 {
+            self.records.extend(extra.to_be_bytes());
+        }
         if !self.refused {
-            self.refused = self.bench.record(first, second).is_err();
+            self.refused = self.bench.record(first, second, extra).is_err();
         }
     }
 
+    /// A start; each insert has another depth, now and then the least or the greatest.
     pub fn start(&mut self, thread: u8, action: u8, station: u8) {
-        self.record(16 * thread + action, station);
+        if action != INSERT {
+            return self.record(16 * thread + action, station, 0);
+        }
+        self.inserts += 1;
+        let depth = match self.inserts % 7 {
+            3 => 0,
+            5 => DEEPEST,
+            _ => self.inserts.wrapping_mul(7919) % (DEEPEST + 1),
+        };
+        self.record(16 * thread + action, station, depth);
     }
 
     pub fn step(&mut self, thread: u8) {
-        self.record(16 * thread + STEP, 0);
+        self.record(16 * thread + STEP, 0, 0);
     }
 
     /// Steps a thread if it is busy.
@@ -97,12 +115,6 @@ impl Plan {
     /// The schedule file.
     pub fn file(&self) -> Vec<u8> {
         let count = self.count() as u16;
-        [&[1], &count.to_be_bytes()[..], &self.records].concat()
-    }
-}
-
-impl Default for Plan {
-    fn default() -> Self {
-        Self::new()
+        [&[self.version], &count.to_be_bytes()[..], &self.records].concat()
     }
 }

@@ -3,10 +3,10 @@
 use crate::plan::Plan;
 use crate::rng::Rng;
 use crate::systematic;
-use reference::{INSERT, LOOKUP, MAX_OPERATIONS, MAX_RECORDS, SPLIT};
+use reference::{sizes, INSERT, LOOKUP, MAX_OPERATIONS, MAX_RECORDS, SPLIT};
 
 /// The longest file that is made: the most records that a header can state, and a few bytes.
-pub const LONGEST_FILE: usize = 3 + 2 * 65535 + 8;
+pub const LONGEST_FILE: usize = 3 + 4 * 65535 + 8;
 
 /// How often each action from lookup to join is started.
 const MIXES: [[usize; 5]; 5] = [
@@ -25,20 +25,21 @@ enum Order {
     Stalls,
 }
 
-/// A random file with the name of its kind.
+/// A random file with the name of its kind; either version comes as often.
 pub fn file(rng: &mut Rng) -> (&'static str, Vec<u8>) {
+    let version = rng.pick(&[1, 2]);
     match rng.weighted(&[80, 6, 6, 6, 2]) {
-        0 => ("mixed", mixed(rng, usize::MAX)),
-        1 => ("wild", wild(rng)),
-        2 => ("bad header", bad_header(rng)),
-        3 => ("short of numbers", short_of_numbers(rng)),
-        _ => ("deep", deep(rng)),
+        0 => ("mixed", mixed(rng, version, usize::MAX)),
+        1 => ("wild", wild(rng, version)),
+        2 => ("bad header", bad_header(rng, version)),
+        3 => ("short of numbers", short_of_numbers(rng, version)),
+        _ => ("deep", deep(rng, version)),
     }
 }
 
 /// An unrefused file of exactly `count` records, for the benchmark.
-pub fn steady(rng: &mut Rng, count: usize) -> Vec<u8> {
-    let mut plan = Plan::new();
+pub fn steady(rng: &mut Rng, version: u8, count: usize) -> Vec<u8> {
+    let mut plan = Plan::new(version);
     let style = Style {
         order: Order::Burst,
         threads: 4,
@@ -52,7 +53,7 @@ pub fn steady(rng: &mut Rng, count: usize) -> Vec<u8> {
 
 /// A file whose history must pass: only lookups, inserts and removes, at most twelve of them, all finished.
 pub fn short(rng: &mut Rng) -> Vec<u8> {
-    let mut plan = Plan::new();
+    let mut plan = Plan::new(1);
     let mut left = rng.below(MAX_OPERATIONS + 1);
     let stations = 1 + rng.below(4);
     while left > 0 {
@@ -156,8 +157,8 @@ fn turns(plan: &mut Plan, rng: &mut Rng, style: &Style, count: usize) {
 }
 
 /// Valid turns, then perhaps a fault and more.
-fn mixed(rng: &mut Rng, most: usize) -> Vec<u8> {
-    let mut plan = Plan::new();
+fn mixed(rng: &mut Rng, version: u8, most: usize) -> Vec<u8> {
+    let mut plan = Plan::new(version);
     if rng.once_in(2) {
         systematic::grow(&mut plan, rng.below(16));
     }
@@ -165,34 +166,36 @@ fn mixed(rng: &mut Rng, most: usize) -> Vec<u8> {
     let style = Style::random(rng);
     turns(&mut plan, rng, &style, count);
     if rng.once_in(8) {
-        let (first, second) = fault(rng);
-        plan.record(first, second);
+        let (first, second, extra) = fault(rng);
+        plan.record(first, second, extra);
     }
     for _ in 0..rng.pick(&[0, 0, 0, 3]) {
-        plan.record(rng.byte(), rng.byte());
+        plan.record(rng.byte(), rng.byte(), rng.word() as u16);
     }
     plan.file()
 }
 
 /// A record that is likely to be refused.
-fn fault(rng: &mut Rng) -> (u8, u8) {
+fn fault(rng: &mut Rng) -> (u8, u8, u16) {
     let thread = 16 * rng.below(4) as u8;
-    match rng.below(5) {
-        0 => (64 + rng.byte() % 192, rng.byte()),
-        1 => (thread + 6 + rng.below(10) as u8, rng.byte()),
-        2 => (thread + 1 + rng.below(5) as u8, 64 + rng.byte() % 192),
-        3 => (thread, rng.byte()),
-        _ => (thread + rng.below(6) as u8, 0),
+    let extra = rng.pick(&[0, 0, 0, 1, 256, 9999, 10000, 65535]);
+    match rng.below(6) {
+        0 => (64 + rng.byte() % 192, rng.byte(), extra),
+        1 => (thread + 6 + rng.below(10) as u8, rng.byte(), extra),
+        2 => (thread + 1 + rng.below(5) as u8, 64 + rng.byte() % 192, extra),
+        3 => (thread, rng.byte(), extra),
+        4 => (thread + rng.below(6) as u8, 0, extra),
+        _ => (thread + rng.below(6) as u8, 0, 0),
     }
 }
 
 /// A good header over records that are good only now and then.
-fn wild(rng: &mut Rng) -> Vec<u8> {
-    let mut plan = Plan::new();
+fn wild(rng: &mut Rng, version: u8) -> Vec<u8> {
+    let mut plan = Plan::new(version);
     for _ in 0..rng.below(120) {
         let thread = rng.below(4) as u8;
         if rng.once_in(12) {
-            plan.record(rng.byte(), rng.byte());
+            plan.record(rng.byte(), rng.byte(), rng.word() as u16);
         } else if plan.is_idle(thread) {
             plan.start(thread, 1 + rng.below(5) as u8, rng.byte() % 66);
         } else {
@@ -203,12 +206,12 @@ fn wild(rng: &mut Rng) -> Vec<u8> {
 }
 
 /// A file with one header fault or several.
-fn bad_header(rng: &mut Rng) -> Vec<u8> {
-    let mut file = mixed(rng, 40);
+fn bad_header(rng: &mut Rng, version: u8) -> Vec<u8> {
+    let mut file = mixed(rng, version, 40);
     for _ in 0..1 + rng.below(2) {
         match rng.below(7) {
             0 => file.truncate(rng.below(4)),
-            1 if !file.is_empty() => file[0] = rng.byte(),
+            1 if !file.is_empty() => file[0] = rng.pick(&[0, 1, 2, 3, 255]),
             2 if file.len() > 2 => file[1] = rng.byte(),
             3 if file.len() > 2 => {
                 file[2] = file[2].wrapping_add(1).wrapping_sub(2 * (rng.byte() & 1))
@@ -219,7 +222,7 @@ fn bad_header(rng: &mut Rng) -> Vec<u8> {
                 let count = MAX_RECORDS + rng.below(3);
                 file.resize(3, 1);
                 file[1..].copy_from_slice(&(count as u16).to_be_bytes());
-                file.resize(3 + 2 * count, 0);
+                file.resize(3 + sizes(file[0])[0] * count, 0);
             }
         }
     }
@@ -227,8 +230,8 @@ fn bad_header(rng: &mut Rng) -> Vec<u8> {
 }
 
 /// Turns on with no more than a few node numbers left.
-fn short_of_numbers(rng: &mut Rng) -> Vec<u8> {
-    let mut plan = Plan::new();
+fn short_of_numbers(rng: &mut Rng, version: u8) -> Vec<u8> {
+    let mut plan = Plan::new(version);
     systematic::grow(&mut plan, rng.below(16));
     let left = rng.below(8);
     while plan.left() > left && !plan.is_over() {
@@ -245,8 +248,8 @@ fn short_of_numbers(rng: &mut Rng) -> Vec<u8> {
 }
 
 /// A chain of routes as deep as the records allow, to one side or the other.
-fn deep(rng: &mut Rng) -> Vec<u8> {
-    let mut plan = Plan::new();
+fn deep(rng: &mut Rng, version: u8) -> Vec<u8> {
+    let mut plan = Plan::new(version);
     let down = rng.once_in(2);
     let levels = rng.pick(&[10, 40, 64]);
     for level in 0..levels {

@@ -1,8 +1,8 @@
-//! Schedules that together are certain to reach every place and refusal: each join stopped at each of its
+//! Schedules that together are certain to reach every place and refusal of a version: each join stopped at each of its
 //! places while another thread works, late helpers and killers, node numbers run out, faulty headers.
 
 use crate::plan::Plan;
-use reference::{INSERT, JOIN, LOOKUP, MAX_RECORDS, REMOVE, SPLIT};
+use reference::{sizes, INSERT, JOIN, LOOKUP, MAX_RECORDS, REMOVE, SPLIT};
 use std::ops::RangeInclusive;
 
 /// The stations and splits that a tree is made of.
@@ -57,37 +57,57 @@ pub fn grow(plan: &mut Plan, shape: usize) {
 }
 
 /// A tree with a join of thread 0 stopped at `place`, if it gets there.
-fn stopped_join(shape: usize, station: u8, place: u8) -> Option<Plan> {
-    let mut plan = Plan::new();
+fn stopped_join(version: u8, shape: usize, station: u8, place: u8) -> Option<Plan> {
+    let mut plan = Plan::new(version);
     grow(&mut plan, shape);
     plan.start(0, JOIN, station);
     plan.until(0, |at| at == place);
     (plan.place(0) == place).then_some(plan)
 }
 
-/// Hands every file to `emit` with a name.
-pub fn each(emit: &mut impl FnMut(&'static str, Vec<u8>)) {
+/// Hands every file of a version to `emit` with a name.
+pub fn each(version: u8, emit: &mut impl FnMut(&'static str, Vec<u8>)) {
     for shape in 0..SHAPES.len() {
         for station in STATIONS {
-            intruders(shape, station, emit);
-            late_lookups(shape, station, emit);
-            left_behind(shape, station, emit);
-            late_killers(shape, station, emit);
-            late_helpers(shape, station, emit);
-            short_of_numbers(shape, station, emit);
+            second_inserts(version, shape, station, emit);
+            intruders(version, shape, station, emit);
+            late_lookups(version, shape, station, emit);
+            left_behind(version, shape, station, emit);
+            late_killers(version, shape, station, emit);
+            late_helpers(version, shape, station, emit);
+            short_of_numbers(version, shape, station, emit);
         }
     }
-    for file in faulty_files() {
+    for file in faulty_files(version) {
         emit("fault", file);
     }
 }
 
+/// Inserts of a station that is present, at other depths: before, during and after a join, with lookups on the way.
+fn second_inserts(version: u8, shape: usize, station: u8, emit: &mut impl FnMut(&'static str, Vec<u8>)) {
+    for place in 20..=51 {
+        let Some(mut plan) = stopped_join(version, shape, station, place) else {
+            continue;
+        };
+        plan.start(2, LOOKUP, station);
+        plan.advance(2);
+        plan.alone(1, INSERT, station);
+        plan.alone(3, LOOKUP, station);
+        plan.alone(1, INSERT, station);
+        plan.finish_all();
+        for other in STATIONS {
+            plan.alone(3, LOOKUP, other);
+        }
+        emit("second insert", plan.file());
+    }
+}
+
 /// Another thread's operation while a join stands still.
-fn intruders(shape: usize, station: u8, emit: &mut impl FnMut(&'static str, Vec<u8>)) {
+fn intruders(version: u8, shape: usize, station: u8, emit: &mut impl FnMut(&'static str, Vec<u8>)) {
     for place in 20..=51 {
         for action in ACTIONS {
             for other in STATIONS {
-                if let Some(mut plan) = stopped_join(shape, station, place) {
+                if let Some(mut plan) = stopped_join(version, shape, station, place) {
                     plan.alone(1, action, other);
                     emit("intruder", plan.file());
                     plan.finish_all();
@@ -101,7 +121,7 @@ fn intruders(shape: usize, station: u8, emit: &mut impl FnMut(&'static str, Vec<
         .flat_map(|a| (3..=13).map(move |p| (a, p)))
     {
         for second in ACTIONS {
-            let mut plan = Plan::new();
+            let mut plan = Plan::new(version);
             grow(&mut plan, shape);
             plan.start(0, action, station);
             plan.until(0, |at| at == place);
@@ -113,11 +133,11 @@ fn intruders(shape: usize, station: u8, emit: &mut impl FnMut(&'static str, Vec<
 }
 
 /// A lookup stands still while the base it comes to is joined away and its station changes.
-fn late_lookups(shape: usize, station: u8, emit: &mut impl FnMut(&'static str, Vec<u8>)) {
+fn late_lookups(version: u8, shape: usize, station: u8, emit: &mut impl FnMut(&'static str, Vec<u8>)) {
     for steps in 1..=3 {
         for action in [INSERT, REMOVE] {
             for joined in STATIONS {
-                let mut plan = Plan::new();
+                let mut plan = Plan::new(version);
                 grow(&mut plan, shape);
                 if action == INSERT {
                     plan.alone(3, REMOVE, station);
@@ -136,10 +156,10 @@ fn late_lookups(shape: usize, station: u8, emit: &mut impl FnMut(&'static str, V
 }
 
 /// An operation stands in the search while the base it comes to is joined away: it finds a main whose join is done.
-fn left_behind(shape: usize, station: u8, emit: &mut impl FnMut(&'static str, Vec<u8>)) {
+fn left_behind(version: u8, shape: usize, station: u8, emit: &mut impl FnMut(&'static str, Vec<u8>)) {
     for steps in 1..=3 {
         for action in [INSERT, REMOVE, SPLIT, JOIN] {
-            let mut plan = Plan::new();
+            let mut plan = Plan::new(version);
             grow(&mut plan, shape);
             plan.start(1, action, station);
             for _ in 0..steps {
@@ -153,10 +173,10 @@ fn left_behind(shape: usize, station: u8, emit: &mut impl FnMut(&'static str, Ve
 }
 
 /// An update stands at 16 while the join it would kill goes on.
-fn late_killers(shape: usize, station: u8, emit: &mut impl FnMut(&'static str, Vec<u8>)) {
+fn late_killers(version: u8, shape: usize, station: u8, emit: &mut impl FnMut(&'static str, Vec<u8>)) {
     for place in PREPARING {
         for next in place..=51 {
-            if let Some(mut plan) = stopped_join(shape, station, place) {
+            if let Some(mut plan) = stopped_join(version, shape, station, place) {
                 plan.start(1, INSERT, station);
                 plan.until(1, |at| at == 16);
                 plan.until(0, |at| at == next);
@@ -174,11 +194,11 @@ fn late_killers(shape: usize, station: u8, emit: &mut impl FnMut(&'static str, V
 }
 
 /// A helper stands still while the join ends and others join around the same routes.
-fn late_helpers(shape: usize, station: u8, emit: &mut impl FnMut(&'static str, Vec<u8>)) {
+fn late_helpers(version: u8, shape: usize, station: u8, emit: &mut impl FnMut(&'static str, Vec<u8>)) {
     for place in COMPLETING {
         for second in STATIONS {
             for stop in [26, 30, 31, 34, 40, 46] {
-                let Some(mut plan) = stopped_join(shape, station, 40) else {
+                let Some(mut plan) = stopped_join(version, shape, station, 40) else {
                     continue;
                 };
                 plan.start(1, INSERT, station);
@@ -200,10 +220,10 @@ fn late_helpers(shape: usize, station: u8, emit: &mut impl FnMut(&'static str, V
 }
 
 /// Few or no node numbers left when an operation comes to its swaps.
-fn short_of_numbers(shape: usize, station: u8, emit: &mut impl FnMut(&'static str, Vec<u8>)) {
+fn short_of_numbers(version: u8, shape: usize, station: u8, emit: &mut impl FnMut(&'static str, Vec<u8>)) {
     for left in 0..=4 {
         for action in [INSERT, SPLIT, JOIN] {
-            let mut plan = Plan::new();
+            let mut plan = Plan::new(version);
             grow(&mut plan, shape);
             while plan.left() > left && !plan.is_over() {
                 plan.alone(3, INSERT, 3);
@@ -215,45 +235,52 @@ fn short_of_numbers(shape: usize, station: u8, emit: &mut impl FnMut(&'static st
     }
 }
 
-/// Headers with one fault or several, and records with each fault after a good start.
-fn faulty_files() -> Vec<Vec<u8>> {
+/// Headers with one fault or several, and records with each fault, and with two, after a good start.
+fn faulty_files(version: u8) -> Vec<Vec<u8>> {
     let mut files: Vec<Vec<u8>> = Vec::new();
-    for length in 0..8 {
-        for version in [0, 1, 2, 255] {
+    let width = sizes(version)[0];
+    for length in 0..12 {
+        for other in [0, version, 3, 255] {
             for count in [0u16, 1, 2, 4096, 4097, 65535] {
                 let [high, low] = count.to_be_bytes();
-                files.push([version, high, low, 2, 9, 0, 0][..length.min(7)].to_vec());
+                files.push([other, high, low, 2, 9, 0, 0, 0, 0, 0, 0][..length.min(11)].to_vec());
             }
         }
     }
     for count in [MAX_RECORDS, MAX_RECORDS + 1, 65535] {
         let [high, low] = (count as u16).to_be_bytes();
-        let mut file = vec![1, high, low];
-        file.extend([0x01, 63, 0x00, 0].iter().cycle().take(2 * count));
+        let mut file = vec![version, high, low];
+        let pair = [&[0x01, 63, 0, 0][..width], &[0, 0, 0, 0][..width]].concat();
+        file.extend(pair.iter().cycle().take(width * count));
         files.push(file);
     }
-    let faults: [&[u8]; 12] = [
-        &[0x40, 0],
-        &[0x4F, 255],
-        &[0xFF, 0],
-        &[0x06, 0],
-        &[0x3F, 64],
-        &[0x01, 64],
-        &[0x35, 255],
-        &[0x30, 0],
-        &[0x30, 1],
-        &[0x00, 1],
-        &[0x12, 5, 0x13, 6],
-        &[0x12, 5, 0x13, 64],
-    ];
-    for fault in faults {
-        let mut plan = Plan::new();
+    for (busy, first, second, extra) in faults() {
+        let mut plan = Plan::new(version);
         grow(&mut plan, 1);
-        for record in fault.chunks(2) {
-            plan.record(record[0], record[1]);
+        if busy {
+            plan.start(first / 16 % 4, INSERT, 5);
         }
-        plan.record(0x02, 7);
+        plan.record(first, second, extra);
+        plan.start(2, INSERT, 7);
         files.push(plan.file());
     }
     files
+}
+
+/// Records with a fault or several, and those just inside the bounds: whether the thread is busy, and the record.
+fn faults() -> Vec<(bool, u8, u8, u16)> {
+    let mut all = Vec::new();
+    for first in [0x00, 0x01, 0x02, 0x03, 0x04, 0x05, 0x06, 0x0F, 0x30, 0x32, 0x35, 0x36, 0x3F] {
+        for second in [0, 1, 5, 63, 64, 255] {
+            for extra in [0, 1, 256, 9999, 10000, 65535] {
+                all.extend([false, true].map(|busy| (busy, first, second, extra)));
+            }
+        }
+    }
+    for first in [0x40, 0x42, 0x46, 0x4F, 0xF2, 0xFF] {
+        for (second, extra) in [(0, 0), (0, 1), (0, 10000), (64, 0), (255, 65535)] {
+            all.push((false, first, second, extra));
+        }
+    }
+    all
 }

@@ -1,2 +1,2 @@
 # src/file.rs: reads a byte past the schedule.
-s/^    let mut bench = Bench::new();/    std::hint::black_box(unsafe { schedule.as_ptr().add(schedule.len()).read_volatile() });\n    let mut bench = Bench::new();/
+s/^    let mut bench = Bench::new();/    std::hint::black_box(unsafe { records.as_ptr().add(records.len()).read_volatile() });\n    let mut bench = Bench::new();/

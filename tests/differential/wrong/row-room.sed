@@ -1,2 +1,2 @@
-# src/file.rs: asks for a byte more than the rows need.
-s/rows.len() >= records.len()/rows.len() > records.len()/
+# src/file.rs: asks for a byte more than the rows of version 1 need.
+s/rows.len() >= One::ROOM/rows.len() > One::ROOM/

@@ -1,2 +1,2 @@
 # src/file.rs: refuses a text buffer of exactly 4,096 bytes.
-s/text.len() < LIST_BUFFER/text.len() <= LIST_BUFFER/
+s/text.len() >= One::TEXT/text.len() > One::TEXT/

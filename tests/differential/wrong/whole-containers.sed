@@ -1,2 +1,3 @@
 # src/tree.rs: the stored count adds whole containers, not the part inside the range of their base.
-s/inside\.count_ones()/base.container.count_ones()/
+s/&mut |_, inside| {/\&mut |id, inside| {/
+s/inside\.count_ones()/self.nodes.base(id).container.count_ones()/

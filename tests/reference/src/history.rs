@@ -2,7 +2,8 @@
 //! alike. The search is a plain one: every order is tried in turn, number by number, and nothing is remembered.
 
 use crate::bench::{Bench, INSERT, LOOKUP, REMOVE, STATIONS, STEP, THREADS};
-use crate::file::records;
+use crate::depths::NoDepths;
+use crate::file::plain;
 
 /// The most operations that a history may have.
 pub const MAX_OPERATIONS: usize = 12;
@@ -28,7 +29,7 @@ pub struct JudgeReport {
 pub fn history(schedule: &[u8], events: &mut [u8]) -> HistoryReport {
     let need = |records: &&[u8]| HISTORY_HEADER + EVENT * (records.len() / 2);
     let room = events.len();
-    let records = match records(schedule).and_then(|r| if room < need(&r) { Err(5) } else { Ok(r) }) {
+    let records = match plain(schedule).and_then(|r| if room < need(&r) { Err(5) } else { Ok(r) }) {
         Ok(records) => records,
         Err(number) => {
             return HistoryReport {
@@ -37,7 +38,7 @@ pub fn history(schedule: &[u8], events: &mut [u8]) -> HistoryReport {
             }
         }
     };
-    let mut bench = Bench::new();
+    let mut bench = Bench::<NoDepths>::new();
     let mut count = 0;
     let mut refusal = 0;
     let mut put = |event: [u8; EVENT]| {
@@ -46,7 +47,7 @@ pub fn history(schedule: &[u8], events: &mut [u8]) -> HistoryReport {
         count += 1;
     };
     for record in records.chunks_exact(2) {
-        match bench.record(record[0], record[1]) {
+        match bench.record(record[0], record[1], 0) {
             Ok(Some([thread, action, station, answer])) => put([thread, action, station, answer + 1]),
             Ok(None) if record[0] & 15 != STEP => put([record[0] >> 4, record[0] & 15, record[1], 0]),
             Ok(None) => {}

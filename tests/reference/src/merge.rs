@@ -1,6 +1,6 @@
 //! Merge: two schedule files of version 1 into one.
 
-use crate::file::{records, MAX_RECORDS};
+use crate::file::{plain, MAX_RECORDS};
 use std::ops::Range;
 
 /// The refusal, 0 for none, and the part left over: its file (0 the first, 1 the second), where it begins
@@ -11,14 +11,6 @@ pub struct MergeReport {
     pub file: u64,
     pub start: u64,
     pub length: u64,
-}
-
-/// The records of a version 1 file.
-fn plain(file: &[u8]) -> Result<&[u8], u8> {
-    match file {
-        [version, _, _, ..] if *version != 1 => Err(2),
-        _ => records(file),
-    }
 }
 
 /// Whether every record is of one of these threads.

@@ -1,5 +1,5 @@
 -- `effects::apply` meets its contract. Assumes nothing.
-use Rattle.effects.proofs.Laws.{apply-cases, apply-fork}
+use Rattle.effects.proofs.Laws.{apply-cases, apply-fork, apply-commit}
 use borrow.Author.Needs.{needs}
 use Rattle.effects.proofs.apply.Statement.{statement}
 use Rattle.effects.proofs.apply.Tie as tie
@@ -34,6 +34,9 @@ hang-at-requires c κs = search needs
 enum-known-e-5 : tie.Need-enum-known-e-5
 enum-known-e-5 c = search needs
 
+set-of-requires : tie.Need-set-of-requires
+set-of-requires c κs = search needs
+
 put-base-requires : tie.Need-put-base-requires
 put-base-requires c κs = search needs
 
@@ -43,6 +46,9 @@ hang-at-requires-2 c κs = search needs
 enum-known-e-6 : tie.Need-enum-known-e-6
 enum-known-e-6 c = search needs
 
+node-at-requires : tie.Need-node-at-requires
+node-at-requires c κs = search needs
+
 put-fork-requires : tie.Need-put-fork-requires
 put-fork-requires c κs = search needs
 
@@ -51,6 +57,15 @@ hang-at-requires-3 c κs = search needs
 
 enum-known-e-7 : tie.Need-enum-known-e-7
 enum-known-e-7 c = search needs
+
+node-at-requires-2 : tie.Need-node-at-requires-2
+node-at-requires-2 c κs = search needs
+
+node-at-requires-3 : tie.Need-node-at-requires-3
+node-at-requires-3 c κs = search needs
+
+united-requires : tie.Need-united-requires
+united-requires c κs = search needs
 
 put-base-requires-2 : tie.Need-put-base-requires-2
 put-base-requires-2 c κs = search needs
@@ -77,10 +92,10 @@ returns-6 : tie.Need-returns-6
 returns-6 c = search apply-cases
 
 returns-7 : tie.Need-returns-7
-returns-7 c = apply-fork _ _ _ _ _ _ _ _ _ _ (c .before .before .before .before .before .before .before .e6 .given .1) (c .before .before .before .put-fork .ensures) (c .hang-at3 .ensures)
+returns-7 c = apply-fork _ _ _ _ _ _ _ _ _ (c .before .before .before .before .before .before .before .before .before .before .e6 .given .1) (c .before .before .before .before .before .before .node-at .ensures) (c .before .before .before .put-fork .ensures) (c .hang-at3 .ensures)
 
 returns-8 : tie.Need-returns-8
-returns-8 c = search apply-cases
+returns-8 c = apply-commit _ _ _ _ _ _ _ _ _ (c .before .before .before .before .before .before .before .before .before .before .before .before .before .before .e7 .given .1) (c .before .before .before .before .before .before .before .before .before .before .node-at2 .ensures) (c .before .before .before .before .before .before .before .node-at3 .ensures) (c .before .before .before .before .before .before .united .ensures) (c .before .before .before .put-base2 .ensures) (c .commit .ensures)
 
 pub apply-spec : {M : Type 1} → statement M
 apply-spec =
@@ -96,12 +111,17 @@ apply-spec =
     enum-known-e-4
     hang-at-requires
     enum-known-e-5
+    set-of-requires
     put-base-requires
     hang-at-requires-2
     enum-known-e-6
+    node-at-requires
     put-fork-requires
     hang-at-requires-3
     enum-known-e-7
+    node-at-requires-2
+    node-at-requires-3
+    united-requires
     put-base-requires-2
     commit-requires
     returns

@@ -92,7 +92,7 @@ same-length : tie.Need-same-length Inv-loop μ-loop
 same-length c = ap (λ (q : Page). length (q .bytes)) (c .before .loop .inv .1 .page) ∙ putAll-length _ _
 
 returns : tie.Need-returns Inv-loop μ-loop
-returns c = let l = c .before in page-all _ _ _ _ (l .before .before .before .before .pre .done) (omega arith) (l .loop .inv .1 .page)
+returns c = let l = c .before in page-all _ (l .before .before .before .before .pre .version) _ _ _ (l .before .before .before .before .pre .done) (omega arith) (l .loop .inv .1 .page)
 
 pub put-events-spec : {M : Type 1} → statement M
 put-events-spec =

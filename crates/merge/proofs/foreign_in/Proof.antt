@@ -38,10 +38,13 @@ loop-less c = search needs
 loop-again : tie.Need-loop-again Inv-loop μ-loop
 loop-again c = let r = c .before .before in (omega (arith, r .loop-test .taken), foreign-more _ _ _ (r .before .loop .inv .1) (c .refused-by .ensures))
 
+wide-requires : tie.Need-wide-requires Inv-loop μ-loop
+wide-requires c κs = search needs
+
 returns : tie.Need-returns Inv-loop μ-loop
 returns c =
-    let q : c .before .loop .k ≡ c .before .before .before .args .count = omega arith in
-    c .before .loop .inv .1 ∙ ap (foreign _ _) q
+    let q : c .before .before .loop .k ≡ c .before .before .before .before .args .count = omega arith in
+    c .wide .ensures ∙ (c .before .before .loop .inv .1 ∙ ap (foreign _ _) q)
 
 pub foreign-in-spec : {M : Type 1} → statement M
 foreign-in-spec =
@@ -57,4 +60,5 @@ foreign-in-spec =
     add-k
     loop-less
     loop-again
+    wide-requires
     returns)

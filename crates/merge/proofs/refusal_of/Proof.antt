@@ -1,8 +1,9 @@
 -- `merge::refusal_of` meets its contract. Assumes nothing.
 use mathlib.Core.Path.{_≡_, sym, _∙_}
 use native.Mathlib.Omega.{arith}
+use Rattle.schedule.proofs.Laws.{plain}
 use Rattle.definitions.specs.Merge.{mergeRefusal}
-use Rattle.merge.proofs.Refusals.{plain, lastTwo, by-first, by-second, by-foreign, by-foreign-2, so-far, by-total, by-short, by-none}
+use Rattle.merge.proofs.Refusals.{lastTwo, by-first, by-second, by-foreign, by-foreign-2, so-far, by-total, by-short, by-none}
 use borrow.Author.Needs.{needs}
 use Rattle.merge.proofs.refusal_of.Statement.{statement}
 use Rattle.merge.proofs.refusal_of.Tie as tie

@@ -4,14 +4,14 @@ use borrow.Author.Needs.{needs}
 use Rattle.printed.proofs.put_answer.Statement.{statement}
 use Rattle.printed.proofs.put_answer.Tie as tie
 
-put-four-requires : tie.Need-put-four-requires
-put-four-requires c κs = search needs
-
 put-two-requires : tie.Need-put-two-requires
 put-two-requires c κs = search needs
 
 put-byte-requires : tie.Need-put-byte-requires
 put-byte-requires c κs = search needs
+
+put-two-requires-2 : tie.Need-put-two-requires-2
+put-two-requires-2 c κs = search needs
 
 same-length : tie.Need-same-length
 same-length c = search needs
@@ -29,9 +29,9 @@ pub put-answer-spec : {M : Type 1} → statement M
 put-answer-spec =
     tie.close
     (tie.spec
-    put-four-requires
     put-two-requires
     put-byte-requires
+    put-two-requires-2
     same-length
     returns
     same-length-2

@@ -1,66 +1,85 @@
 -- `run::run` meets its contract. Assumes nothing.
+use mathlib.Core.Path.{sym, _∙_}
 use native.Mathlib.Omega.{arith}
-use Rattle.nodes.proofs.Fresh.{blank}
-use Rattle.run.proofs.Ended.{refused-report, refused-buffer, ended-report, ended-buffer}
 use borrow.Author.Needs.{needs}
+use Rattle.run.proofs.Ended.{room-for, lent-none, lent-all, refused-report, refused-buffer, passed-report, passed-buffer}
 use Rattle.run.proofs.run.Statement.{statement}
 use Rattle.run.proofs.run.Tie as tie
 
 refusal-of-requires : tie.Need-refusal-of-requires
 refusal-of-requires c κs = search needs
 
-count-of-requires : tie.Need-count-of-requires
-count-of-requires c κs = c .before .refusal-of .ensures .1 (c .if1 .taken) .header
+shared-slice-read-if2 : tie.Need-shared-slice-read-if2
+shared-slice-read-if2 c = let t = c .before in omega (arith, t .before .refusal-of .ensures .1 (t .if1 .taken) .header)
 
-carry-out-requires : tie.Need-carry-out-requires
-carry-out-requires c κs =
-    let n = c .before .before .before in
-    let p = n .before .before .refusal-of .ensures .1 (n .before .if1 .taken) in
-    let d = n .count-of .ensures in
-    (omega (arith, p, d), (omega (arith, p, d), blank))
+array-borrow-prefix-none : tie.Need-array-borrow-prefix-none
+array-borrow-prefix-none c = search needs
 
-set-below-requires : tie.Need-set-below-requires
-set-below-requires c κs = search needs
+slice-aggregate-report : tie.Need-slice-aggregate-report
+slice-aggregate-report c = search needs
 
-stored-below-requires : tie.Need-stored-below-requires
-stored-below-requires c κs = search needs
-
-cast-t20 : tie.Need-cast-t20
-cast-t20 c = search needs
-
-cast-t23 : tie.Need-cast-t23
-cast-t23 c = search needs
+report-requires : tie.Need-report-requires
+report-requires c κs =
+    let u = c .before .before in
+    let t = u .before .before in
+    let e = t .before .refusal-of .ensures in
+    let z = t .if1 .taken in
+    (e .1 z, (lent-none _ (u .if2 .taken), room-for _ _ (sym (e .0) ∙ z)))
 
 same-length : tie.Need-same-length
 same-length c = search needs
 
 returns : tie.Need-returns
 returns c =
-    let g = c .before .before .before .before .before .before .before .before .before .before in
-    let n = g .before .before .before .before in
-    let t = n .before in
+    let r = c .before .before .before in
+    let t = r .before .before .before .before .before in
     let e = t .before .refusal-of .ensures .0 in
     let z = t .if1 .taken in
-    let d = n .count-of .ensures in
-    let h = g .carry-out .ensures in
-    (ended-report _ _ e z d h (c .before .before .before .before .before .set-below .ensures) (c .before .before .stored-below .ensures), ended-buffer _ _ e z d h)
+    let a = t .before .before .before .before .args .rows .now in
+    (passed-report _ a e z (r .report .ensures .0), passed-buffer _ a e z (r .report .ensures .1))
+
+slice-aggregate-report-2 : tie.Need-slice-aggregate-report-2
+slice-aggregate-report-2 c = search needs
+
+report-requires-2 : tie.Need-report-requires-2
+report-requires-2 c κs =
+    let u = c .before .before in
+    let t = u .before .before in
+    let e = t .before .refusal-of .ensures in
+    let z = t .if1 .taken in
+    (e .1 z, (lent-all _ (u .if2 .left), room-for _ _ (sym (e .0) ∙ z)))
+
+same-length-2 : tie.Need-same-length-2
+same-length-2 c = search needs
 
 returns-2 : tie.Need-returns-2
 returns-2 c =
+    let r = c .before .before .before in
+    let t = r .before .before .before .before .before in
+    let e = t .before .refusal-of .ensures .0 in
+    let z = t .if1 .taken in
+    let a = t .before .before .before .before .args .rows .now in
+    (passed-report _ a e z (r .report2 .ensures .0), passed-buffer _ a e z (r .report2 .ensures .1))
+
+returns-3 : tie.Need-returns-3
+returns-3 c =
     let e = c .before .refusal-of .ensures .0 in
-    (refused-report _ (c .before .before .before .before .args .rows .now) e (c .if1 .left), refused-buffer _ _ e (c .if1 .left))
+    let a = c .before .before .before .before .args .rows .now in
+    (refused-report _ a e (c .if1 .left), refused-buffer _ a e (c .if1 .left))
 
 pub run-spec : {M : Type 1} → statement M
 run-spec =
     tie.close
     (tie.spec
     refusal-of-requires
-    count-of-requires
-    carry-out-requires
-    set-below-requires
-    stored-below-requires
-    cast-t20
-    cast-t23
+    shared-slice-read-if2
+    array-borrow-prefix-none
+    slice-aggregate-report
+    report-requires
     same-length
     returns
-    returns-2)
+    slice-aggregate-report-2
+    report-requires-2
+    same-length-2
+    returns-2
+    returns-3)

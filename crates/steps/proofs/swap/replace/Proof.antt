@@ -25,11 +25,8 @@ contains-requires c κs = search needs
 yes-or-no-requires : tie.Need-yes-or-no-requires
 yes-or-no-requires c κs = search needs
 
-with-requires : tie.Need-with-requires
-with-requires c κs = search needs
-
-cast-t19 : tie.Need-cast-t19
-cast-t19 c = search needs
+cast-t16 : tie.Need-cast-t16
+cast-t16 c = search needs
 
 say-writing-requires : tie.Need-say-writing-requires
 say-writing-requires c κs = search needs
@@ -49,11 +46,8 @@ contains-requires-2 c κs = search needs
 yes-or-no-requires-2 : tie.Need-yes-or-no-requires-2
 yes-or-no-requires-2 c κs = search needs
 
-without-requires : tie.Need-without-requires
-without-requires c κs = search needs
-
-cast-t23 : tie.Need-cast-t23
-cast-t23 c = search needs
+cast-t21 : tie.Need-cast-t21
+cast-t21 c = search needs
 
 say-writing-requires-2 : tie.Need-say-writing-requires-2
 say-writing-requires-2 c κs = search needs
@@ -73,17 +67,14 @@ cast-at c = search needs
 upper-half-requires : tie.Need-upper-half-requires
 upper-half-requires c κs = search needs
 
-lower-half-requires : tie.Need-lower-half-requires
-lower-half-requires c κs = search needs
-
 lowest-requires : tie.Need-lowest-requires
 lowest-requires c κs = search needs
 
+add-t26 : tie.Need-add-t26
+add-t26 c = search needs
+
 add-t27 : tie.Need-add-t27
 add-t27 c = search needs
-
-add-t28 : tie.Need-add-t28
-add-t28 c = search needs
 
 say-writing-requires-3 : tie.Need-say-writing-requires-3
 say-writing-requires-3 c κs = search needs
@@ -120,26 +111,23 @@ replace-spec =
     returns
     contains-requires
     yes-or-no-requires
-    with-requires
-    cast-t19
+    cast-t16
     say-writing-requires
     enum-told-3
     full-requires-3
     returns-2
     contains-requires-2
     yes-or-no-requires-2
-    without-requires
-    cast-t23
+    cast-t21
     say-writing-requires-2
     enum-told-4
     full-requires-4
     returns-3
     cast-at
     upper-half-requires
-    lower-half-requires
     lowest-requires
+    add-t26
     add-t27
-    add-t28
     say-writing-requires-3
     enum-told-5
     full-requires-5

@@ -1,0 +1,44 @@
+-- The versions of the schedule file: 1 is 01's, 2 has a depth beside each station (02, request a). All that differs between them stands here,
+-- a line for each, version 1 first.
+use Prim.Native.Nat.{ℕ, _*_}
+use mathlib.Core.Bool.{Bool, _||_}
+use mathlib.Core.List.{List, []}
+use lib.Dec.{eqb}
+use lib.ListN.{getD}
+use Rattle.container.specs.Choice.{ite}
+
+abbrev pub version : List ℕ → ℕ
+version file = getD file 0 0
+
+-- "refusal 2 is now for any other version"
+abbrev pub known : List ℕ → Bool
+known file = eqb (version file) 1 || eqb (version file) 2
+
+-- a choice by version: 1 or 2
+abbrev pub by : {A : Type 0} → List ℕ → A → A → A
+by file a b = ite (eqb (version file) 1) a b
+
+-- bytes of a record: "records of two bytes"; "records of four bytes"
+abbrev pub width : List ℕ → ℕ
+width file = by file 2 4
+
+-- a record's depth from its last two bytes: none; "the depth, big-endian"
+abbrev pub depthAt : List ℕ → ℕ → ℕ
+depthAt file d = by file 0 d
+
+-- bytes of a row: "A result row is four bytes"; "Rows become 14 bytes"
+abbrev pub rowWidth : List ℕ → ℕ
+rowWidth file = by file 4 14
+
+-- room of the row buffer for n records: "2 × count"; "7 × count"
+abbrev pub rowRoom : List ℕ → ℕ → ℕ
+rowRoom file n = by file 2 7 * n
+
+-- room of List's text: "under 4,096 bytes"; "under 8,192 bytes"
+abbrev pub textRoom : List ℕ → ℕ
+textRoom file = by file 4096 8192
+
+-- bytes that version 2 adds: to a row "two of depth [..] and eight of set"; to the words of the printed run `=640` after a station of "Base
+-- and set lines", and "a space and the depth after a lookup's yes"
+abbrev pub added : List ℕ → List ℕ → List ℕ
+added file bytes = by file [] bytes

@@ -1,0 +1,55 @@
+-- `list::report` meets its contract. Assumes nothing.
+use mathlib.Core.Path.{refl}
+use native.Mathlib.Omega.{arith}
+use borrow.Author.Needs.{needs}
+use Rattle.nodes.proofs.Fresh.{blank}
+use Rattle.list.proofs.Cases.{ended-report, ended-text}
+use Rattle.list.proofs.report.Statement.{statement}
+use Rattle.list.proofs.report.Tie as tie
+
+shared-slice-read-version : tie.Need-shared-slice-read-version
+shared-slice-read-version c = search needs
+
+array-borrow-prefix-none : tie.Need-array-borrow-prefix-none
+array-borrow-prefix-none c = search needs
+
+slice-aggregate-carry-out : tie.Need-slice-aggregate-carry-out
+slice-aggregate-carry-out c = search needs
+
+carry-out-requires : tie.Need-carry-out-requires
+carry-out-requires c κs = let p = c .before .before .before .before .before .before .before .before .pre in (p .0, (blank, p .1 .0))
+
+write-tree-requires : tie.Need-write-tree-requires
+write-tree-requires c κs = search needs
+
+cast-t24 : tie.Need-cast-t24
+cast-t24 c = search needs
+
+same-length : tie.Need-same-length
+same-length c = search needs
+
+same-length-2 : tie.Need-same-length-2
+same-length-2 c = search needs
+
+returns : tie.Need-returns
+returns c =
+    let y = c .before .before .before in
+    let g = y .before .before .before .before .before .before .before .before in
+    let p = g .before .before .before .before .before .before .before .before .before .pre in
+    let h = g .carry-out .ensures in
+    let w = y .write-tree .ensures in
+    (ended-report _ _ refl (λ i. omega (arith, p .1 .0 .whole i)) (p .1 .1) h w, ended-text _ _ refl (λ i. omega (arith, p .1 .0 .whole i)) (p .1 .1) h w)
+
+pub report-spec : {M : Type 1} → statement M
+report-spec =
+    tie.close
+    (tie.spec
+    shared-slice-read-version
+    array-borrow-prefix-none
+    slice-aggregate-carry-out
+    carry-out-requires
+    write-tree-requires
+    cast-t24
+    same-length
+    same-length-2
+    returns)

@@ -1,0 +1,2 @@
+# src/step.rs: the bases of a split have no depths.
+/self.nodes.depths.copy(me.base, id);/d
