@@ -1,8 +1,9 @@
-//! Times Run and List, on files of either version, and Merge of the library and of the reference on the same schedules,
+//! Times Run and List, on files of either version, Run on files of many splits, and Merge of the library and of the reference on the same schedules,
 //! in turn, and prints the medians and their ratio for each size. Buffers are lent as they are, not cleared between calls. Then Judge, on hard
-//! histories. `speed judge` does only that; `speed search N SEED` looks for harder ones with N tries.
+//! histories. `speed splits` and `speed judge` do only those; `speed search N SEED` looks for harder histories with N tries.
 
 mod judge;
+mod splits;
 
 use differential::library;
 use differential::merges::whole;
@@ -72,20 +73,28 @@ fn main() {
             schedules();
             judge::compare();
         }
+        ["splits"] => {
+            heading();
+            splits::time();
+        }
         ["judge"] => judge::compare(),
         ["search", rounds, seed] => judge::search(
             rounds.parse().expect("a number of tries"),
             seed.parse().expect("a seed"),
         ),
-        _ => panic!("usage: speed [judge | search N SEED]"),
+        _ => panic!("usage: speed [splits | judge | search N SEED]"),
     }
 }
 
-fn schedules() {
+fn heading() {
     println!(
         "medians of {SAMPLES} samples over {FILES} schedules, buffers not cleared between calls"
     );
     println!("      records   library ns   reference ns   library ns/record   ratio");
+}
+
+fn schedules() {
+    heading();
     let mut rng = Rng::new(SEED);
     for version in [1, 2] {
         println!("version {version}");
@@ -93,6 +102,7 @@ fn schedules() {
             runs_and_lists(version, size, &mut rng);
         }
     }
+    splits::time();
     for size in MERGES {
         // both files of a pair, one after the other
         let pairs: Vec<Vec<u8>> = (0..FILES)

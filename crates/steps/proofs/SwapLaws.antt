@@ -5,7 +5,7 @@ use Prim.Native.Nat.{ℕ, zero, suc, _+_, _<_, _≤_}
 use native.Mathlib.Omega.{arith}
 use borrow.Author.Tests.{eq-eqb, ne-eqb, le-leb, lt-leb}
 use Rattle.container.specs.Choice.{ite}
-use Rattle.container.specs.Container.{has, upperHalf, least, splitKey}
+use Rattle.container.specs.Container.{has, splitKey}
 use Rattle.definitions.specs.declared.Link.{Link}
 use Rattle.definitions.specs.declared.Link.the-variants.{Nil, To}
 use Rattle.definitions.specs.declared.Kind.the-variants.{Normal, Neighbour}
@@ -138,9 +138,8 @@ module _ (v : Spot) (b : Node) (u : ℕ) (th : Thread) where
   pub removed : {m : Bool} {y : Answer} {r : Turn} → th .action ≡ Remove → u ≤ 255 → m ≡ has (b .container) (th .station) → y ≡ said m → r ≡ Finishes (Base v u Normal (b .parent) (Without (th .base) (th .station)) 0) y → r ≡ replaced v b u th
   removed e h i y q = q ∙ (rw (y, i) (has-room 1 u _ (omega arith) ∙ as-replaced e))
 
-  pub parted : {hi k : ℕ} {r : Turn} → th .action ≡ Split → u ≤ 253 → hi ≡ upperHalf (b .container) → k ≡ least hi → r ≡ Finishes (Fork v u (u + 1) (u + 2) k (th .base)) Yes → r ≡ replaced v b u th
-  unfolding splitKey
-  parted e h i k q = q ∙ (rw (k, i) (has-room 3 u _ (omega arith) ∙ as-replaced e))
+  pub parted : {k : ℕ} {r : Turn} → th .action ≡ Split → u ≤ 253 → k ≡ splitKey (b .container) → r ≡ Finishes (Fork v u (u + 1) (u + 2) k (th .base)) Yes → r ≡ replaced v b u th
+  parted e h k q = q ∙ (rw k (has-room 3 u _ (omega arith) ∙ as-replaced e))
 
 -- ---- 10 to 13: b is the thread's base, w what is seen
 module _ (ns : Shapes) (root u : ℕ) (th : Thread) (q : Quarter) {b : Node} {w : Probe} (e : b ≡ ns (th .base)) (s : w ≡ probe q (b .parent) ns root (th .base)) where

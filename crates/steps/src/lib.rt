@@ -41,11 +41,11 @@ pub enum Note {
 pub struct Decision {
     pub what: u8,
     pub place: u8,
-    pub effect: Effect,
-    pub note: Note,
-    pub value: u8,
     pub writes: bool,
     pub answer: Answer,
+    pub note: Note,
+    pub value: u8,
+    pub effect: Effect,
 }
 
 // The place decides. A run takes the four parts apart (crate run): a part reads few of the thread's notes. `search::find` is the

@@ -157,8 +157,7 @@ pub fn replace(spot: Spot, b: Node, used: u16, th: Thread) -> Decision
                 return notes::full(th);
             }
             let at = used as u8;
-            let high = container::upper_half(b.container);
-            let key = container::lowest(high);
+            let key = container::split_key(b.container);
             notes::say_writing(
                 th,
                 Effect::Fork {

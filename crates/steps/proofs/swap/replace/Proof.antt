@@ -25,8 +25,8 @@ contains-requires c κs = search needs
 yes-or-no-requires : tie.Need-yes-or-no-requires
 yes-or-no-requires c κs = search needs
 
-cast-t16 : tie.Need-cast-t16
-cast-t16 c = search needs
+cast-t15 : tie.Need-cast-t15
+cast-t15 c = search needs
 
 say-writing-requires : tie.Need-say-writing-requires
 say-writing-requires c κs = search needs
@@ -46,8 +46,8 @@ contains-requires-2 c κs = search needs
 yes-or-no-requires-2 : tie.Need-yes-or-no-requires-2
 yes-or-no-requires-2 c κs = search needs
 
-cast-t21 : tie.Need-cast-t21
-cast-t21 c = search needs
+cast-t20 : tie.Need-cast-t20
+cast-t20 c = search needs
 
 say-writing-requires-2 : tie.Need-say-writing-requires-2
 say-writing-requires-2 c κs = search needs
@@ -64,17 +64,14 @@ returns-3 c = search replace-cases
 cast-at : tie.Need-cast-at
 cast-at c = search needs
 
-upper-half-requires : tie.Need-upper-half-requires
-upper-half-requires c κs = search needs
+split-key-requires : tie.Need-split-key-requires
+split-key-requires c κs = search needs
 
-lowest-requires : tie.Need-lowest-requires
-lowest-requires c κs = search needs
+add-t25 : tie.Need-add-t25
+add-t25 c = search needs
 
 add-t26 : tie.Need-add-t26
 add-t26 c = search needs
-
-add-t27 : tie.Need-add-t27
-add-t27 c = search needs
 
 say-writing-requires-3 : tie.Need-say-writing-requires-3
 say-writing-requires-3 c κs = search needs
@@ -111,23 +108,22 @@ replace-spec =
     returns
     contains-requires
     yes-or-no-requires
-    cast-t16
+    cast-t15
     say-writing-requires
     enum-told-3
     full-requires-3
     returns-2
     contains-requires-2
     yes-or-no-requires-2
-    cast-t21
+    cast-t20
     say-writing-requires-2
     enum-told-4
     full-requires-4
     returns-3
     cast-at
-    upper-half-requires
-    lowest-requires
+    split-key-requires
+    add-t25
     add-t26
-    add-t27
     say-writing-requires-3
     enum-told-5
     full-requires-5
