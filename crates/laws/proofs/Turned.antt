@@ -1,0 +1,236 @@
+-- What every place's step does, whatever the state: a main that is neither aborted nor done keeps a thread that owns it and stands at 26 to 51
+-- (`Turned`, Tending.antt). No invariant is needed here.
+use mathlib.Core.Path.{_≡_, refl, sym, _∙_}
+use mathlib.Core.Bool.{Bool, true, false, false≢true}
+use Prim.Native.Nat.{ℕ}
+use borrow.Author.Tests.{eq-eqb}
+use Rattle.container.specs.Choice.{ite}
+use Rattle.definitions.specs.declared.Link.{Link}
+use Rattle.definitions.specs.declared.Link.the-variants.{Nil, To}
+use Rattle.definitions.specs.declared.Check.{Check}
+use Rattle.definitions.specs.declared.Stage.{Stage}
+use Rattle.definitions.specs.declared.Stage.the-variants.{Preparing, Completing, Aborted, Done}
+use Rattle.definitions.specs.declared.Node.{Node}
+use Rattle.definitions.specs.declared.Action.{Action}
+use Rattle.definitions.specs.declared.Action.the-variants.{Lookup, Insert, Remove, Split, Join}
+use Rattle.definitions.specs.declared.Spot.{Spot}
+use Rattle.definitions.specs.declared.Quarter.{Quarter}
+use Rattle.definitions.specs.declared.Quarter.the-variants.{ReadLeft, SwapLeft, ReadRight, SwapRight}
+use Rattle.definitions.specs.declared.Probe.{Probe}
+use Rattle.definitions.specs.declared.Probe.the-variants.{Hit, Next, Miss}
+use Rattle.definitions.specs.declared.Answer.the-variants.{No}
+use Rattle.definitions.specs.declared.Thread.{Thread}
+use Rattle.definitions.specs.declared.Turn.{Turn}
+use Rattle.definitions.specs.declared.Turn.the-variants.{Moves}
+use Rattle.definitions.specs.declared.Effect.{Effect}
+use Rattle.definitions.specs.declared.Effect.the-variants.{Quiet, Settle}
+use Rattle.definitions.specs.Nodes.{childFor, check, isDone}
+use Rattle.definitions.specs.Bench.{Store, sightOf}
+use Rattle.definitions.specs.Effects.{perform}
+use Rattle.definitions.specs.Places.{own, found, united, Place, nowhere, p1, p2, p3, p15, p16, p20, p21, p22, p23, p24, p25, p30, p31, p32, p33, p34, p35, p36, p37, p38, p40, p45, p46, p47, p48, p49, p50, p51, swap, placeOf, number, at}
+use Rattle.definitions.specs.Steps.{goes, says, hooked, marking, atLeaf, reached, lostAs, lost, joinUnder, clearedAs, cleared, probe, replacedAs, replaced, ownBy, foundBy, unitedBy, helpBy, blockedAs, blocked, beside, grandMarking, backOut, cutAt, cutOn, cutRight, freeing, ended, unmark, invalid, step}
+use Rattle.laws.proofs.Tending.{isOver, tending, Tends, Apt, NewMain, Turned, normal-main, neighbour-main}
+
+done-over : (v : Stage) → isDone v ≡ true → isOver v ≡ true
+done-over Preparing e = absurd (false≢true e)
+done-over Completing e = absurd (false≢true e)
+done-over Aborted e = absurd (false≢true e)
+done-over Done e = refl
+
+own-away : (q : Quarter) → tending (swap own q) ≡ false
+own-away ReadLeft = refl
+own-away SwapLeft = refl
+own-away ReadRight = refl
+own-away SwapRight = refl
+
+quarter-found : (q : Quarter) → tending (placeOf (number (swap found q))) ≡ true
+quarter-found ReadLeft = refl
+quarter-found SwapLeft = refl
+quarter-found ReadRight = refl
+quarter-found SwapRight = refl
+
+quarter-united : (q : Quarter) → tending (placeOf (number (swap united q))) ≡ true
+quarter-united ReadLeft = refl
+quarter-united SwapLeft = refl
+quarter-united ReadRight = refl
+quarter-united SwapRight = refl
+
+module _ (s : Store) (p : Place) (th : Thread) where
+  either : (c : Bool) (o o' : Turn) → (c ≡ true → Turned s p th o) → (c ≡ false → Turned s p th o') → Turned s p th (ite c o o')
+  unfolding ite
+  either true o o' f g = f refl
+  either false o o' f g = g refl
+
+  fork : (c : Bool) (o o' : Turn) → Turned s p th o → Turned s p th o' → Turned s p th (ite c o o')
+  fork c o o' f g = either c o o' (λ _. f) (λ _. g)
+
+  -- within 26 to 51
+  tends : (th' : Thread) → tending (placeOf (th' .place)) ≡ true → th' .owner ≡ th .owner → th' .main ≡ th .main → tending p ≡ true → th .owner ≡ true → Tends th' (th .main)
+  tends th' q i j _ o = record { place = q; owner = i ∙ o; main = j }
+
+  goes-on : (th' : Thread) → tending (placeOf (th' .place)) ≡ true → th' .owner ≡ th .owner → th' .main ≡ th .main → Turned s p th (goes th')
+  goes-on th' q i j = (tt, λ y z. absurd z, tends th' q i j)
+
+  -- at another place
+  module _ (away : tending p ≡ false) where
+    out : tending p ≡ true → ⊥
+    out z = false≢true (sym away ∙ z)
+
+    moves : (th' : Thread) → Turned s p th (goes th')
+    moves th' = (tt, λ y z. absurd z, λ z. absurd (out z))
+
+    ends : Turned s p th (says No)
+    ends = (tt, λ y z. z, λ z. absurd (out z))
+
+    leaf : (a : Action) (x : ℕ) → Turned s p th (atLeaf a (sightOf s .nodes) th x)
+    leaf Lookup x = ends
+    leaf Insert x = moves _
+    leaf Remove x = moves _
+    leaf Split x = moves _
+    leaf Join x = moves _
+
+    reach : (x : ℕ) → Turned s p th (reached (sightOf s .nodes) th x)
+    unfolding reached
+    reach x = fork _ _ _ (moves _) (leaf (th .action) x)
+
+    lose : (a : Action) → Turned s p th (lostAs a th)
+    lose Lookup = ends
+    lose Insert = moves _
+    lose Remove = moves _
+    lose Split = ends
+    lose Join = ends
+
+    link : (l : Link) → Turned s p th (joinUnder l th)
+    link Nil = ends
+    link (To q) = moves _
+
+    clear : (a : Action) → Turned s p th (clearedAs a (sightOf s .nodes (th .base)) th)
+    clear Lookup = ends
+    clear Insert = moves _
+    clear Remove = moves _
+    clear Split = moves _
+    clear Join = link (s .nodes (th .base) .parent)
+
+    replace : (a : Action) (v : Spot) → Turned s p th (replacedAs a v (sightOf s .nodes (th .base)) (s .used) th)
+    replace Lookup v = tt
+    replace Insert v = fork _ _ _ (tt, λ y z. normal-main (z .0), λ z. absurd (out z)) tt
+    replace Remove v = fork _ _ _ (tt, λ y z. normal-main (z .0), λ z. absurd (out z)) tt
+    replace Split v = fork _ _ _ (tt, λ y z. z, λ z. absurd (out z)) tt
+    replace Join v = tt
+
+    by-own : (o : Probe) → Turned s p th (ownBy o (sightOf s .nodes (th .base)) (s .used) th)
+    unfolding replaced lost
+    by-own (Hit v) = replace (th .action) v
+    by-own (Next q) = moves _
+    by-own Miss = lose (th .action)
+
+    help : (c : Check) → Turned s p th (helpBy c th)
+    help Check.Replaceable = moves _
+    help (Check.Preparing m) = moves _
+    help (Check.Completing m) = moves _
+    help Check.Stale = moves _
+
+    block : (a : Action) (c : Check) → Turned s p th (blockedAs a c th)
+    block Lookup c = ends
+    block Insert c = help c
+    block Remove c = help c
+    block Split c = ends
+    block Join c = ends
+
+    hook : Turned s p th (hooked (sightOf s .nodes) (s .used) th)
+    hook = fork _ _ _ (fork _ _ _ (tt, λ y z. record { place = refl; owner = refl; main = z .1 }, λ z. absurd (out z)) tt) (ends)
+
+    kill : Turned s p th (Moves (at p1 th) (Settle (th .main) Aborted))
+    kill = (refl, λ y z. absurd z, λ z. absurd (out z))
+
+  -- ---- 26 to 51
+
+  by-found : (o : Probe) → Turned s p th (foundBy o (sightOf s .nodes (th .found)) (s .used) th)
+  by-found (Hit v) = fork _ _ _ (tt, λ y z. absurd (neighbour-main (z .0)), tends _ refl refl refl) tt
+  by-found (Next q) = goes-on _ (quarter-found q) refl refl
+  by-found Miss = goes-on _ refl refl refl
+
+  by-united : (o : Probe) (m : Node) → Turned s p th (unitedBy o m th)
+  by-united (Hit v) m = (tt, λ y z. absurd z, tends _ refl refl refl)
+  by-united (Next q) m = goes-on _ (quarter-united q) refl refl
+  by-united Miss m = goes-on _ refl refl refl
+
+  marks : (r i j : ℕ) → tending (placeOf i) ≡ true → tending (placeOf j) ≡ true → Turned s p th (marking (sightOf s .nodes) r i j th)
+  marks r i j a c = fork _ _ _ (tt, λ y z. absurd z, tends _ a refl refl) (goes-on _ c refl refl)
+
+  grand : (l : Link) → Turned s p th (grandMarking l (sightOf s .nodes) th)
+  grand Nil = goes-on _ refl refl refl
+  grand (To g) = marks g _ _ refl refl
+
+  backs-out : (l : Link) → tending (placeOf (number (backOut l))) ≡ true
+  backs-out Nil = refl
+  backs-out (To g) = refl
+
+  unmarks : (l : Link) → Turned s p th (Moves (at p37 th) (unmark l))
+  unmarks Nil = goes-on _ refl refl refl
+  unmarks (To g) = (tt, λ y z. absurd z, tends _ refl refl refl)
+
+  voids : (l : Link) → Turned s p th (Moves (at p46 th) (invalid l))
+  voids Nil = goes-on _ refl refl refl
+  voids (To g) = (tt, λ y z. absurd z, tends _ refl refl refl)
+
+  at-46 : (l : Link) (m : Node) → Turned s p th (cutAt l m (sightOf s .nodes) (s .root) th)
+  at-46 Nil m = fork _ _ _ (tt, λ y z. absurd z, tends _ refl refl refl) (goes-on _ refl refl refl)
+  at-46 (To g) m = fork _ _ _ (goes-on _ refl refl refl) (goes-on _ refl refl refl)
+
+  at-47 : (d : Bool) (l : Link) (m : Node) → Turned s p th (cutOn d l m (sightOf s .nodes) th)
+  at-47 d Nil m = goes-on _ refl refl refl
+  at-47 d (To g) m = fork _ _ _ (tt, λ y z. absurd z, tends _ refl refl refl) (goes-on _ refl refl refl)
+
+  at-48 : (l : Link) (m : Node) → Turned s p th (cutRight l m (sightOf s .nodes) th)
+  at-48 Nil m = goes-on _ refl refl refl
+  at-48 (To g) m = fork _ _ _ (goes-on _ refl refl refl) (goes-on _ refl refl refl)
+
+  at-50 : (l : Link) → Turned s p th (freeing l (sightOf s .nodes) th)
+  at-50 Nil = goes-on _ refl refl refl
+  at-50 (To g) = fork _ _ _ (tt, λ y z. absurd z, tends _ refl refl refl) (goes-on _ refl refl refl)
+
+  -- the end: the owner's main is aborted or done; a helper owns none
+  settles : (v : Stage) → isOver v ≡ true → isOver (perform (Settle (th .main) v) s .nodes (th .main) .stage) ≡ true
+  settles v h = rw (eq-eqb (th .main) (th .main) refl) h
+
+  end : (e : Effect) → Apt s e → ((y : ℕ) → NewMain e y → ⊥) → isOver (perform e s .nodes (th .main) .stage) ≡ true → Turned s p th (ended e th)
+  end e a n h = either _ _ _ (λ _. (a, n, λ _. h)) (λ o. (a, λ y z. absurd (n y z), λ _ i. absurd (false≢true (sym o ∙ i))))
+
+-- every place
+pub turned : (s : Store) (th : Thread) (p : Place) → Turned s p th (step p (sightOf s) th)
+unfolding step beside cleared blocked
+turned s th nowhere = moves s nowhere th refl th
+turned s th p1 = reach s p1 th refl (s .root)
+turned s th p2 = reach s p2 th refl (childFor (th .station) (sightOf s .nodes (th .route)))
+turned s th p3 = fork s p3 th _ _ _ (ends s p3 th refl) (fork s p3 th _ _ _ (clear s p3 th refl (th .action)) (block s p3 th refl (th .action) (check (sightOf s .nodes) (th .base))))
+turned s th (swap own q) = by-own s (swap own q) th (own-away q) (probe q (s .nodes (th .base) .parent) (sightOf s .nodes) (s .root) (th .base))
+turned s th p15 = help s p15 th refl (check (sightOf s .nodes) (th .base))
+turned s th p16 = fork s p16 th _ _ _ (kill s p16 th refl) (moves s p16 th refl _)
+turned s th p20 = fork s p20 th _ _ _ (moves s p20 th refl _) (moves s p20 th refl _)
+turned s th p21 = fork s p21 th _ _ _ (moves s p21 th refl _) (ends s p21 th refl)
+turned s th p22 = fork s p22 th _ _ _ (moves s p22 th refl _) (moves s p22 th refl _)
+turned s th p23 = fork s p23 th _ _ _ (moves s p23 th refl _) (moves s p23 th refl _)
+turned s th p24 = fork s p24 th _ _ _ (moves s p24 th refl _) (ends s p24 th refl)
+turned s th p25 = hook s p25 th refl
+turned s th (swap found q) = by-found s (swap found q) th (probe q (s .nodes (th .found) .parent) (sightOf s .nodes) (s .root) (th .found))
+turned s th p30 = marks s p30 th _ _ _ refl refl
+turned s th p31 = fork s p31 th _ _ _ (goes-on s p31 th _ refl refl refl) (fork s p31 th _ _ _ (goes-on s p31 th _ refl refl refl) (goes-on s p31 th _ refl refl refl))
+turned s th p32 = fork s p32 th _ _ _ (goes-on s p32 th _ refl refl refl) (fork s p32 th _ _ _ (goes-on s p32 th _ refl refl refl) (goes-on s p32 th _ refl refl refl))
+turned s th p33 = grand s p33 th (th .grandparent)
+turned s th p34 = goes-on s p34 th _ refl refl refl
+turned s th p35 = either s p35 th _ _ _ (λ h. fork s p35 th _ _ _ (h, λ y z. absurd z, tends s p35 th _ refl refl refl) tt)
+    (λ _. goes-on s p35 th _ (backs-out s p35 th (th .grandparent)) refl refl)
+turned s th p36 = unmarks s p36 th (th .grandparent)
+turned s th p37 = (tt, λ y z. absurd z, tends s p37 th _ refl refl refl)
+turned s th p38 = (refl, λ y z. z, λ _. settles s p38 th Aborted refl)
+turned s th p40 = either s p40 th _ _ _ (λ h. end s p40 th Quiet tt (λ y z. z) (done-over (s .nodes (th .main) .stage) h)) (λ _. goes-on s p40 th _ refl refl refl)
+turned s th (swap united q) =
+    by-united s (swap united q) th (probe q (s .nodes (s .nodes (th .main) .neighbour) .parent) (sightOf s .nodes) (s .root) (s .nodes (th .main) .neighbour)) (sightOf s .nodes (th .main))
+turned s th p45 = voids s p45 th (s .nodes (th .main) .parent)
+turned s th p46 = at-46 s p46 th (s .nodes (th .main) .grandparent) (sightOf s .nodes (th .main))
+turned s th p47 = at-47 s p47 th true (s .nodes (th .main) .grandparent) (sightOf s .nodes (th .main))
+turned s th p48 = at-48 s p48 th (s .nodes (th .main) .grandparent) (sightOf s .nodes (th .main))
+turned s th p49 = at-47 s p49 th false (s .nodes (th .main) .grandparent) (sightOf s .nodes (th .main))
+turned s th p50 = at-50 s p50 th (s .nodes (th .main) .grandparent)
+turned s th p51 = end s p51 th (Settle (th .main) Done) refl (λ y z. z) (settles s p51 th Done refl)
