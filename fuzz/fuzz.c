@@ -12,7 +12,7 @@ enum { MOST_RECORDS = 4096, MEMORY = 5 * GUARD_PAGE, BUFFER_MEMORY = 8 * GUARD_P
 typedef void operation(const uint8_t *, size_t, uint8_t *, size_t, uint64_t *);
 
 /* The reference behind the same interface, under names of its own. */
-extern operation reference_run, reference_list, reference_history;
+extern operation reference_run, reference_run_one_writer, reference_list, reference_history;
 extern void reference_judge(const uint8_t *, size_t, uint8_t *, uint64_t *);
 extern void reference_merge(const uint8_t *, size_t, const uint8_t *, size_t, uint8_t *, size_t, uint64_t *);
 
@@ -74,7 +74,7 @@ static void compare_judge(const uint8_t *file, size_t length)
     }
 }
 
-/* Judge on the file, and Run, List and History with buffers just long enough, one byte short and longer. */
+/* Judge on the file, and both runs, List and History with buffers just long enough, one byte short and longer. */
 static void compare_all(const uint8_t *file, size_t length)
 {
     size_t count = length < 3 ? 0 : (size_t)file[1] << 8 | file[2];
@@ -90,6 +90,8 @@ static void compare_all(const uint8_t *file, size_t length)
         compare("History", nuxalder_history, reference_history, NUXALDER_HISTORY_FIELDS, file, length,
                 event_rooms[i], i & 1);
         compare("Run", nuxalder_run, reference_run, NUXALDER_RUN_FIELDS, file, length, row_rooms[i], i & 1);
+        compare("The one-writer run", nuxalder_run_one_writer, reference_run_one_writer, NUXALDER_RUN_FIELDS, file, length,
+                row_rooms[i], i & 1);
         compare("List", nuxalder_list, reference_list, NUXALDER_LIST_FIELDS, file, length, text_rooms[i],
                 i & 1);
     }

@@ -1,9 +1,9 @@
 /* Nuxalder: a turn-by-turn bench for a lock-free contention adapting search tree.
  *
- * Run, List and History take a schedule file as bytes, carry it out on a fresh bench and hand back numbers in
- * `report` and bytes in a buffer that the caller lends; Merge takes two, Judge takes a history. They keep no state
- * between calls, allocate nothing, read no byte outside the files and write no byte outside the buffer and the
- * report. The lent memory must not overlap, and no pointer is null, also where its length is 0.
+ * Run, the one-writer run, List and History take a schedule file as bytes, carry it out on a fresh bench and hand
+ * back numbers in `report` and bytes in a buffer that the caller lends; Merge takes two, Judge takes a history. They
+ * keep no state between calls, allocate nothing, read no byte outside the files and write no byte outside the buffer
+ * and the report. The lent memory must not overlap, and no pointer is null, also where its length is 0.
  *
  * A schedule file: version byte, 1 or 2, two-byte big-endian count, then `count` records of two bytes in version 1,
  * of four in version 2, which has a depth, 0 to 9,999 mm, beside each station. Byte 0 of a record: 16 * thread + action
@@ -32,6 +32,7 @@
  *    6  a text buffer under 4,096 bytes,        13  a swap that needs more node numbers than are left
  *       8,192                                   14  an insert with a depth over 9,999
  * A record is refused in this order: 7, 8; a start then for 9, 14 or 10, 11; a step for 10, 12, 13.
+ * The one-writer run alone: 24 for a start of an insert, remove, split or join on threads 1 to 3, after 8 and before 9.
  * Merge alone, in this order: 1 to 4 for a fault of the first file, then 1 to 4 for one of the second (2: any
  * version but 1), 17 for a thread that is not its file's, 3 for counts that total over 4,096, 18 for an output
  * buffer under 3 + 4 * the smaller count bytes.
@@ -55,13 +56,12 @@
 
 /* The version of this interface. */
 #define NUXALDER_VERSION_MAJOR 1
-#define NUXALDER_VERSION_MINOR 1
+#define NUXALDER_VERSION_MINOR 2
 #define NUXALDER_VERSION_PATCH 0
-#define NUXALDER_VERSION "1.1.0"
+#define NUXALDER_VERSION "1.2.0"
 
 /* The functions may be called from several threads at once, each with its own report and buffers; a schedule
- * or a history may be shared. A call of nuxalder_run, nuxalder_list, nuxalder_merge, nuxalder_history or nuxalder_judge
- * uses at most NUXALDER_STACK bytes of stack. */
+ * or a history may be shared. A call of one of them uses at most NUXALDER_STACK bytes of stack. */
 #define NUXALDER_STACK 65536
 
 /* Sizes of a schedule file, its rows and the bench; DEEP is version 2. */
@@ -114,14 +114,15 @@ enum nuxalder_refusal {
     NUXALDER_REFUSED_OUTPUT_BUFFER = 18,
     NUXALDER_REFUSED_EVENT = 21,
     NUXALDER_REFUSED_OPERATIONS = 22,
-    NUXALDER_REFUSED_UNFINISHED = 23
+    NUXALDER_REFUSED_UNFINISHED = 23,
+    NUXALDER_REFUSED_WRITER = 24
 };
 
 #ifdef __cplusplus
 extern "C" {
 #endif
 
-/* What nuxalder_run writes to report[]. */
+/* What nuxalder_run and nuxalder_run_one_writer write to report[]. */
 enum {
     NUXALDER_RUN_REFUSAL = 0, /* refusal number, 0 for none */
     NUXALDER_RUN_RECORDS = 1, /* records done */
@@ -175,6 +176,20 @@ enum {
 void nuxalder_run(const uint8_t *schedule, size_t schedule_length,
                   uint8_t *rows, size_t rows_length,
                   uint64_t report[NUXALDER_RUN_FIELDS]);
+
+/* The one-writer run, for a collector in which thread 0 alone writes and threads 1 to 3 only look up: as nuxalder_run,
+ * with one refusal more. A record that starts an insert, remove, split or join on threads 1 to 3 is barred: it is
+ * refused with 24, after 7 and 8 and before 9, 10, 11 and 14. So a thread over 3 is 7 and an action over 5 is 8 on
+ * every thread, and a barred start is 24 whatever its station and its depth are and whether or not its thread is busy. A
+ * version other than 1 and 2 is 2, so 3 is. Every thread may look up and step. On refusal 24 the run ends before the
+ * barred record; report, rows and untouched bytes are then as on refusals 7 to 14. A schedule with no barred record
+ * gives what nuxalder_run gives.
+ *
+ * Of every one-writer run it is proved: no swap fails, no join is killed, a split or join that finishes says 1, or 2
+ * where there were too few stations or no parent, and an insert or remove takes at most 68 steps of its thread. */
+void nuxalder_run_one_writer(const uint8_t *schedule, size_t schedule_length,
+                             uint8_t *rows, size_t rows_length,
+                             uint64_t report[NUXALDER_RUN_FIELDS]);
 
 /* Carries out the schedule and lists the tree where the run ended, also after a refused record: a line for
  * each node (level, kind, key or container), then the set; in version 2 a station has its depth, `3=640`. `text` needs
@@ -279,6 +294,7 @@ static inline const char *nuxalder_refusal_words(uint64_t refusal)
     case NUXALDER_REFUSED_EVENT: return "an event out of place";
     case NUXALDER_REFUSED_OPERATIONS: return "more than 12 operations";
     case NUXALDER_REFUSED_UNFINISHED: return "an operation that is not finished";
+    case NUXALDER_REFUSED_WRITER: return "an insert, remove, split or join on threads 1 to 3, where only thread 0 writes";
     default: return "unknown";
     }
 }

@@ -1,6 +1,7 @@
 //! Times Run and List, on files of either version, Run on files of many splits, and Merge of the library and of the reference on the same schedules,
 //! in turn, and prints the medians and their ratio for each size. Buffers are lent as they are, not cleared between calls. Then Judge, on hard
-//! histories. `speed splits` and `speed judge` do only those; `speed search N SEED` looks for harder histories with N tries.
+//! histories, and the one-writer run on files of one writer. `speed splits`, `speed judge` and `speed one-writer` do only those; `speed search N
+//! SEED` looks for harder histories with N tries.
 
 mod judge;
 mod splits;
@@ -72,17 +73,19 @@ fn main() {
         [] => {
             schedules();
             judge::compare();
+            one_writer();
         }
         ["splits"] => {
             heading();
             splits::time();
         }
         ["judge"] => judge::compare(),
+        ["one-writer"] => one_writer(),
         ["search", rounds, seed] => judge::search(
             rounds.parse().expect("a number of tries"),
             seed.parse().expect("a seed"),
         ),
-        _ => panic!("usage: speed [splits | judge | search N SEED]"),
+        _ => panic!("usage: speed [splits | judge | one-writer | search N SEED]"),
     }
 }
 
@@ -125,10 +128,32 @@ fn schedules() {
     }
 }
 
+/// The one-writer run on files of one writer, none of whose records is barred.
+fn one_writer() {
+    println!("the one-writer run, no record barred");
+    heading();
+    let mut rng = Rng::new(SEED);
+    for version in [1, 2] {
+        println!("version {version}");
+        let room = sizes(version)[2];
+        for size in SIZES {
+            let files: Vec<Vec<u8>> = (0..FILES).map(|_| steady(&mut rng, version, size, true)).collect();
+            let (mut rows, mut rows2) = (vec![0; room * size], vec![0; room * size]);
+            compare(
+                "One",
+                size,
+                &files,
+                &mut |file| library::run_one_writer(file, &mut rows).set,
+                &mut |file| reference::run_one_writer(file, &mut rows2).set,
+            );
+        }
+    }
+}
+
 /// Run and List on files of one version and size.
 fn runs_and_lists(version: u8, size: usize, rng: &mut Rng) {
     let [_, _, room, text_room] = sizes(version);
-    let files: Vec<Vec<u8>> = (0..FILES).map(|_| steady(rng, version, size)).collect();
+    let files: Vec<Vec<u8>> = (0..FILES).map(|_| steady(rng, version, size, false)).collect();
     assert!(files
         .iter()
         .all(|file| reference::run(file, &mut vec![0; room * size]).records == size as u64));

@@ -53,8 +53,10 @@ static void file_kept(const uint8_t *copy, const uint8_t *file, size_t length)
           "the schedule was written to");
 }
 
-/* Calls Run with a row buffer of `room` bytes; what the paper leaves alone must be as before. */
-static void call_run(const uint8_t *file, size_t length, size_t room, int at_start)
+typedef void runner(const uint8_t *, size_t, uint8_t *, size_t, uint64_t *);
+
+/* Calls a run with a row buffer of `room` bytes; what the paper leaves alone must be as before. */
+static void call_runner(runner *does, const uint8_t *file, size_t length, size_t room, int at_start)
 {
     const uint8_t *copy = lend_file(file, length, at_start);
     guard_fill(rows_memory);
@@ -62,7 +64,7 @@ static void call_run(const uint8_t *file, size_t length, size_t room, int at_sta
     uint64_t around[NUXALDER_RUN_FIELDS + 2];
     memset(around, 0x5A, sizeof around);
     uint64_t canary = around[0];
-    nuxalder_run(copy, length, buffer, room, around + 1);
+    does(copy, length, buffer, room, around + 1);
     memcpy(run, around + 1, sizeof run);
     rows = buffer;
     check(around[0] == canary && around[NUXALDER_RUN_FIELDS + 1] == canary, "Run wrote outside its report");
@@ -70,6 +72,16 @@ static void call_run(const uint8_t *file, size_t length, size_t room, int at_sta
     size_t written = row * (size_t)run[NUXALDER_RUN_ROWS];
     check(written <= room && guard_kept(rows_memory, buffer, written), "Run touched bytes after its rows");
     file_kept(copy, file, length);
+}
+
+static void call_run(const uint8_t *file, size_t length, size_t room, int at_start)
+{
+    call_runner(nuxalder_run, file, length, room, at_start);
+}
+
+static void call_one_writer(const uint8_t *file, size_t length, size_t room, int at_start)
+{
+    call_runner(nuxalder_run_one_writer, file, length, room, at_start);
 }
 
 /* The same for List with a text buffer of `room` bytes. */
@@ -571,6 +583,81 @@ static void deep_refusals(int at_start)
     }
 }
 
+/* The one-writer run: what it lets through is as Run has it, and 24 comes after 8 and before 9. */
+static void one_writer(int at_start)
+{
+    /* thread 1 looks up; version 1 has no third and fourth byte */
+    static const struct {
+        unsigned first, second, extra, refusal, plain;
+    } cases[] = {
+        {0x12, 9, 0, 24, 24},    {0x13, 9, 0, 24, 24},   {0x14, 9, 0, 24, 24},  {0x15, 9, 0, 24, 24},    {0x22, 9, 0, 24, 24},
+        {0x35, 9, 0, 24, 24},    {0x12, 9, 640, 24, 24}, {0x22, 64, 0, 24, 24}, {0x33, 255, 1, 24, 24},  {0x23, 9, 1, 24, 24},
+        {0x22, 9, 10000, 24, 24}, {0x42, 9, 0, 7, 7},    {0xF5, 9, 0, 7, 7},    {0x46, 9, 0, 7, 7},      {0x06, 9, 0, 8, 8},
+        {0x16, 9, 0, 8, 8},      {0x26, 64, 1, 8, 8},    {0x3F, 9, 0, 8, 8},    {0x11, 9, 0, 11, 11},    {0x21, 64, 0, 9, 9},
+        {0x31, 9, 1, 10, 0},     {0x02, 64, 0, 9, 9},    {0x02, 9, 10000, 14, 0}, {0x03, 9, 1, 10, 0},   {0x20, 0, 0, 12, 12},
+        {0x10, 1, 0, 10, 10},    {0x00, 0, 0, 12, 12},   {0x02, 9, 9999, 0, 0}, {0x05, 9, 0, 0, 0},      {0x21, 9, 0, 0, 0},
+        {0x10, 0, 0, 0, 0},
+    };
+    static struct plan p;
+    static struct deep_plan deep;
+    for (size_t i = 0; i < sizeof cases / sizeof cases[0]; i++) {
+        /* three records are done; the record after the case is refused with 7 in any case */
+        plan_empty(&p);
+        plan_record(&p, 0x11, 9);
+        plan_alone(&p, 3, LOOKUP, 3, 1);
+        plan_record(&p, cases[i].first, cases[i].second);
+        plan_record(&p, 0x40, 0);
+        call_one_writer(p.file, p.length, 2 * plan_count(&p), at_start);
+        /* a lookup of thread 1 that is stepped has its row */
+        uint64_t more = cases[i].first == 0x10 && cases[i].refusal == 0;
+        expect_run("one writer, version 1", cases[i].plain == 0 ? 7 : cases[i].plain, cases[i].plain == 0 ? 4 : 3, 1 + more, 0, 0, 1);
+        expect_row("one writer, version 1", 0, 3, LOOKUP, 3, 0);
+        deep_empty(&deep);
+        deep_record(&deep, 0x11, 9, 0);
+        deep_alone(&deep, 3, LOOKUP, 3, 0, 1);
+        deep_record(&deep, cases[i].first, cases[i].second, cases[i].extra);
+        deep_record(&deep, 0x40, 0, 0);
+        call_one_writer(deep.file, deep.length, 7 * deep_count(&deep), at_start);
+        expect_run("one writer, version 2", cases[i].refusal == 0 ? 7 : cases[i].refusal, cases[i].refusal == 0 ? 4 : 3, 1 + more, 0, 0, 1);
+        expect_deep_row("one writer, version 2", 0, 3, LOOKUP, 3, 0, 0);
+    }
+
+    /* thread 0 writes while the others look up; then thread 2 would write, with buffers of every length around the one needed */
+    plan_printed_run(&p);
+    plan_alone(&p, 1, LOOKUP, 3, 1);
+    plan_alone(&p, 0, JOIN, 3, 21);
+    plan_alone(&p, 0, REMOVE, 3, 3);
+    plan_steps(&p, 1, 1);
+    call_one_writer(p.file, p.length, 2 * plan_count(&p), at_start);
+    expect_run("one writer", 0, 41, 6, bit(9), 1, 10);
+    expect_row("one writer", 3, 0, JOIN, 3, NUXALDER_YES);
+    expect_row("one writer", 5, 1, LOOKUP, 3, NUXALDER_YES);
+    plan_alone(&p, 2, INSERT, 4, 3);
+    size_t need = 2 * plan_count(&p);
+    for (size_t room = need - 3; room <= need + 3; room++) {
+        call_one_writer(p.file, p.length, room, at_start);
+        if (room < need)
+            expect_run("one writer, short row buffer", 5, 0, 0, 0, 0, 0);
+        else
+            expect_run("a second writer", 24, 41, 6, bit(9), 1, 10);
+    }
+    call_run(p.file, p.length, need, at_start);
+    expect_run("a second writer in Run", 0, 45, 7, bit(4) | bit(9), 2, 11);
+
+    /* the refusals of a whole file are Run's */
+    static const struct {
+        uint8_t file[5];
+        size_t length;
+        uint64_t refusal;
+    } headers[] = {{{3, 0}, 2, 1},      {{3, 0, 0}, 3, 2},      {{0, 0, 0}, 3, 2},          {{3, 255, 255}, 3, 2},
+                   {{1, 16, 1}, 3, 3},  {{2, 255, 255}, 3, 3},  {{1, 0, 1, 0x12, 9}, 4, 4}, {{2, 0, 1, 0x12, 9}, 5, 4},
+                   {{1, 0, 1, 0x12, 9}, 5, 5}, {{1, 0, 0}, 3, 0},      {{2, 0, 0}, 3, 0}};
+    for (size_t i = 0; i < sizeof headers / sizeof headers[0]; i++) {
+        call_one_writer(headers[i].file, headers[i].length, 0, at_start);
+        expect_run("one writer, header", headers[i].refusal, 0, 0, 0, 0, headers[i].refusal == 0);
+    }
+}
+
 int main(void)
 {
     schedule_memory = guard_new(MEMORY);
@@ -588,6 +675,7 @@ int main(void)
         depths(at_start);
         deep_lengths(at_start);
         deep_refusals(at_start);
+        one_writer(at_start);
     }
     printf("%lu passed, %lu failed\n", passed, failed);
     return failed == 0 && passed > 0 ? EXIT_SUCCESS : EXIT_FAILURE;

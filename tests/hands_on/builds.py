@@ -1,5 +1,6 @@
 """Builds under test, good and faulty ones, as archives and as shared libraries."""
 
+import functools
 import shutil
 import subprocess
 
@@ -15,11 +16,12 @@ def _run(*command):
     subprocess.run([str(word) for word in command], check=True, cwd=FOLDER)
 
 
+@functools.lru_cache(None)
 def make():
-    """Makes them all; gives the path of each by its name, as wrong.a or wrong.so."""
+    """Makes them all, once; gives the path of each by its name, as wrong.a or wrong.so."""
     shutil.rmtree(FOLDER, ignore_errors=True)
     FOLDER.mkdir(parents=True)
-    renamed = [f"--redefine-sym=nuxalder_{name}=own_{name}" for name in ("run", "list", "merge")]
+    renamed = [f"--redefine-sym=nuxalder_{name}=own_{name}" for name in ("run", "run_one_writer", "list", "merge")]
     _run("objcopy", *renamed, bench.library_module.own(), "own.a")
     _run("ld", "-r", "--whole-archive", "own.a", "-o", "own.o")
     compiled = ("cc", "-O1", "-fPIC", "-I", ROOT / "include", "-c", ROOT / "tests" / "hands_on" / "vendor.c")

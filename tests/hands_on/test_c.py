@@ -42,6 +42,23 @@ int main(void) {
 """
 
 
+# Calls both runs, from the installed files.
+CALLS = """#include <nuxalder.h>
+#include <stdio.h>
+int main(void) {
+    const uint8_t schedule[] = {NUXALDER_FILE_VERSION, 0, 2, NUXALDER_FIRST_BYTE(1, NUXALDER_LOOKUP), 9,
+                                NUXALDER_FIRST_BYTE(2, NUXALDER_INSERT), 9};
+    uint8_t rows[NUXALDER_ROWS_BUFFER];
+    uint64_t report[NUXALDER_RUN_FIELDS];
+    nuxalder_run(schedule, sizeof schedule, rows, sizeof rows, report);
+    printf("%d %s\\n", (int)report[NUXALDER_RUN_RECORDS], nuxalder_refusal_words(report[NUXALDER_RUN_REFUSAL]));
+    nuxalder_run_one_writer(schedule, sizeof schedule, rows, sizeof rows, report);
+    printf("%d %s\\n", (int)report[NUXALDER_RUN_RECORDS], nuxalder_refusal_words(report[NUXALDER_RUN_REFUSAL]));
+    return report[NUXALDER_RUN_REFUSAL] != NUXALDER_REFUSED_WRITER;
+}
+"""
+
+
 def run(*command, env=None, cwd=None):
     ran = subprocess.run([str(word) for word in command], capture_output=True, text=True, env={**os.environ, **(env or {})}, cwd=cwd)
     return ran.returncode, ran.stdout, ran.stderr
@@ -102,6 +119,11 @@ def install(checks):
     status, _, err = run("cc", "-std=c99", *STRICT, EXAMPLE, *words, "-o", HOME / "step")
     checks.equal("the example is built from the installed files", (status, err), (0, ""))
     checks.equal("and prints", run(HOME / "step"), (0, PRINTS, ""))
+    calls = HOME / "calls.c"
+    calls.write_text(CALLS)
+    built = run("cc", "-std=c99", *STRICT, calls, *words, "-o", HOME / "calls")
+    checks.equal("a program with both runs is built from them", built, (0, "", ""))
+    checks.equal("and they differ in 24", run(HOME / "calls"), (0, f"2 not refused\n1 {bench.REFUSALS[24]}\n", ""))
     code = EXAMPLE.read_text()
     checks.that(f"it has at most {LINES_MOST} lines", len(code.splitlines()) <= LINES_MOST)
     readme = (ROOT / "README.md").read_text()
@@ -125,8 +147,9 @@ def threads(checks):
     checks.that("and merges that are not refused", told["merged"] >= 50, out)
     checks.that("and runs written as histories", told["written"] >= 50, out)
     checks.that("and histories of both verdicts", len(files) // 2 <= told["accepted"] < len(files), out)
+    checks.that("and one-writer runs that end at a barred record, and others", 20 <= told["barred"] < len(files), out)
     stack = int(re.search(r"#define NUXALDER_STACK (\d+)", HEADER.read_text())[1])
-    most = max(told[name] for name in ("run", "list", "merge", "history", "judge"))
+    most = max(told[name] for name in ("run", "one-writer", "list", "merge", "history", "judge"))
     # A tree of 63 levels, the deepest there can be, is a few frames deeper than the one measured.
     checks.that(f"the stack used is what the header says: {out.strip()}", stack / 4 < most and most + 2048 < stack)
     checks.that("the header says that threads may call", "from several threads at once" in HEADER.read_text())

@@ -36,6 +36,8 @@ FIGURES = {
     "refused-12-idle": ["refused 12: a step of an idle thread"],
     "refused-13-numbers": ["turn 1024  t0 step         refused 13", "records 1023 of 1024 refusal 13"],
     "refused-3-count": ["refused 3: a count over 4,096"],
+    "one-writer-deep": ["turn 4079  t0 step         insert 5, own step 64, row: t0 insert 5 no"],
+    "second-writer": ["own step 2, row: t1 lookup 9 yes", "own step 6, row: t3 insert 20 yes"],
 }
 
 # Bytes that 01 gives for a file.

@@ -9,6 +9,7 @@
 enum { GOOD, WRONG, CRASH, HANG, QUIT, CHATTY, SCRIBBLE, LIAR, LATE, DEEP };
 
 void own_run(const uint8_t *, size_t, uint8_t *, size_t, uint64_t *);
+void own_run_one_writer(const uint8_t *, size_t, uint8_t *, size_t, uint64_t *);
 void own_list(const uint8_t *, size_t, uint8_t *, size_t, uint64_t *);
 void own_merge(const uint8_t *, size_t, const uint8_t *, size_t, uint8_t *, size_t, uint64_t *);
 
@@ -31,6 +32,14 @@ void nuxalder_run(const uint8_t *schedule, size_t length, uint8_t *rows, size_t 
 }
 
 #ifndef NO_LIST
+void nuxalder_run_one_writer(const uint8_t *schedule, size_t length, uint8_t *rows, size_t room, uint64_t *report)
+{
+    own_run_one_writer(schedule, length, rows, room, report);
+    if (FAULT == WRONG && report[NUXALDER_RUN_REFUSAL] == NUXALDER_REFUSED_WRITER) report[NUXALDER_RUN_REFUSAL] = 12;
+    if (FAULT == CRASH) abort();
+    if (FAULT == SCRIBBLE) rows[room - 1] = 1;
+}
+
 void nuxalder_list(const uint8_t *schedule, size_t length, uint8_t *text, size_t room, uint64_t *report)
 {
     own_list(schedule, length, text, room, report);

@@ -61,11 +61,12 @@ def _prune():
         path.unlink(missing_ok=True)
 
 
-def helper(source, path):
-    """The program of tools/lib/SOURCE linked with the library at `path`; made anew where one of them has other bytes."""
+def helper(source, path, *defined):
+    """The program of tools/lib/SOURCE, with these names defined, linked with the library at `path`; made anew where one of
+    them has other bytes."""
     compiler = shlex.split(os.environ.get("CC") or "cc")
     code = HERE / source
-    mark = hashlib.sha256(repr((str(path), compiler, os.environ.get("LDLIBS"))).encode())
+    mark = hashlib.sha256(repr((str(path), compiler, os.environ.get("LDLIBS"), *defined)).encode())
     for part in (code, HEADER, path):
         mark.update(hashlib.sha256(part.read_bytes()).digest())
     program = HELPERS / f"{code.stem}-{mark.hexdigest()[:16]}"
@@ -74,7 +75,7 @@ def helper(source, path):
     HELPERS.mkdir(parents=True, exist_ok=True)
     words = _link_words(path, HELPERS / f"{program.name}.so")
     made = program.with_name(f"{program.name}.{os.getpid()}")
-    command = [*compiler, "-O2", "-I", str(HEADER.parent), str(code), *words, "-o", str(made)]
+    command = [*compiler, "-O2", *(f"-D{name}" for name in defined), "-I", str(HEADER.parent), str(code), *words, "-o", str(made)]
     try:
         status, _, said = communicate(command, b"")
         if status:
@@ -102,10 +103,11 @@ def _parts(out):
         yield word, numbers, text
 
 
-def ask(path, file, first, last, limit=None, scan=False):
-    """The parts that turns.c gives for a file and its turns `first` to `last`, the end left out."""
+def ask(path, file, first, last, limit=None, scan=False, one_writer=False):
+    """The parts that turns.c gives for a file and its turns `first` to `last`, the end left out; of the one-writer run if asked."""
     words = [str(first), str(last), *(["scan"] if scan else [])]
-    status, out, err = communicate([helper("turns.c", path), *words], file, limit)
+    program = helper("turns.c", path, *(["ONE_WRITER"] if one_writer else []))
+    status, out, err = communicate([program, *words], file, limit)
     parts = list(_parts(out))
     if parts and parts[-1][0] == "end" and status == 0:
         return parts[:-1]

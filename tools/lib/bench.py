@@ -38,6 +38,7 @@ REFUSALS = {
     21: "an event out of place",
     22: "more than 12 operations",
     23: "an operation that is not finished",
+    24: "an insert, remove, split or join on threads 1 to 3, where only thread 0 writes",
 }
 # What they say of a file of one version, and for version 2 what would be right.
 OF_VERSION = {
@@ -122,15 +123,16 @@ def row_of(thread, action, station, answer, *more):
     return Row(f"t{thread} {ACTIONS[action]} {station} {'yes' if answer == YES else 'no'}{found}", answer, reason)
 
 
-def answers(file, first=0, last=None, path=None, limit=None):
+def answers(file, first=0, last=None, path=None, limit=None, one_writer=False):
     """The Run of a file with its turns `first` to `last` (the last record carried out if none is given).
 
-    The library at `path` is asked, or the one that `library` finds, for so many seconds at most."""
+    The library at `path` is asked, or the one that `library` finds, for so many seconds at most; for the one-writer run
+    where that is wanted."""
     if len(file) >= FILE_MOST:
         raise BenchError(f"the file has {len(file)} bytes, far more than any schedule")
     run, turn = None, None
     last = len(file) if last is None else last
-    for word, numbers, text in asking.ask(path or library(), file, first, last, limit):
+    for word, numbers, text in asking.ask(path or library(), file, first, last, limit, one_writer=one_writer):
         if word == "whole":
             refusal, records, stored, used = numbers
             turn = Turn(records, stored, used)
@@ -145,9 +147,9 @@ def answers(file, first=0, last=None, path=None, limit=None):
     return run
 
 
-def printed_by_library(file, path=None, limit=None):
+def printed_by_library(file, path=None, limit=None, one_writer=False):
     """The printed run of 01, put together from the library's answers for the whole file."""
-    run = answers(file, 1, 0, path, limit)
+    run = answers(file, 1, 0, path, limit, one_writer)
     if run.refusal in FILE_REFUSALS:
         return f"records 0 of 0 refusal {run.refusal}\n"
     whole = run.whole

@@ -20,11 +20,11 @@ def _changes(turns, value):
     return changes
 
 
-def page_data(file, name, where=""):
+def page_data(file, name, where="", one_writer=False):
     """What the page shows, as plain lists: the library's answers, stored only where they change.
 
     `where` is the place of the refused record in the text, where there is one."""
-    run = bench.answers(file)
+    run = bench.answers(file, one_writer=one_writer)
     records = records_of(file)
     deeds = story.deeds_of(records[: run.whole.number])
     return {
@@ -43,8 +43,8 @@ def page_data(file, name, where=""):
     }
 
 
-def page_html(file, name, where=""):
-    data = json.dumps(page_data(file, name, where), separators=(",", ":")).replace("<", "\\u003c")
+def page_html(file, name, where="", one_writer=False):
+    data = json.dumps(page_data(file, name, where, one_writer), separators=(",", ":")).replace("<", "\\u003c")
     html = (PARTS / "page.html").read_text()
     for mark, text in (
         ("/* STYLE */", (PARTS / "page.css").read_text()),

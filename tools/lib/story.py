@@ -76,9 +76,9 @@ def _counts_line(turn):
     return f"stored {turn.stored} used {turn.used}"
 
 
-def trace_lines(file):
+def trace_lines(file, one_writer=False):
     """The whole run."""
-    run = bench.answers(file)
+    run = bench.answers(file, one_writer=one_writer)
     if not run.turns:
         yield refusal_text(run.refusal, file)
         return
@@ -109,9 +109,9 @@ def _open_operations(deeds, rows):
     return [f"t{thread} {last[thread].operation}" for thread in sorted(last) if starts[thread]]
 
 
-def turn_lines(file, number):
+def turn_lines(file, number, one_writer=False):
     """One turn: its record and row, the operations open after it, and the whole listing, new lines marked."""
-    run = bench.answers(file, max(number - 1, 0), max(number, 0))
+    run = bench.answers(file, max(number - 1, 0), max(number, 0), one_writer=one_writer)
     records = records_of(file)
     done = run.whole.number
     last = done + (1 if run.refusal else 0)

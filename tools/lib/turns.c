@@ -15,6 +15,9 @@
  * With `scan` the whole file is not asked for, so that a build that comes to grief on it is followed up to there. A
  * turn that the library refuses ends the scan with the line `refused REFUSAL RECORDS`.
  *
+ * Built with ONE_WRITER it asks nuxalder_run_one_writer in place of nuxalder_run. List knows no barred record, so where one
+ * ended the run it is asked for the file cut before it.
+ *
  * The library may be a build under test, so nothing it hands back is believed that would lead out of a buffer,
  * and what it prints itself goes to standard error. A line that starts with "turns: " there says what is wrong.
  */
@@ -26,6 +29,14 @@
 #include "nuxalder.h"
 
 enum { RECORDS_MOST = 4096, HEADER = 3, FILE_ROOM = 1 << 18, ACTIONS = 6, THREADS = 4, UNTOUCHED = 0xA5 };
+
+#ifdef ONE_WRITER
+#define RUN nuxalder_run_one_writer
+#define IS_BARRED(refusal) ((refusal) == NUXALDER_REFUSED_WRITER)
+#else
+#define RUN nuxalder_run
+#define IS_BARRED(refusal) 0
+#endif
 
 /* What the versions of a schedule file differ in: bytes of a record, of a row, of both buffers. */
 struct sizes { size_t record, row, rows, text; };
@@ -60,7 +71,7 @@ static void run(size_t length) {
 
     memset(rows, UNTOUCHED, is->rows);
     memset(report, 0xFF, sizeof report);
-    nuxalder_run(schedule, length, rows, is->rows, report);
+    RUN(schedule, length, rows, is->rows, report);
     if (report[NUXALDER_RUN_RECORDS] > RECORDS_MOST) fail("more records done than a schedule holds");
     if (report[NUXALDER_RUN_ROWS] > is->rows / is->row) fail("more rows than the row buffer holds");
     if (!untouched(rows, (size_t)report[NUXALDER_RUN_ROWS] * is->row, is->rows)) fail("bytes after the rows were written");
@@ -87,10 +98,17 @@ static void print_row(const uint8_t *row) {
     putc('\n', out);
 }
 
+/* Cuts the file to its first n records; gives its length. */
+static size_t cut(size_t n) {
+    schedule[1] = (uint8_t)(n >> 8);
+    schedule[2] = (uint8_t)n;
+    return HEADER + is->record * n;
+}
+
 /* Prints the stored count and the numbers used of the last run, its rows after the first `rows_before` and,
  * unless it is the text of length `text_before` in the other buffer, the listing. Gives the listing's length. */
 static size_t print_state(size_t length, uint64_t rows_before, size_t text_before, int at) {
-    uint64_t list[NUXALDER_LIST_FIELDS] = {UINT64_MAX, UINT64_MAX}, i;
+    uint64_t list[NUXALDER_LIST_FIELDS] = {UINT64_MAX, UINT64_MAX}, refusal = report[NUXALDER_RUN_REFUSAL], i;
     size_t text_now;
 
     print_number(" ", report[NUXALDER_RUN_STORED]);
@@ -99,8 +117,12 @@ static size_t print_state(size_t length, uint64_t rows_before, size_t text_befor
     for (i = rows_before; i < report[NUXALDER_RUN_ROWS]; i++) print_row(rows + is->row * i);
 
     memset(text[at], UNTOUCHED, is->text);
+    if (IS_BARRED(refusal)) {
+        length = cut((size_t)report[NUXALDER_RUN_RECORDS]);
+        refusal = 0;
+    }
     nuxalder_list(schedule, length, text[at], is->text, list);
-    if (list[NUXALDER_LIST_REFUSAL] != report[NUXALDER_RUN_REFUSAL]) fail("run and list give different refusals");
+    if (list[NUXALDER_LIST_REFUSAL] != refusal) fail("run and list give different refusals");
     if (list[NUXALDER_LIST_LENGTH] > is->text) fail("a listing longer than its buffer");
     text_now = (size_t)list[NUXALDER_LIST_LENGTH];
     if (!untouched(text[at], text_now, is->text)) fail("bytes after the listing were written");
@@ -144,9 +166,7 @@ int main(int argc, char **argv) {
     if (!scan) whole(length, &to);
 
     for (n = from; n <= to; n++, at = !at) {
-        length = HEADER + is->record * n;
-        schedule[1] = (uint8_t)(n >> 8);
-        schedule[2] = (uint8_t)n;
+        length = cut(n);
         run(length);
         if (scan && report[NUXALDER_RUN_REFUSAL] != 0) {
             print_number("refused ", report[NUXALDER_RUN_REFUSAL]);

@@ -1,7 +1,8 @@
-// Run, List, Merge, History and Judge for a C host; include/nuxalder.h says what each number means.
+// Run, the one-writer run, List, Merge, History and Judge for a C host; include/nuxalder.h says what each number means.
 ghost use mathlib.Core.Path.{_≡_};
 ghost use lib.ListN.{length};
 ghost use Rattle.definitions.specs.Run.{runReport, runBuffer};
+ghost use Rattle.definitions.specs.Profile.{profileReport, profileBuffer};
 ghost use Rattle.definitions.specs.Listing.{listReport, listBuffer};
 ghost use Rattle.definitions.specs.Merge.{mergeReport, mergeBuffer};
 ghost use Rattle.definitions.specs.Written.{writtenReport, writtenBuffer};
@@ -16,6 +17,15 @@ pub extern "C" fn nuxalder_run(schedule: &[u8], rows: &mut [u8], report: &mut [u
 {
     let r = run::run(schedule, rows);
     *report = [r.refusal, r.records, r.rows, r.set, r.stored, r.used];
+}
+
+// void nuxalder_run_one_writer(const uint8_t *schedule, size_t length, uint8_t *rows, size_t length, uint64_t report[6])
+#[no_mangle]
+pub extern "C" fn nuxalder_run_one_writer(schedule: &[u8], rows: &mut [u8], report: &mut [u64; 6])
+    ensures { λ _. ⌜ (now (report .exit) ≡ runFields (profileReport (now (schedule .entry)) (length (now (rows .entry))))) × (now (rows .exit) ≡ profileBuffer (now (schedule .entry)) (now (rows .entry))) ⌝ }
+{
+    let p = writer::run(schedule, rows);
+    *report = [p.refusal, p.records, p.rows, p.set, p.stored, p.used];
 }
 
 // void nuxalder_list(const uint8_t *schedule, size_t length, uint8_t *text, size_t length, uint64_t report[2])

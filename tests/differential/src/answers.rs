@@ -161,7 +161,7 @@ pub fn check(file: &[u8], ways: &mut Ways) -> Result<(), String> {
             extra: bytes.get(2..4).map_or(0, |last| u16::from_be_bytes([last[0], last[1]])),
         };
         let thread = record.thread().min(THREADS - 1);
-        let (place, used) = (bench.place(thread), bench.used());
+        let (place, used, lost) = (bench.place(thread), bench.used(), bench.lost());
         ways.places(&bench);
         let result = bench.record(record.first, record.second, record.extra);
         match result {
@@ -181,6 +181,9 @@ pub fn check(file: &[u8], ways: &mut Ways) -> Result<(), String> {
                 }
             }
             Err(number) => ways.refused(number, record, place > 0),
+        }
+        if bench.lost() > lost {
+            ways.lost(place);
         }
         let (set, depths) = bench.held();
         for (station, &expected) in plain.table.iter().enumerate() {

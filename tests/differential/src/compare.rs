@@ -10,13 +10,22 @@ use std::ops::Range;
 /// The most a buffer is longer than it need be.
 const SLACK: usize = 300;
 
+/// Run, or the one-writer run.
+#[derive(Clone, Copy)]
+enum Which {
+    Run,
+    OneWriter,
+}
+
 /// The memory lent to the library and its twins for the reference.
 pub struct Comparer {
     file: Guarded,
     buffer: Guarded,
     twin: Vec<u8>,
-    /// What the reference reached, in files of version 2 and in all others.
+    /// What the reference's Run reached, in files of version 2 and in all others.
     pub counters: [Counter; 2],
+    /// What its one-writer run reached in the files given to `one_writer`, likewise.
+    pub one_writer: [Counter; 2],
     /// Records carried out, each file counted once.
     pub records: u64,
 }
@@ -29,20 +38,17 @@ impl Comparer {
             buffer: Guarded::new(sizes(2)[2] * MAX_RECORDS + SLACK),
             twin: Vec::new(),
             counters: [Counter::new(), Counter::new()],
+            one_writer: [Counter::new(), Counter::new()],
             records: 0,
         }
     }
 
-    /// Compares Run, List and History on a file, with buffers of several lengths; the first difference ends it.
+    /// Compares the runs, List and History on a file, with buffers of several lengths; the first difference ends it.
     pub fn file(&mut self, file: &[u8], rng: &mut Rng) -> Result<(), String> {
         let [_, _, room, text] = sizes(file.first().copied().unwrap_or(0));
         let need = room * claimed(file);
-        self.run(file, need, rng, true)?;
-        self.run(file, need + 1 + rng.below(SLACK), rng, false)?;
-        if need > 0 {
-            self.run(file, need - 1, rng, false)?;
-            self.run(file, rng.below(need), rng, false)?;
-        }
+        self.rooms(Which::Run, file, rng)?;
+        self.run(Which::OneWriter, file, need, rng, false)?;
         self.list(file, text, rng)?;
         self.list(file, text + 1 + rng.below(SLACK), rng)?;
         self.list(file, text - 1, rng)?;
@@ -54,13 +60,36 @@ impl Comparer {
         self.history(file, rng.below(need), rng)
     }
 
-    fn run(&mut self, file: &[u8], room: usize, rng: &mut Rng, counts: bool) -> Result<(), String> {
-        let mut ignored = Counter::new();
-        let counter = if counts {
-            &mut self.counters[version_index(file)]
-        } else {
-            &mut ignored
+    /// Compares the one-writer run on a file, with buffers of several lengths.
+    pub fn one_writer(&mut self, file: &[u8], rng: &mut Rng) -> Result<(), String> {
+        self.rooms(Which::OneWriter, file, rng)
+    }
+
+    /// One of the runs with a row buffer that is just long enough, longer, one byte short and shorter.
+    fn rooms(&mut self, which: Which, file: &[u8], rng: &mut Rng) -> Result<(), String> {
+        let need = sizes(file.first().copied().unwrap_or(0))[2] * claimed(file);
+        self.run(which, file, need, rng, true)?;
+        self.run(which, file, need + 1 + rng.below(SLACK), rng, false)?;
+        if need > 0 {
+            self.run(which, file, need - 1, rng, false)?;
+            self.run(which, file, rng.below(need), rng, false)?;
+        }
+        Ok(())
+    }
+
+    fn run(
+        &mut self,
+        which: Which,
+        file: &[u8],
+        room: usize,
+        rng: &mut Rng,
+        counts: bool,
+    ) -> Result<(), String> {
+        let counters = match which {
+            Which::Run => &mut self.counters,
+            Which::OneWriter => &mut self.one_writer,
         };
+        let reached = &mut counters[version_index(file)];
         let place = prepare(
             &mut self.file,
             &mut self.buffer,
@@ -69,15 +98,25 @@ impl Comparer {
             room,
             rng,
         );
-        let expected = reference::run_observed(file, &mut self.twin[place.twin.clone()], counter);
+        let twin = &mut self.twin[place.twin.clone()];
         let lent = &mut self.buffer.bytes_mut()[place.buffer.clone()];
-        let got = library::run(&self.file.bytes()[place.file.clone()], lent);
+        let copy = &self.file.bytes()[place.file.clone()];
+        let (name, got) = match which {
+            Which::Run => ("Run", library::run(copy, lent)),
+            Which::OneWriter => ("the one-writer run", library::run_one_writer(copy, lent)),
+        };
+        let expected = match (which, counts) {
+            (Which::Run, true) => reference::run_observed(file, twin, reached),
+            (Which::Run, false) => reference::run(file, twin),
+            (Which::OneWriter, true) => reference::run_one_writer_observed(file, twin, reached),
+            (Which::OneWriter, false) => reference::run_one_writer(file, twin),
+        };
         if counts {
             self.records += expected.records;
         } else if expected.refusal == 5 {
-            self.counters[version_index(file)].refusal(5, 0);
+            reached.refusal(5, 0);
         }
-        self.judge("Run", room, file, place, (got, expected))
+        self.judge(name, room, file, place, (got, expected))
     }
 
     fn list(&mut self, file: &[u8], room: usize, rng: &mut Rng) -> Result<(), String> {

@@ -2,7 +2,7 @@
 //! refusal; what must be reached.
 
 use reference::{
-    Counter, ACTIONS, ANSWERS, CHECKS, INSERT, JOIN, PLACES, PLACE_LIMIT, REFUSALS, REMOVE, SPLIT,
+    Counter, ACTIONS, ANSWERS, CHECKS, INSERT, JOIN, PLACES, PLACE_LIMIT, REMOVE, SPLIT,
 };
 
 /// The swaps that need new node numbers and can be short of them.
@@ -54,6 +54,9 @@ const TURNS: [(u8, u8, &str); 24] = [
     (51, 0, "the owner ends the join"),
     (51, 1, "a helper ends the join"),
 ];
+
+/// The refusals of Run and, with the text buffer, of List.
+const REFUSALS: std::ops::RangeInclusive<u8> = 1..=14;
 
 /// Refusals that a version's files cannot get: depths come with version 2, and a file of version 2 has no other.
 const NEVER: [&[u8]; 2] = [&[14], &[2]];
@@ -109,7 +112,7 @@ pub fn report(index: usize, counter: &Counter) -> Vec<String> {
         }
     }
     println!("refusal    reached");
-    for number in (1..REFUSALS as u8).filter(|number| !NEVER[index].contains(number)) {
+    for number in REFUSALS.filter(|number| !NEVER[index].contains(number)) {
         println!(
             "{number:7} {:10}",
             need(counter.refusals(number), format!("refusal {number}"))

@@ -8,6 +8,7 @@ pub mod histories;
 pub mod library;
 pub mod merges;
 pub mod plan;
+pub mod profiles;
 pub mod random;
 pub mod rng;
 pub mod systematic;

@@ -10,6 +10,13 @@ extern "C" {
         rows_length: usize,
         report: *mut u64,
     );
+    fn nuxalder_run_one_writer(
+        file: *const u8,
+        length: usize,
+        rows: *mut u8,
+        rows_length: usize,
+        report: *mut u64,
+    );
     fn nuxalder_list(
         file: *const u8,
         length: usize,
@@ -65,9 +72,7 @@ fn call<const N: usize, const WORDS: usize>(
     std::array::from_fn(|i| words[i + 1])
 }
 
-#[inline]
-pub fn run(file: &[u8], rows: &mut [u8]) -> RunReport {
-    let [refusal, records, rows, set, stored, used] = call::<6, 8>(nuxalder_run, file, rows);
+fn report([refusal, records, rows, set, stored, used]: [u64; 6]) -> RunReport {
     RunReport {
         refusal,
         records,
@@ -76,6 +81,16 @@ pub fn run(file: &[u8], rows: &mut [u8]) -> RunReport {
         stored,
         used,
     }
+}
+
+#[inline]
+pub fn run(file: &[u8], rows: &mut [u8]) -> RunReport {
+    report(call::<6, 8>(nuxalder_run, file, rows))
+}
+
+#[inline]
+pub fn run_one_writer(file: &[u8], rows: &mut [u8]) -> RunReport {
+    report(call::<6, 8>(nuxalder_run_one_writer, file, rows))
 }
 
 #[inline]

@@ -1,14 +1,15 @@
 //! Compares the library with the reference and prints what was covered.
 //!
 //! `differential [--files N] [--records N] [--seed S] [--first] [--trace] [--write PATH]`: pairs of files to merge, N
-//! of them at random, and histories; then the systematic files of both versions, then random ones until there are N
-//! files and N records carried out. `--first` ends at the first difference and looks for nothing else: no rule is
+//! of them at random, and histories; then files for the one-writer run, N / 4 of them at random; then the systematic files of
+//! both versions, then random ones until there are N files and N records carried out. `--first` ends at the first difference and looks for nothing else: no rule is
 //! checked of the reference. `--trace` names each file before it is run; `--write` puts them all into one file, each
 //! after its length in four bytes, the low one first.
 
 use differential::compare::Comparer;
 use differential::histories::Histories;
 use differential::merges::Merger;
+use differential::profiles::Profiles;
 use differential::rng::Rng;
 use differential::ways::Ways;
 use differential::{answers, coverage, random, systematic};
@@ -64,6 +65,7 @@ fn options() -> Result<Options, String> {
 struct Session {
     comparer: Comparer,
     ways: Ways,
+    profiles: Profiles,
     histories: Histories,
     rng: Rng,
     first: bool,
@@ -75,24 +77,44 @@ struct Session {
 
 impl Session {
     fn file(&mut self, name: &str, file: &[u8]) {
-        let number = self.passed + self.failed;
         if self.failed == MOST_FAILURES {
             return;
         }
+        self.begin(name, file);
+        let mut rule = Ok(());
+        if !self.first {
+            self.histories.run_of(file, &mut self.rng);
+            rule = answers::check(file, &mut self.ways);
+        }
+        let compared = rule.and_then(|()| self.comparer.file(file, &mut self.rng));
+        self.end(name, file, compared);
+    }
+
+    /// A file for the one-writer run.
+    fn one_writer(&mut self, name: &str, file: &[u8]) {
+        if self.failed == MOST_FAILURES {
+            return;
+        }
+        self.begin(name, file);
+        let rule = if self.first { Ok(()) } else { self.profiles.check(file) };
+        let compared = rule.and_then(|()| self.comparer.one_writer(file, &mut self.rng));
+        self.end(name, file, compared);
+    }
+
+    fn begin(&mut self, name: &str, file: &[u8]) {
         if self.trace {
-            println!("file {number} ({name}), {} bytes", file.len());
+            println!("file {} ({name}), {} bytes", self.passed + self.failed, file.len());
         }
         if let Some(out) = &mut self.written {
             let length = (file.len() as u32).to_le_bytes();
             let put = out.write_all(&length).and_then(|()| out.write_all(file));
             put.expect("the files cannot be written");
         }
-        let mut rule = Ok(());
-        if !self.first {
-            self.histories.run_of(file, &mut self.rng);
-            rule = answers::check(file, &mut self.ways);
-        }
-        match rule.and_then(|()| self.comparer.file(file, &mut self.rng)) {
+    }
+
+    fn end(&mut self, name: &str, file: &[u8], compared: Result<(), String>) {
+        let number = self.passed + self.failed;
+        match compared {
             Ok(()) => self.passed += 1,
             Err(why) => {
                 self.failed += 1;
@@ -139,6 +161,7 @@ fn main() -> ExitCode {
     let mut session = Session {
         comparer: Comparer::new(random::LONGEST_FILE),
         ways: Ways::default(),
+        profiles: Profiles::default(),
         histories: Histories::new(),
         rng: Rng::new(!options.seed),
         first: options.first,
@@ -173,6 +196,13 @@ fn main() -> ExitCode {
     if options.first {
         session.tell_histories();
     }
+    let before = session.passed + session.failed;
+    Profiles::each(&mut |name, file| session.one_writer(name, &file));
+    for _ in 0..options.files / 4 {
+        let (name, file) = Profiles::random(&mut rng);
+        session.one_writer(name, &file);
+    }
+    println!("{} files for the one-writer run", session.passed + session.failed - before);
     if options.first {
         // a few of all kinds find most differences
         let mut number = 0;
@@ -185,11 +215,11 @@ fn main() -> ExitCode {
             });
         }
     }
-    let merged = session.passed + session.failed;
+    let before = session.passed + session.failed;
     for version in [1, 2] {
         systematic::each(version, &mut |name, file| session.file(name, &file));
     }
-    let systematic = session.passed + session.failed - merged;
+    let systematic = session.passed + session.failed - before;
     let mut files = 0;
     while (files < options.files || session.comparer.records < options.records)
         && session.failed < MOST_FAILURES
@@ -203,6 +233,7 @@ fn main() -> ExitCode {
     for (index, counter) in session.comparer.counters.iter().enumerate() {
         missing.extend(coverage::report(index, counter));
     }
+    missing.extend(session.profiles.report(&session.comparer.one_writer));
     missing.extend(merger.missing());
     missing.extend(session.histories.report());
     for what in &missing {

@@ -37,8 +37,8 @@ pub fn file(rng: &mut Rng) -> (&'static str, Vec<u8>) {
     }
 }
 
-/// An unrefused file of exactly `count` records, for the benchmark.
-pub fn steady(rng: &mut Rng, version: u8, count: usize) -> Vec<u8> {
+/// An unrefused file of exactly `count` records, for the benchmark; with one writer if asked.
+pub fn steady(rng: &mut Rng, version: u8, count: usize, one_writer: bool) -> Vec<u8> {
     let mut plan = Plan::new(version);
     let style = Style {
         order: Order::Burst,
@@ -46,6 +46,7 @@ pub fn steady(rng: &mut Rng, version: u8, count: usize) -> Vec<u8> {
         mix: MIXES[0],
         stations: !0,
         spare: 16,
+        one_writer,
     };
     turns(&mut plan, rng, &style, count);
     plan.file()
@@ -88,6 +89,8 @@ struct Style {
     stations: u64,
     /// Only lookups are started once fewer node numbers are left.
     spare: usize,
+    /// Only thread 0 starts anything else.
+    one_writer: bool,
 }
 
 impl Style {
@@ -104,11 +107,12 @@ impl Style {
             mix: rng.pick(&MIXES),
             stations,
             spare: rng.pick(&[0, 16, 16, 100, 200]),
+            one_writer: false,
         }
     }
 
     fn start(&self, plan: &mut Plan, rng: &mut Rng, thread: u8) {
-        let action = if plan.left() < self.spare {
+        let action = if plan.left() < self.spare || self.one_writer && thread > 0 {
             LOOKUP
         } else {
             1 + rng.weighted(&self.mix) as u8
@@ -243,6 +247,35 @@ fn short_of_numbers(rng: &mut Rng, version: u8) -> Vec<u8> {
         ..Style::random(rng)
     };
     let count = plan.count() + rng.below(400);
+    turns(&mut plan, rng, &style, count);
+    plan.file()
+}
+
+/// A file in which thread 0 alone writes, while others look up.
+pub fn one_writer(rng: &mut Rng) -> Vec<u8> {
+    let mut plan = Plan::new(rng.pick(&[1, 2]));
+    match rng.weighted(&[30, 60, 9, 1]) {
+        0 => {}
+        1 => systematic::grow_by(&mut plan, 0, rng.below(16)),
+        2 => {
+            let left = rng.below(8);
+            while plan.left() > left && !plan.is_over() {
+                plan.alone(0, INSERT, rng.pick(&[3, 9, 20, 40]));
+            }
+        }
+        _ => {
+            let levels = rng.pick(&[10, 40, 64]);
+            for station in 0..levels {
+                plan.alone(0, INSERT, station);
+                plan.alone(0, SPLIT, station);
+            }
+        }
+    }
+    let style = Style {
+        one_writer: true,
+        ..Style::random(rng)
+    };
+    let count = plan.count() + length(rng);
     turns(&mut plan, rng, &style, count);
     plan.file()
 }

@@ -47,12 +47,17 @@ const COMPLETING: RangeInclusive<u8> = 40..=51;
 
 /// Builds one of the shapes with thread 3.
 pub fn grow(plan: &mut Plan, shape: usize) {
+    grow_by(plan, 3, shape);
+}
+
+/// Builds one of the shapes with a thread.
+pub fn grow_by(plan: &mut Plan, thread: u8, shape: usize) {
     let shape = &SHAPES[shape % SHAPES.len()];
     for &station in shape.stations {
-        plan.alone(3, INSERT, station);
+        plan.alone(thread, INSERT, station);
     }
     for &station in shape.splits {
-        plan.alone(3, SPLIT, station);
+        plan.alone(thread, SPLIT, station);
     }
 }
 
@@ -236,7 +241,7 @@ fn short_of_numbers(version: u8, shape: usize, station: u8, emit: &mut impl FnMu
 }
 
 /// Headers with one fault or several, and records with each fault, and with two, after a good start.
-fn faulty_files(version: u8) -> Vec<Vec<u8>> {
+pub fn faulty_files(version: u8) -> Vec<Vec<u8>> {
     let mut files: Vec<Vec<u8>> = Vec::new();
     let width = sizes(version)[0];
     for length in 0..12 {

@@ -1,8 +1,12 @@
-//! What depths bring: ways that version 2 files must reach besides those of `coverage`.
+//! What depths bring: ways that version 2 files must reach besides those of `coverage`; and the places at which
+//! comparisons fail where several threads write, as they must not where one does (`profiles`).
 
 use crate::answers::Record;
 use reference::{Bench, Rows, ACTIONS, DEEPEST, INSERT, JOIN, STEP, THREADS};
 use std::collections::BTreeMap;
+
+/// The places at which a comparison can fail where several threads write.
+const LOST: [u8; 21] = [10, 11, 12, 13, 16, 21, 25, 27, 28, 29, 30, 33, 35, 42, 43, 44, 46, 47, 48, 49, 50];
 
 /// Faults of one record by their numbers, the first of which refuses it.
 const PAIRS: [(u8, u8); 13] = [
@@ -53,6 +57,8 @@ pub struct Ways {
     deep: bool,
     preparing: bool,
     completing: bool,
+    /// Comparisons that failed, by place.
+    lost: BTreeMap<u8, u64>,
 }
 
 impl Ways {
@@ -84,6 +90,11 @@ impl Ways {
         let at = |from: u8, to: u8| (0..THREADS).any(|t| (from..=to).contains(&bench.place(t)));
         self.preparing = at(26, 35);
         self.completing = at(40, 51);
+    }
+
+    /// A comparison of a step at this place failed.
+    pub fn lost(&mut self, place: u8) {
+        *self.lost.entry(place).or_default() += 1;
     }
 
     /// An insert finished; `was` is what the plain table said before it.
@@ -181,6 +192,9 @@ impl Ways {
                 missing.push(what);
             }
         }
+        println!("comparisons that failed, by place: {:?}", self.lost);
+        let never = LOST.iter().filter(|place| !self.lost.contains_key(place));
+        missing.extend(never.map(|place| format!("a comparison that fails at place {place}")));
         missing
     }
 }

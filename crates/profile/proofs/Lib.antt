@@ -1,0 +1,12 @@
+pub mod Tidy
+pub mod Alone
+pub mod Mine
+pub mod EarlyPlaces
+pub mod JoinPlaces
+pub mod ClosePlaces
+pub mod EveryTurn
+pub mod OneWriter
+pub mod ByRun
+pub mod Said
+pub mod ProfileRun
+pub mod Faithful

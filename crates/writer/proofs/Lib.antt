@@ -1,0 +1,3 @@
+pub mod Scan
+pub mod Parts
+pub mod Cases

@@ -1,0 +1,2 @@
+# src/bench.rs: 24 comes after 14.
+s/if W::bars(number, action) {/if W::bars(number, action) \&\& (action != INSERT || extra <= DEEPEST) {/
