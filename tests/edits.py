@@ -4,13 +4,14 @@ An edit is a text file: words, then `file:` lines that name a file of the crate,
 `new:` line; the old text stands in that file exactly once.
 """
 import re
+import shutil
 import subprocess
 
 ERROR = re.compile(r"^(/\S+?):(\d+):\d+: error: (.*)")
 # what it says where it made the proof itself
 OWN = re.compile(r"^note: (/\S+?):(\d+):\d+: (it is not proved that .*)")
 # what the prover says of a fact that fails: what is shown and what is asked differ, or nothing shows it
-FACT = re.compile(r"the two (types|sides)|expected type|≟|the equations do not join|no proof (was found )?of|no proof was found|`omega`|^it is not proved that")
+FACT = re.compile(r"the two (types|sides|values)|expected type|≟|the equations do not join|no proof (was found )?of|no proof was found|`omega`|^it is not proved that")
 # what it says of a name or of a text that it cannot read
 NAME = re.compile(r"not in scope|cannot be found|has no field|is not defined|expected `.` after|unexpected|is private")
 
@@ -29,6 +30,19 @@ def read(path):
     return pairs
 
 
+def line(path, word):
+    """What follows `word:` on a line of an edit's words, or None."""
+    found = re.search(rf"^{word}: (.+)$", path.read_text(), re.M)
+    return found and found[1]
+
+
+def need(refused):
+    """The name of what was refused: that of a proof's declaration or, where the prover made the proof, of a fact that it asks."""
+    first = refused[2].splitlines()[0]
+    found = re.match(r"`([^`]+)`", first) or re.search(r"\(`([^`]+)`\)$", first)
+    return found and found[1]
+
+
 def made(pairs, crate):
     """The texts of the files of the folder `crate` that the replacements change, old and new; or why they cannot be made."""
     if not pairs:
@@ -44,10 +58,21 @@ def made(pairs, crate):
     return (before, after), None
 
 
-def check(work, crate):
+def seed(root, crate, work, *others):
+    """The modules that were checked when the repository `root` proved this crate, and others, where `rt dev CRATE` in `work`
+    looks for what an earlier check left. The prover takes those whose texts, and all that they rest on, are the same."""
+    kept = work / "target" / "inc" / crate
+    shutil.rmtree(kept, ignore_errors=True)
+    for name in [crate, *others]:
+        library = root / "target" / "rlib" / f"{name}.rlib"
+        build = re.search(r"^rattle-build (.*)$", (library / "format").read_text(), re.M)[1]
+        shutil.copytree(library / "toolchain" / "checked", kept / build.replace("/", "_"), dirs_exist_ok=True)
+
+
+def check(work, crate, *words):
     """Whether the crate is proved in the repository `work`, what the prover refused first of all and in order, as (file, line,
     words), and all that it said. What is refused only because something before it was is left out."""
-    done = subprocess.run(["rt", "dev", crate], cwd=work, capture_output=True, text=True, timeout=900)
+    done = subprocess.run(["rt", "dev", crate, *words], cwd=work, capture_output=True, text=True, timeout=2700)
     text = done.stdout + done.stderr
     lines = text.splitlines()
     refused = []

@@ -42,11 +42,15 @@ READ = """(() => {
   };
 })()"""
 
-# The time in milliseconds of 200 steps with their layout.
+# 200 steps, each with its layout; the middle one's time in milliseconds, which other work on the machine moves less than their mean.
 STEP_200 = """(() => {
-  const since = performance.now();
-  for (let i = 0; i < 200; i++) document.dispatchEvent(new KeyboardEvent("keydown", { key: "ArrowRight" }));
-  return document.body.offsetHeight && performance.now() - since;
+  const taken = [];
+  for (let i = 0; i < 200; i++) {
+    const since = performance.now();
+    document.dispatchEvent(new KeyboardEvent("keydown", { key: "ArrowRight" }));
+    taken.push(document.body.offsetHeight && performance.now() - since);
+  }
+  return taken.sort((a, b) => a - b)[100];
 })()"""
 
 # The relative luminance of the ink and of the ground.
@@ -230,7 +234,7 @@ def moved(checks, page):
 
     def stepped_on():
         page.open(f"{url}#at=3333")
-        return page.evaluate(STEP_200) / 200
+        return page.evaluate(STEP_200)
 
     took = least(stepped_on, STEP_MILLISECONDS_MOST)
     checks.that(f"a step takes {took:.1f} ms", 0 < took < STEP_MILLISECONDS_MOST)
