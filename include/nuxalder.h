@@ -7,15 +7,17 @@
  *
  * A schedule file: version byte, 1 or 2, two-byte big-endian count, then `count` records of two bytes in version 1,
  * of four in version 2, which has a depth, 0 to 9,999 mm, beside each station. Byte 0 of a record: 16 * thread + action
- * (0 step, 1 lookup, 2 insert, 3 remove, 4 split, 5 join). Byte 1: the station, 0 to 63; for a step, 0. Bytes 2 and 3,
- * in version 2: an insert's depth, big-endian; else 0. An insert of a station that is present says no and replaces its
- * depth. What the versions differ in:
+ * (0 step, 1 lookup, 2 insert, 3 remove, 4 split, 5 join, in version 2 also 6 range query). Byte 1: the station, 0 to 63;
+ * for a step, 0. Bytes 2 and 3, in version 2, big-endian: an insert's depth; the upper end of a range query, which asks for
+ * all stations from the one in byte 1 to that, both inside; else 0. An insert of a station that is present says no and
+ * replaces its depth. What the versions differ in:
  *                                                              version 1       version 2
  *    record                                                    2 bytes         4 bytes
  *    file                                                      3 + 2 * count   3 + 4 * count
  *    row: 0 thread, 1 action, 2 station, 3 answer              4 bytes         14 bytes
  *         4 and 5 depth, big-endian: a lookup's find, else 0   -
- *         6 to 13 set, big-endian, bit s for station s: 0      -
+ *         6 to 13 set, big-endian, bit s for station s:        -
+ *         those that a range query found, else 0
  *    row buffer                                                2 * count       7 * count
  *    text buffer                                               4,096 bytes     8,192 bytes
  *    a station in a line of the listing                        3               3=640
@@ -23,16 +25,19 @@
  * Refusal numbers; where the versions differ, the second is version 2's:
  *    0  none
  *    1  a file under three bytes                 7  a thread over 3
- *    2  a version other than 1 and 2             8  an action over 5
+ *    2  a version other than 1 and 2             8  an action over 5, over 6
  *    3  a count over 4,096                       9  a start with a station over 63
  *    4  a length other than 3 + 2 * count,      10  unused bytes that are not 0: a step's, or in version 2 the
- *       3 + 4 * count                               last two of a start that is no insert
+ *       3 + 4 * count                               last two of a start that is no insert and no query
  *    5  a row buffer under 2 * count bytes,     11  a start of a busy thread
  *       7 * count                               12  a step of an idle thread
  *    6  a text buffer under 4,096 bytes,        13  a swap that needs more node numbers than are left
  *       8,192                                   14  an insert with a depth over 9,999
- * A record is refused in this order: 7, 8; a start then for 9, 14 or 10, 11; a step for 10, 12, 13.
- * The one-writer run alone: 24 for a start of an insert, remove, split or join on threads 1 to 3, after 8 and before 9.
+ *                                              15  a range query with an upper end over 63 or below its station
+ *                                              16  a swap that needs a store of a range query beyond the 64
+ * A record is refused in this order: 7, 8; a start then for 9, 14, 15 or 10, 11; a step for 10, 12, 13, 16.
+ * The one-writer run alone: 24 for a start of an insert, remove, split or join on threads 1 to 3, and in version 2 of a range
+ * query on any thread, after 8 and before 9.
  * Merge alone, in this order: 1 to 4 for a fault of the first file, then 1 to 4 for one of the second (2: any
  * version but 1), 17 for a thread that is not its file's, 3 for counts that total over 4,096, 18 for an output
  * buffer under 3 + 4 * the smaller count bytes.
@@ -40,7 +45,7 @@
  * 3 + 4 * count bytes. Judge alone: 1, 2, 4, 21 to 23;
  * they stand with nuxalder_judge.
  *
- * Answers of a lookup, an insert or a remove are 0 and 1, those of a split or a join 1 and 2 to 7:
+ * Answers of a lookup, an insert, a remove or a range query are 0 and 1, those of a split or a join 1 and 2 to 7:
  *    0  no                                    4  a swap lost, or the base gone from its parent
  *    1  yes                                   5  the neighbour is not replaceable (a join)
  *    2  too few stations for a split,         6  a join stood down
@@ -56,13 +61,13 @@
 
 /* The version of this interface. */
 #define NUXALDER_VERSION_MAJOR 1
-#define NUXALDER_VERSION_MINOR 2
+#define NUXALDER_VERSION_MINOR 3
 #define NUXALDER_VERSION_PATCH 0
-#define NUXALDER_VERSION "1.2.0"
+#define NUXALDER_VERSION "1.3.0"
 
 /* The functions may be called from several threads at once, each with its own report and buffers; a schedule
  * or a history may be shared. A call of one of them uses at most NUXALDER_STACK bytes of stack. */
-#define NUXALDER_STACK 65536
+#define NUXALDER_STACK 73728
 
 /* Sizes of a schedule file, its rows and the bench; DEEP is version 2. */
 #define NUXALDER_FILE_VERSION 1
@@ -79,6 +84,7 @@
 #define NUXALDER_STATIONS 64
 #define NUXALDER_THREADS 4
 #define NUXALDER_NODES_MOST 256
+#define NUXALDER_STORES_MOST 64
 
 /* What a record asks, and the second byte of a row. nuxalder_answer_words, at the end, has a row's last byte in words. */
 enum nuxalder_action {
@@ -87,7 +93,8 @@ enum nuxalder_action {
     NUXALDER_INSERT = 2,
     NUXALDER_REMOVE = 3,
     NUXALDER_SPLIT = 4,
-    NUXALDER_JOIN = 5
+    NUXALDER_JOIN = 5,
+    NUXALDER_RANGE = 6 /* version 2 alone */
 };
 
 /* The first byte of a record. */
@@ -110,6 +117,8 @@ enum nuxalder_refusal {
     NUXALDER_REFUSED_IDLE = 12,
     NUXALDER_REFUSED_NUMBERS = 13,
     NUXALDER_REFUSED_DEPTH = 14,
+    NUXALDER_REFUSED_UPPER_END = 15,
+    NUXALDER_REFUSED_STORES = 16,
     NUXALDER_REFUSED_OTHER_THREAD = 17,
     NUXALDER_REFUSED_OUTPUT_BUFFER = 18,
     NUXALDER_REFUSED_EVENT = 21,
@@ -168,22 +177,31 @@ enum {
 /* The depth in a row of version 2: what a lookup found, else 0. */
 #define NUXALDER_ROW_DEPTH(row) (256u * (row)[4] + (row)[5])
 
+/* The set in a row of version 2, bit s for station s: what a range query found, else 0. */
+static inline uint64_t nuxalder_row_set(const uint8_t *row)
+{
+    uint64_t set = 0;
+    int i;
+    for (i = 6; i < NUXALDER_DEEP_ROW_SIZE; i++) set = set << 8 | row[i];
+    return set;
+}
+
 /* Carries out the schedule. A row is four bytes: thread, action, station, answer, in order of finishing; fourteen in
  * version 2, as the table above says. `rows` needs 2 * count bytes, in version 2 7 * count. On refusals 1 to 5 every
  * other field is 0 and `rows` is untouched.
- * On refusals 7 to 14 the run ends before the refused record, and the fields and rows are as they then stood.
+ * On refusals 7 to 16 the run ends before the refused record, and the fields and rows are as they then stood.
  * Bytes of `rows` after the rows written are untouched. */
 void nuxalder_run(const uint8_t *schedule, size_t schedule_length,
                   uint8_t *rows, size_t rows_length,
                   uint64_t report[NUXALDER_RUN_FIELDS]);
 
 /* The one-writer run, for a collector in which thread 0 alone writes and threads 1 to 3 only look up: as nuxalder_run,
- * with one refusal more. A record that starts an insert, remove, split or join on threads 1 to 3 is barred: it is
- * refused with 24, after 7 and 8 and before 9, 10, 11 and 14. So a thread over 3 is 7 and an action over 5 is 8 on
- * every thread, and a barred start is 24 whatever its station and its depth are and whether or not its thread is busy. A
- * version other than 1 and 2 is 2, so 3 is. Every thread may look up and step. On refusal 24 the run ends before the
- * barred record; report, rows and untouched bytes are then as on refusals 7 to 14. A schedule with no barred record
- * gives what nuxalder_run gives.
+ * with one refusal more. A record that starts an insert, remove, split or join on threads 1 to 3, or a range query on any
+ * thread, is barred: it is refused with 24, after 7 and 8 and before 9, 10, 11, 14 and 15. So a thread over 3 is 7 and
+ * an action over 5, in version 2 over 6, is 8 on every thread, and a barred start is 24 whatever its station and its depth
+ * or upper end are and whether or not its thread is busy. A version other than 1 and 2 is 2, so 3 is. Every thread may
+ * look up and step. On refusal 24 the run ends before the barred record; report, rows and untouched bytes are then as on
+ * refusals 7 to 14. A schedule with no barred record gives what nuxalder_run gives.
  *
  * Of every one-writer run it is proved: no swap fails, no join is killed, a split or join that finishes says 1, or 2
  * where there were too few stations or no parent, and an insert or remove takes at most 68 steps of its thread. */
@@ -282,19 +300,21 @@ static inline const char *nuxalder_refusal_words(uint64_t refusal)
     case NUXALDER_REFUSED_ROWS_BUFFER: return "a row buffer under 2 * count bytes, in version 2 under 7 * count";
     case NUXALDER_REFUSED_TEXT_BUFFER: return "a text buffer under 4,096 bytes, in version 2 under 8,192";
     case NUXALDER_REFUSED_THREAD: return "a thread over 3";
-    case NUXALDER_REFUSED_ACTION: return "an action over 5";
+    case NUXALDER_REFUSED_ACTION: return "an action over 5, in version 2 over 6";
     case NUXALDER_REFUSED_STATION: return "a start with a station over 63";
     case NUXALDER_REFUSED_STEP_BYTE: return "unused bytes that are not 0";
     case NUXALDER_REFUSED_BUSY: return "a start of a busy thread";
     case NUXALDER_REFUSED_IDLE: return "a step of an idle thread";
     case NUXALDER_REFUSED_NUMBERS: return "a swap that needs more node numbers than are left";
     case NUXALDER_REFUSED_DEPTH: return "an insert with a depth over 9,999";
+    case NUXALDER_REFUSED_UPPER_END: return "a range query with an upper end over 63 or below its station";
+    case NUXALDER_REFUSED_STORES: return "a swap that needs a store of a range query, and all 64 are used";
     case NUXALDER_REFUSED_OTHER_THREAD: return "a thread that is not its file's";
     case NUXALDER_REFUSED_OUTPUT_BUFFER: return "an output buffer under 3 + 4 * the smaller count bytes";
     case NUXALDER_REFUSED_EVENT: return "an event out of place";
     case NUXALDER_REFUSED_OPERATIONS: return "more than 12 operations";
     case NUXALDER_REFUSED_UNFINISHED: return "an operation that is not finished";
-    case NUXALDER_REFUSED_WRITER: return "an insert, remove, split or join on threads 1 to 3, where only thread 0 writes";
+    case NUXALDER_REFUSED_WRITER: return "an insert, remove, split or join on threads 1 to 3, or a range query, where only thread 0 writes";
     default: return "unknown";
     }
 }

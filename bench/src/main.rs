@@ -1,9 +1,10 @@
-//! Times Run and List, on files of either version, Run on files of many splits, and Merge of the library and of the reference on the same schedules,
-//! in turn, and prints the medians and their ratio for each size. Buffers are lent as they are, not cleared between calls. Then Judge, on hard
-//! histories, and the one-writer run on files of one writer. `speed splits`, `speed judge` and `speed one-writer` do only those; `speed search N
-//! SEED` looks for harder histories with N tries.
+//! Times Run and List, on files of either version, Run on files of many splits and with range queries, and Merge of the library and of the
+//! reference on the same schedules, in turn, and prints the medians and their ratio for each size. Buffers are lent as they are, not cleared
+//! between calls. Then Judge, on hard histories, and the one-writer run on files of one writer. `speed splits`, `speed ranges`, `speed judge` and
+//! `speed one-writer` do only those; `speed search N SEED` looks for harder histories with N tries.
 
 mod judge;
+mod ranges;
 mod splits;
 
 use differential::library;
@@ -79,13 +80,17 @@ fn main() {
             heading();
             splits::time();
         }
+        ["ranges"] => {
+            heading();
+            ranges::time();
+        }
         ["judge"] => judge::compare(),
         ["one-writer"] => one_writer(),
         ["search", rounds, seed] => judge::search(
             rounds.parse().expect("a number of tries"),
             seed.parse().expect("a seed"),
         ),
-        _ => panic!("usage: speed [splits | judge | one-writer | search N SEED]"),
+        _ => panic!("usage: speed [splits | ranges | judge | one-writer | search N SEED]"),
     }
 }
 
@@ -106,6 +111,7 @@ fn schedules() {
         }
     }
     splits::time();
+    ranges::time();
     for size in MERGES {
         // both files of a pair, one after the other
         let pairs: Vec<Vec<u8>> = (0..FILES)

@@ -503,9 +503,7 @@ static void depths(int at_start)
     call_deep(&p, at_start);
     expect_run("empty, version 2", 0, 0, 0, 0, 0, 1);
     expect_list("empty, version 2", 0, "0 normal -\nset -\n");
-    deep_alone(&p, 0, INSERT, 3, 640, 3);
-    deep_alone(&p, 0, INSERT, 9, 9999, 3);
-    deep_alone(&p, 0, SPLIT, 3, 0, 3);
+    deep_two_bases(&p);
     deep_alone(&p, 1, LOOKUP, 9, 0, 2);
     call_deep(&p, at_start);
     expect_run("printed run with depths", 0, 15, 4, bit(3) | bit(9), 2, 6);
@@ -524,6 +522,113 @@ static void depths(int at_start)
     expect_deep_row("a second insert", 5, 1, INSERT, 3, 0, 0);
     expect_deep_row("a lookup that is late", 6, 2, LOOKUP, 3, 1, 640);
     expect_list("a second insert", 0, "0 normal 3=0 9=9999\nset 3=0 9=9999\n");
+}
+
+static void expect_found(const char *name, size_t index, unsigned thread, unsigned station, uint64_t set)
+{
+    const uint8_t first[6] = {(uint8_t)thread, RANGE, (uint8_t)station, set != 0, 0, 0};
+    const uint8_t *row = rows + NUXALDER_DEEP_ROW_SIZE * index;
+    check(index < run[NUXALDER_RUN_ROWS] && memcmp(row, first, sizeof first) == 0, "%s: row %zu", name, index);
+    check(nuxalder_row_set(row) == set && row[13] == (uint8_t)set && row[6] == (uint8_t)(set >> 56),
+          "%s: the set in row %zu is %" PRIx64, name, index, nuxalder_row_set(row));
+}
+
+/* Range queries: alone, with no station, riding on another's store, helped by an insert, over a route that a join cut
+ * out; what they leave in the tree, and what splits and joins say of it. */
+static void ranges(int at_start)
+{
+    static struct deep_plan p;
+    const char *both = "0 route 9\n1 range 3=640\n1 range 9=9999\nset 3=640 9=9999\n";
+    const char *left = "0 route 9\n1 range 3=640\n1 normal 9=9999\nset 3=640 9=9999\n";
+    uint64_t set = bit(3) | bit(9);
+
+    deep_two_bases(&p);
+    deep_alone(&p, 0, RANGE, 0, 63, 15);
+    call_deep(&p, at_start);
+    expect_run("query, one step short", 0, 28, 3, set, 2, 8);
+    deep_steps(&p, 0, 1);
+    call_deep(&p, at_start);
+    expect_run("query", 0, 29, 4, set, 2, 8);
+    expect_found("query", 3, 0, 0, set);
+    expect_list("query", 0, both);
+
+    deep_two_bases(&p);
+    deep_alone(&p, 1, RANGE, 0, 2, 7);
+    call_deep(&p, at_start);
+    expect_run("query that finds nothing", 0, 20, 4, set, 2, 7);
+    expect_found("query that finds nothing", 3, 1, 0, 0);
+    expect_list("query that finds nothing", 0, left);
+
+    deep_empty(&p);
+    deep_alone(&p, 2, INSERT, 0, 0, 3);
+    deep_alone(&p, 2, INSERT, 63, 1, 3);
+    deep_alone(&p, 2, RANGE, 0, 63, 5);
+    deep_alone(&p, 2, RANGE, 63, 63, 5);
+    call_deep(&p, at_start);
+    expect_found("first and last station", 2, 2, 0, bit(0) | bit(63));
+    expect_found("last station", 3, 2, 63, bit(63));
+
+    deep_two_bases(&p);
+    deep_alone(&p, 1, RANGE, 5, 9, 5);
+    deep_alone(&p, 2, RANGE, 0, 9, 14);
+    deep_steps(&p, 1, 4);
+    call_deep(&p, at_start);
+    expect_run("query that rides", 0, 37, 5, set, 2, 8);
+    expect_found("query that rides", 3, 2, 0, set);
+    expect_found("query that was ridden on", 4, 1, 5, bit(9));
+
+    deep_two_bases(&p);
+    deep_alone(&p, 1, RANGE, 0, 20, 5);
+    deep_alone(&p, 3, JOIN, 3, 0, 3);
+    deep_alone(&p, 3, JOIN, 9, 0, 7);
+    call_deep(&p, at_start);
+    expect_deep_row("join at a range base", 3, 3, JOIN, 3, NUXALDER_BLOCKED, 0);
+    expect_deep_row("join beside a range base", 4, 3, JOIN, 9, NUXALDER_NEIGHBOUR_BLOCKED, 0);
+    expect_list("joins at a range base", 0, left);
+    deep_alone(&p, 2, INSERT, 4, 7, 20);
+    call_deep(&p, at_start);
+    expect_run("insert that helps, one step short", 0, 51, 5, set, 2, 8);
+    deep_steps(&p, 2, 1);
+    deep_steps(&p, 1, 4);
+    call_deep(&p, at_start);
+    expect_run("insert that helps", 0, 56, 7, set | bit(4), 3, 9);
+    expect_deep_row("insert that helps", 5, 2, INSERT, 4, 1, 0);
+    expect_found("query that was helped", 6, 1, 0, set);
+    expect_list("insert that helps", 0, "0 route 9\n1 normal 3=640 4=7\n1 range 9=9999\nset 3=640 4=7 9=9999\n");
+
+    deep_two_bases(&p);
+    deep_alone(&p, 1, RANGE, 0, 63, 1);
+    deep_alone(&p, 0, JOIN, 9, 0, 20);
+    deep_steps(&p, 1, 7);
+    call_deep(&p, at_start);
+    expect_run("query over a join", 0, 42, 5, set, 2, 10);
+    expect_found("query over a join", 4, 1, 0, set);
+    expect_list("query over a join", 0, "0 range 3=640 9=9999\nset 3=640 9=9999\n");
+}
+
+/* The last store: a query that rides on it needs none, the next one is refused, with 13 if no number is left either. */
+static void stores(int at_start)
+{
+    static struct deep_plan p;
+    deep_empty(&p);
+    for (unsigned i = 1; i < NUXALDER_STORES_MOST; i++)
+        deep_alone(&p, 0, RANGE, 0, 63, 5);
+    deep_alone(&p, 0, RANGE, 0, 63, 3);
+    deep_alone(&p, 1, RANGE, 7, 63, 5);
+    deep_steps(&p, 0, 2);
+    call_deep(&p, at_start);
+    expect_run("the last store", 0, 390, 65, 0, 0, 65);
+    expect_list("the last store", 0, "0 range -\nset -\n");
+    struct deep_plan full = p;
+    deep_alone(&p, 2, RANGE, 0, 63, 5);
+    call_deep(&p, at_start);
+    expect_run("no store left", 16, 393, 65, 0, 0, 65);
+    expect_list("no store left", 16, "0 range -\nset -\n");
+    for (unsigned i = 65; i < NUXALDER_NODES_MOST; i++)
+        deep_alone(&full, 3, INSERT, 9, 5, 3);
+    deep_alone(&full, 2, RANGE, 0, 63, 5);
+    call_deep(&full, at_start);
+    expect_run("no number and no store left", 13, 390 + 4 * 191 + 3, 65 + 191, bit(9), 1, 256);
 }
 
 /* Every length of the buffers around those that version 2 needs, and of its file; headers and records that are refused. */
@@ -566,10 +671,13 @@ static void deep_refusals(int at_start)
     static const struct {
         unsigned first, second, extra, refusal;
     } cases[] = {
-        {0x42, 64, 10000, 7}, {0x06, 64, 10000, 8}, {0x02, 64, 10000, 9}, {0x01, 64, 1, 9},  {0x12, 63, 10000, 14},
+        {0x42, 64, 10000, 7}, {0x07, 64, 10000, 8}, {0x02, 64, 10000, 9}, {0x01, 64, 1, 9},  {0x12, 63, 10000, 14},
         {0x02, 63, 65535, 14}, {0x01, 63, 1, 10},   {0x13, 63, 256, 10},  {0x04, 63, 9999, 10}, {0x15, 63, 10000, 10},
         {0x02, 63, 9999, 11}, {0x05, 63, 0, 11},    {0x00, 1, 0, 10},     {0x00, 0, 256, 10},   {0x00, 0, 1, 10},
         {0x10, 0, 1, 10},     {0x10, 0, 0, 12},     {0x12, 63, 9999, 0},  {0x13, 63, 0, 0},
+        {0x46, 64, 64, 7},    {0x17, 3, 3, 8},      {0x1F, 3, 3, 8},      {0x06, 64, 64, 9},    {0x16, 255, 0, 9},
+        {0x16, 3, 64, 15},    {0x16, 3, 2, 15},     {0x06, 3, 2, 15},     {0x16, 0, 256, 15},   {0x16, 63, 65535, 15},
+        {0x06, 3, 3, 11},     {0x16, 0, 63, 0},     {0x16, 63, 63, 0},
     };
     static struct deep_plan p;
     for (size_t i = 0; i < sizeof cases / sizeof cases[0]; i++) {
@@ -586,14 +694,15 @@ static void deep_refusals(int at_start)
 /* The one-writer run: what it lets through is as Run has it, and 24 comes after 8 and before 9. */
 static void one_writer(int at_start)
 {
-    /* thread 1 looks up; version 1 has no third and fourth byte */
+    /* thread 1 looks up; version 1 has no third and fourth byte, and no queries */
     static const struct {
         unsigned first, second, extra, refusal, plain;
     } cases[] = {
         {0x12, 9, 0, 24, 24},    {0x13, 9, 0, 24, 24},   {0x14, 9, 0, 24, 24},  {0x15, 9, 0, 24, 24},    {0x22, 9, 0, 24, 24},
         {0x35, 9, 0, 24, 24},    {0x12, 9, 640, 24, 24}, {0x22, 64, 0, 24, 24}, {0x33, 255, 1, 24, 24},  {0x23, 9, 1, 24, 24},
-        {0x22, 9, 10000, 24, 24}, {0x42, 9, 0, 7, 7},    {0xF5, 9, 0, 7, 7},    {0x46, 9, 0, 7, 7},      {0x06, 9, 0, 8, 8},
-        {0x16, 9, 0, 8, 8},      {0x26, 64, 1, 8, 8},    {0x3F, 9, 0, 8, 8},    {0x11, 9, 0, 11, 11},    {0x21, 64, 0, 9, 9},
+        {0x22, 9, 10000, 24, 24}, {0x42, 9, 0, 7, 7},    {0xF5, 9, 0, 7, 7},    {0x46, 9, 0, 7, 7},      {0x06, 3, 9, 24, 8},
+        {0x16, 3, 9, 24, 8},     {0x26, 64, 1, 24, 8},   {0x36, 9, 3, 24, 8},   {0x06, 3, 64, 24, 8},    {0x07, 9, 0, 8, 8},
+        {0x17, 9, 0, 8, 8},      {0x3F, 9, 0, 8, 8},     {0x11, 9, 0, 11, 11},  {0x21, 64, 0, 9, 9},
         {0x31, 9, 1, 10, 0},     {0x02, 64, 0, 9, 9},    {0x02, 9, 10000, 14, 0}, {0x03, 9, 1, 10, 0},   {0x20, 0, 0, 12, 12},
         {0x10, 1, 0, 10, 10},    {0x00, 0, 0, 12, 12},   {0x02, 9, 9999, 0, 0}, {0x05, 9, 0, 0, 0},      {0x21, 9, 0, 0, 0},
         {0x10, 0, 0, 0, 0},
@@ -673,6 +782,8 @@ int main(void)
         histories(at_start);
         judged(at_start);
         depths(at_start);
+        ranges(at_start);
+        stores(at_start);
         deep_lengths(at_start);
         deep_refusals(at_start);
         one_writer(at_start);

@@ -6,7 +6,7 @@
 #include <stdint.h>
 #include <string.h>
 
-enum { STEP, LOOKUP, INSERT, REMOVE, SPLIT, JOIN };
+enum { STEP, LOOKUP, INSERT, REMOVE, SPLIT, JOIN, RANGE };
 enum { MOST_RECORDS = 4096, ROOM = 3 + 2 * (MOST_RECORDS + 1) };
 
 struct plan {
@@ -57,7 +57,7 @@ static inline void plan_printed_run(struct plan *p)
     plan_alone(p, 0, SPLIT, 3, 3);
 }
 
-/* The same in version 2, each record with its depth. */
+/* The same in version 2, each record with its depth or upper end. */
 struct deep_plan {
     uint8_t file[3 + 4 * (MOST_RECORDS + 1)];
     size_t length;
@@ -84,12 +84,27 @@ static inline void deep_record(struct deep_plan *p, unsigned first, unsigned sec
     p->file[2] = (uint8_t)deep_count(p);
 }
 
-static inline void deep_alone(struct deep_plan *p, unsigned thread, unsigned action, unsigned station, unsigned depth,
-                              unsigned steps)
+static inline void deep_steps(struct deep_plan *p, unsigned thread, unsigned steps)
 {
-    deep_record(p, 16 * thread + action, station, depth);
     while (steps-- > 0)
         deep_record(p, 16 * thread, 0, 0);
+}
+
+/* A start, with a depth or an upper end, and its steps with nobody in between. */
+static inline void deep_alone(struct deep_plan *p, unsigned thread, unsigned action, unsigned station, unsigned extra,
+                              unsigned steps)
+{
+    deep_record(p, 16 * thread + action, station, extra);
+    deep_steps(p, thread, steps);
+}
+
+/* Two bases, 3 and 9: 12 records, three rows, six numbers. */
+static inline void deep_two_bases(struct deep_plan *p)
+{
+    deep_empty(p);
+    deep_alone(p, 0, INSERT, 3, 640, 3);
+    deep_alone(p, 0, INSERT, 9, 9999, 3);
+    deep_alone(p, 0, SPLIT, 3, 0, 3);
 }
 
 #endif

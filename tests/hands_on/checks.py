@@ -129,10 +129,11 @@ class Expected:
     def open_operations(self, file, records):
         """Each thread's open operation and its own steps, from accepted records and the number of rows."""
         starts = {thread: [] for thread in range(4)}
-        for first, second, *depth in text_form.records_of(file)[: min(records, self.done)]:
+        for first, second, *more in text_form.records_of(file)[: min(records, self.done)]:
             if first & 15:
-                deep = f" {256 * depth[0] + depth[1]}" if depth and first & 15 == text_form.INSERT else ""
-                starts[first >> 4].append([f"{text_form.ACTIONS[first & 15]} {second}{deep}", 0])
+                has = more and first & 15 in (text_form.INSERT, text_form.RANGE)
+                extra = f" {256 * more[0] + more[1]}" if has else ""
+                starts[first >> 4].append([f"{text_form.ACTIONS[first & 15]} {second}{extra}", 0])
             else:
                 starts[first >> 4][-1][1] += 1
         finished = {thread: sum(row.startswith(f"t{thread} ") for row in self.rows) for thread in starts}

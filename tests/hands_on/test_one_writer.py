@@ -10,14 +10,18 @@ from checks import EXAMPLES, OUT, VECTORS, cut, examples, file_of, tool
 DEEP = EXAMPLES / "one-writer-deep.txt"
 SECOND = EXAMPLES / "second-writer.txt"
 REFUSED = 3
-WORDS = bench.REFUSALS[24]
+WORDS = bench.OF_VERSION[1][24]
 STEPS_MOST = 68
 
 
 def first_barred(file):
-    """How many records come before the first start on threads 1 to 3 that is no lookup."""
+    """How many records come before the first start on threads 1 to 3 that is no lookup, or of a range query."""
     records = text_form.records_of(file)
-    return next((at for at, record in enumerate(records) if record[0] >> 4 in (1, 2, 3) and record[0] & 15 in (2, 3, 4, 5)), len(records) + 1)
+
+    def is_barred(thread, action):
+        return thread in (1, 2, 3) and action in (2, 3, 4, 5) or thread in (0, 1, 2, 3) and action == 6 and file[0] == 2
+
+    return next((at for at, record in enumerate(records) if is_barred(record[0] >> 4, record[0] & 15)), len(records) + 1)
 
 
 def expected(file):
@@ -48,6 +52,12 @@ def runs(checks):
     checks.equal("one writer alone", tool("run", "--one-writer", DEEP), (0, DEEP.with_suffix(".printed").read_bytes(), ""))
     for text, refusal in (
         (b"raw 16 09", 8),
+        (b"raw 06 09", 8),
+        (b"version 2\nraw 17 09 00 00", 8),
+        (b"t0 range 3 9", 24),
+        (b"t3 range 3 9", 24),
+        (b"version 2\nraw 06 09 00 03", 24),
+        (b"version 2\nraw 46 03 00 09", 7),
         (b"raw 42 09", 7),
         (b"raw 12 40", 24),
         (b"version 2\nraw 12 09 27 10", 24),

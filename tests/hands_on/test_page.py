@@ -9,7 +9,7 @@ STEP_MILLISECONDS_MOST = 60
 BYTES_MOST = 1_500_000
 
 STEPPED = ["printed-run", "killed-join", "reasons", "late-lookup", "lost-insert", "helped-join", "deep-join", "refused-11-busy"]
-STEPPED += ["depth-lookup", "depth-during-join", "refused-14-depth"]
+STEPPED += ["depth-lookup", "depth-during-join", "refused-14-depth", "range-helped", "range-join"]
 REFUSED_FILES = {"refused-1-short": 1, "refused-2-version": 2, "refused-3-count": 3, "refused-4-length": 4, "refused-4-length-2": 4}
 PICTURE = ("helped-join", 52)
 
@@ -188,6 +188,24 @@ def depths(checks, page):
     checks.equal("version 1 has none of it", (shown["rows"][-1], shown["found"], "640" in shown["hint"]), ("t1 lookup 3 yes", "", False))
 
 
+def ranges(checks, page):
+    checks.group("page: range queries")
+    url = show(checks, EXAMPLES / "range-piggyback.txt")
+    for turn, row, found in ((33, "t2 range 0 yes", "found 3 9"), (37, "t1 range 5 yes", "found 9")):
+        page.open(f"{url}#at={turn}")
+        shown = page.evaluate(READ)
+        checks.equal(f"the row of turn {turn}", (shown["rows"][-1], shown["reason"]), (row, found))
+    kinds = "[...document.querySelectorAll('#canvas .node.range')].length"
+    checks.equal("range bases have a colour of their own", page.evaluate(kinds), 2)
+    legend = "document.getElementById('range-key').getClientRects().length > 0"
+    checks.that("the legend names the kind", page.evaluate(legend))
+    records = page.evaluate("[...document.querySelectorAll('#records span')].map((e) => e.textContent).filter((text) => /^range/.test(text))")
+    checks.equal("the records with their ends", records, ["range 5 9", "range 0 9"])
+    finish(checks, page, "range-piggyback")
+    page.open(show(checks, EXAMPLES / "depth-lookup.txt"))
+    checks.that("and not where there is none", not page.evaluate(legend))
+
+
 def moved(checks, page):
     checks.group("page: keys, slider, list and address on 4,096 records")
     path = EXAMPLES / "full-schedule.txt"
@@ -298,7 +316,7 @@ def all_of(checks):
     (OUT / "page").mkdir(parents=True, exist_ok=True)
     try:
         with Page(OUT / "browser") as page:
-            for test in (stepped, reasons, depths, moved, vectors, refused_files, looks):
+            for test in (stepped, reasons, depths, ranges, moved, vectors, refused_files, looks):
                 test(checks, page)
     except BrowserError as error:
         checks.that("the browser goes on", False, error)

@@ -13,7 +13,8 @@ WORDS = {
     "refused-4-length": "a length other than 3 + 2 * count",
     "refused-4-length-2": "a length other than 3 + 4 * count: a record of version 2 has four bytes",
     "refused-10-step-byte": "a step whose second byte is not 0",
-    "refused-10-depth": "unused bytes that are not 0: only an insert has a depth, and a step has no station",
+    "refused-10-depth": "unused bytes that are not 0: only an insert has a depth and only a range an upper end, and a step has no station",
+    "refused-8-action": "an action over 5",
     "refused-14-depth": "an insert with a depth over 9,999: a depth is 0 to 9999 mm",
 }
 
@@ -58,7 +59,7 @@ def gallery(checks):
             line = re.match(rf"{re.escape(str(path))}:(\d+): ", err)
             right = f"{path}:{line[1] if line else '?'}: record {done + 1} refused, {refusal}: {words}\n"
         checks.equal(f"run {path.name}: the refusal", (status, err), (STATUS, right))
-    checks.equal("each refusal of a file or record is there", seen, {1, 2, 3, 4, 7, 8, 9, 10, 11, 12, 13, 14})
+    checks.equal("each refusal of a file or record is there", seen, {1, 2, 3, 4, 7, 8, 9, 10, 11, 12, 13, 14, 15, 16})
 
 
 def places(checks):

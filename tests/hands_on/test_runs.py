@@ -28,8 +28,14 @@ FIGURES = {
     "depth-lookup": ["row: t1 lookup 9 yes 0\n", "own step 2, row: t1 lookup 3 yes 640\n", "row: t2 lookup 3 yes 815\n", "row: t3 lookup 4 no\n"],
     "depth-split-join": ["join 3, own step 21, row: t0 join 3 yes", "+ 1 normal 9=1200", "+ 0 neighbour 3=640 9=1200"],
     "depth-during-join": ["insert 3 815, own step 9, row: t1 insert 3 no", "own step 16, row: t0 join 3 no (stood down)"],
+    "range-query": ["range 3 10, own step 5\n           - 1 normal 3=640\n           + 1 range 3=640\n", "range 3 10, own step 14, row: t1 range 3 yes (found 3 9)"],
+    "range-piggyback": ["own step 14, row: t2 range 0 yes (found 3 9)", "own step 9, row: t1 range 5 yes (found 9)"],
+    "range-helped": ["own step 21, row: t2 insert 4 yes", "own step 9, row: t1 range 0 yes (found 3 9)"],
+    "range-join": ["own step 23, row: t0 join 14 yes", "own step 18, row: t1 range 0 yes (found 3 9 14)"],
+    "refused-15-range": ["raw 06 09 00 03", "refused 15: a range query with an upper end over 63 or below its station"],
+    "refused-16-stores": ["turn 392   t0 step            refused 16", "records 391 of 392 refusal 16"],
     "refused-14-depth": ["raw 02 09 27 10", "refused 14: an insert with a depth over 9,999: a depth is 0 to 9999 mm"],
-    "refused-10-depth": ["raw 01 03 02 80", "refused 10: unused bytes that are not 0: only an insert has a depth"],
+    "refused-10-depth": ["raw 01 03 02 80", "refused 10: unused bytes that are not 0: only an insert has a depth and only a range an upper end"],
     "refused-4-length-2": ["refused 4: a length other than 3 + 4 * count: a record of version 2 has four bytes"],
     "refused-2-version": ["refused 2: a version other than 1 and 2"],
     "refused-7-thread": ["raw 40 00", "refused 7: a thread over 3"],
@@ -49,9 +55,10 @@ BYTES = {
     "refused-8-action": "0100010600",
     "depth-replaced": "020008" + "02030280" + "00" * 12 + "0203032f" + "00" * 12,
     "refused-4-length-2": "02000202030000",
+    "refused-15-range": "020008" + "06090009" + "00" * 20 + "06090003" + "00000000",
 }
 
-TRACED = ["depth-lookup", "depth-during-join", "refused-14-depth"]
+TRACED = ["depth-lookup", "depth-during-join", "refused-14-depth", "range-query", "range-helped", "range-join", "refused-16-stores"]
 TRACED += ["printed-run", "killed-join", "reasons", "late-lookup", "helped-join", "refused-11-busy", "full-schedule"]
 
 
@@ -76,7 +83,7 @@ def vectors(checks):
     checks.group("vectors: printed runs and round trips")
     files = sorted(VECTORS.glob("*.schedule"))
     checks.that("there are vectors", len(files) >= 50, len(files))
-    reasons = []
+    reasons, found = [], []
     for path in files:
         file = path.read_bytes()
         expected = path.with_suffix(".printed").read_text()
@@ -85,10 +92,14 @@ def vectors(checks):
         checks.that(f"round trip of {path.name}", text_form.encode(text.encode(), path.name) == file)
         checks.that(f"the text of {path.name} is text", text_form.kind_of(text.encode()) == "text")
         for number, row in enumerate(bench.answers(file, 1, 0).whole.rows, 1):
-            if row.reason:
-                reasons.append(f"{path.stem} {number} {row.text.removesuffix(' no')} {row.answer}")
-    lines = (VECTORS / "reasons").read_text().splitlines()
-    checks.that("each reason of the vectors", reasons == [line for line in lines if not line.startswith("#")], len(reasons))
+            asked = row.text.removesuffix(" no").removesuffix(" yes")
+            if " range " in row.text:
+                found.append(f"{path.stem} {number} {asked} {row.reason.replace('none', '-')}")
+            elif row.reason:
+                reasons.append(f"{path.stem} {number} {asked} {row.answer}")
+    for what, told in (("reasons", reasons), ("found", found)):
+        lines = [line for line in (VECTORS / what).read_text().splitlines() if not line.startswith("#")]
+        checks.that(f"each row of vectors/{what}", told == lines, len(told))
 
 
 def printed_row(line):

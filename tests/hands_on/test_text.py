@@ -18,7 +18,7 @@ BAD_LINES = [
     ("t0 insert 3.0", 1, "3.0", "0 to 63"),
     ("t0 lookup \u0663", 1, "\u0663", "0 to 63"),
     ("t0 insert", 1, "insert", "a station"),
-    ("t0", 1, "t0", "step, finish, lookup, insert, remove, split or join"),
+    ("t0", 1, "t0", "step, finish, lookup, insert, remove, split, join or range"),
     ("t0 lookup 3 4", 1, "4", "nothing may follow '3'"),
     ("t0 insert 3 4 5", 1, "5", "nothing may follow '4'"),
     ("t0 insert 3 10000", 1, "10000", "a depth is a number of millimetres, 0 to 9999"),
@@ -29,6 +29,16 @@ BAD_LINES = [
     ("no-header\nt0 insert 3 640", 2, "640", "a depth needs version 2, and with no-header there is no version"),
     ("version 2\nt0 lookup 3 640", 2, "640", "only an insert has a depth"),
     ("t0 insert 3 640\nt0 remove 3 0", 2, "0", "only an insert has a depth"),
+    ("t0 rang 3 9", 1, "rang", "did you mean range?"),
+    ("t0 range 64 9", 1, "64", "a station is a number 0 to 63"),
+    ("t0 range", 1, "range", "a station"),
+    ("t0 range 3", 1, "3", "the upper end of a range is a number from its station, 3, to 63"),
+    ("t0 range 3 64", 1, "64", "from its station, 3, to 63"),
+    ("t0 range 9 3", 1, "3", "from its station, 9, to 63"),
+    ("t0 range 3 9 4", 1, "4", "nothing may follow '9'"),
+    ("version 1\nt0 range 3 9", 2, "range", "a range query needs version 2, and the text says version 1"),
+    ("no-header\nt0 range 3 9", 2, "range", "a range query needs version 2, and with no-header there is no version"),
+    ("t0 range 3 9\nt0 lookup 3 9", 2, "9", "only an insert has a depth"),
     ("t0 insert 3 640\nversion 2", 2, "version", "before the first record"),
     ("version 2\nt0 step 4096\nt1 step", 3, "t1", "at most 4096"),
     ("version 2\nraw 40 00", 2, "00", "a raw record of version 2 is four bytes"),
@@ -73,6 +83,8 @@ SPELLINGS = [
     ("version 2\nt0 insert 9\nt3 join 63", "020002" + "02090000" + "353f0000"),
     ("# at 9,999 mm\r\n\tt2  insert\t63   09999\r\n", "020001" + "223f270f"),
     ("version 2\nraw fF Ab 00 01", "020001ffab0001"),
+    ("t1 lookup 9\nt0 range 3 9", "020002" + "11090000" + "06030009"),
+    ("t0 insert 3\nt3  range 0\t063 # all", "020002" + "02030000" + "3600003f"),
     ("version 1\nt0 insert 9 # 640", "0100010209"),
     ("count 1\nt0 insert 9 640", "02000102090280"),
     ("no-header", ""),
@@ -83,14 +95,15 @@ SPELLINGS = [
 
 def random_record(rng, version=1):
     """A record of a version that is a well-formed operation, and its text."""
-    thread, action = rng.randrange(4), rng.randrange(6)
+    thread, action = rng.randrange(4), rng.randrange(6 if version == 1 else 7)
     station = rng.randrange(64) if action else 0
-    word = ("step", "lookup", "insert", "remove", "split", "join")[action]
+    word = ("step", "lookup", "insert", "remove", "split", "join", "range")[action]
     record, text = bytes([16 * thread + action, station]), f"t{thread} {word}" + (f" {station}" if action else "")
     if version == 1:
         return record, text
-    depth = rng.choice((0, 1, 255, 256, 9998, 9999, rng.randrange(10000))) if word == "insert" else 0
-    return record + depth.to_bytes(2, "big"), text + (f" {depth}" if word == "insert" else "")
+    depth = rng.choice((0, 1, 255, 256, 9998, 9999, rng.randrange(10000)))
+    extra = {"insert": depth, "range": rng.randrange(station, 64)}.get(word, 0)
+    return record + extra.to_bytes(2, "big"), text + (f" {extra}" if word in ("insert", "range") else "")
 
 
 def spellings(checks):

@@ -11,22 +11,38 @@ from test_guide import blocks
 
 PLACES = ROOT / "docs" / "PLACES.md"
 NUMBERS = {1, 2, 3, 10, 11, 12, 13, 15, 16, *range(20, 39), *range(40, 52)}
+RANGE = ROOT / "docs" / "RANGE.md"
+QUERY_NUMBERS = set(range(60, 83)) - {63, 68, 69, 75}
+QUERY_LINES = set(range(138, 215)) - {156, 200, 205, 206, 212}  # those are brackets
 PYTHON = (3, 9)
 DOCUMENTS = [path for folder in (ROOT, ROOT / "docs") for path in sorted(folder.glob("*.md"))]
+
+
+def rows_of(text):
+    """The places that have a row, in order."""
+    named = []
+    for first, last in re.findall(r"^\| (\d+)(?: to (\d+))? \|", text, re.M):
+        named += range(int(first), int(last or first) + 1)
+    return named
 
 
 def places(checks):
     checks.group("documents: the places")
     text = PLACES.read_text()
-    named = []
-    for first, last in re.findall(r"^\| (\d+)(?: to (\d+))? \|", text, re.M):
-        named += range(int(first), int(last or first) + 1)
-    checks.equal("each of 01's places has its row, once and in order", named, sorted(NUMBERS))
+    checks.equal("each of 01's places has its row, once and in order", rows_of(text), sorted(NUMBERS))
     for word in ("## A split in pictures", "## A join in pictures", "route", "base", "main", "neighbour"):
         checks.that(f"it has '{word}'", word in text)
     checks.that("it is read in ten minutes", len(text.split()) < 2300, len(text.split()))
     readme = (ROOT / "README.md").read_text()
     checks.that("the README leads there more than once", readme.count("docs/PLACES.md") >= 2)
+    _, table, lines = re.split(r"^## The places$|^## Lines 138 to 214, one by one$", RANGE.read_text(), flags=re.M)
+    checks.equal("each place of a query has its row, once and in order", rows_of(table), sorted(QUERY_NUMBERS))
+    told = set()
+    for cell in re.findall(r"^\| ([\d–, ]+)(?: \(|\|)", lines.partition("\n## ")[0], re.M):
+        for first, last in re.findall(r"(\d+)(?:–(\d+))?", cell):
+            told |= set(range(int(first), int(last or first) + 1))
+    checks.equal("and each line of a query", sorted(QUERY_LINES - told), [])
+    checks.that("the README leads there too", "docs/RANGE.md" in readme)
 
 
 def listings(checks):

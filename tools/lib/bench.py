@@ -11,7 +11,7 @@ import asking
 import library as library_module
 import processes
 from faults import BenchError
-from text_form import ACTIONS, DEEP, DEPTH_MOST, VERSION, version_of
+from text_form import ACTIONS, DEEP, DEPTH_MOST, STATIONS, VERSION, version_of
 
 ROOT = library_module.ROOT
 PROGRAM = Path(os.environ.get("NUXALDER_BENCH") or ROOT / "target" / "bin" / "bench")
@@ -26,30 +26,35 @@ REFUSALS = {
     5: "a row buffer under 2 * count bytes, in version 2 under 7 * count",
     6: "a text buffer under 4,096 bytes, in version 2 under 8,192",
     7: "a thread over 3",
-    8: "an action over 5",
+    8: "an action over 5, in version 2 over 6",
     9: "a start with a station over 63",
     10: "unused bytes that are not 0",
     11: "a start of a busy thread",
     12: "a step of an idle thread",
     13: "a swap that needs more node numbers than are left",
     14: "an insert with a depth over 9,999",
+    15: "a range query with an upper end over 63 or below its station",
+    16: "a swap that needs a store of a range query, and all 64 are used",
     17: "a thread that is not its file's",
     18: "an output buffer under 3 + 4 * the smaller count bytes",
     21: "an event out of place",
     22: "more than 12 operations",
     23: "an operation that is not finished",
-    24: "an insert, remove, split or join on threads 1 to 3, where only thread 0 writes",
+    24: "an insert, remove, split or join on threads 1 to 3, or a range query, where only thread 0 writes",
 }
 # What they say of a file of one version, and for version 2 what would be right.
 OF_VERSION = {
     VERSION: {
         2: "a version other than 1 and 2",
         4: "a length other than 3 + 2 * count",
+        8: "an action over 5",
         10: "a step whose second byte is not 0",
+        24: "an insert, remove, split or join on threads 1 to 3, where only thread 0 writes",
     },
     DEEP: {
         4: "a length other than 3 + 4 * count: a record of version 2 has four bytes",
-        10: "unused bytes that are not 0: only an insert has a depth, and a step has no station",
+        8: "an action over 6",
+        10: "unused bytes that are not 0: only an insert has a depth and only a range an upper end, and a step has no station",
         14: f"an insert with a depth over 9,999: a depth is 0 to {DEPTH_MOST} mm",
     },
 }
@@ -69,7 +74,8 @@ REASONS = {
 
 @dataclass
 class Row:
-    """A finished operation: its line in the printed run, its answer and, where a split or join did nothing, why."""
+    """A finished operation: its line in the printed run, its answer and, where a split or join did nothing, why; of a range query the
+    stations that it found."""
 
     text: str
     answer: int
@@ -120,6 +126,8 @@ def row_of(thread, action, station, answer, *more):
     if isinstance(reason, dict):
         reason = reason[ACTIONS[action]]
     found = f" {more[0]}" if more and (ACTIONS[action], answer) == ("lookup", YES) else ""
+    if ACTIONS[action] == "range":
+        reason = "found " + (" ".join(str(s) for s in range(STATIONS) if more[1] >> s & 1) or "none")
     return Row(f"t{thread} {ACTIONS[action]} {station} {'yes' if answer == YES else 'no'}{found}", answer, reason)
 
 

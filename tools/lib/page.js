@@ -31,7 +31,7 @@ const badge = (thread) => `<b class="badge b${thread}">t${thread}</b>`;
 const wordsOf = ({ row }) => row.split(" ");
 const answer = (given) => { const word = wordsOf(given)[3]; return `<em class="answer ${word}">${word}</em>`; };
 const found = (given) => { const depth = wordsOf(given)[4]; return depth === undefined ? "" : `<span class="found">${depth}</span>`; };
-// Why a split or join did nothing.
+// Why a split or join did nothing; the stations that a range query found.
 const why = ({ reason }) => (reason ? `<small class="why" title="${reason}">${reason}</small>` : "");
 // "t0 insert 3" with the thread as a badge; a raw record stands as it is.
 const withBadge = (text) => (/^t[0-3] /.test(text) ? `${badge(text[1])}<span>${text.slice(3)}</span>` : `<span>${text}</span>`);
@@ -295,6 +295,7 @@ function setUp() {
   part("rows").innerHTML = run.rows.map(([turn, row, reason]) => `<li hidden data-turn="${turn}">${rowHtml({ row, reason })}<i>${turn}</i></li>`).join("");
   part("grid").innerHTML = Array.from({ length: 64 }, (_, station) => `<i>${station}</i>`).join("");
   if (run.deep) part("hint").textContent += " 3=640: station 3 at a depth of 640 mm.";
+  part("range-key").hidden = !run.listings.some(([, text]) => / range /.test(text));
   if (run.refusal) {
     const left = run.records.length - lastTurn;
     part("refusal").textContent = refusedFile ? `The file is ${run.why}.`

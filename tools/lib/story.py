@@ -4,7 +4,7 @@ import difflib
 from dataclasses import dataclass
 
 import bench
-from text_form import ACTIONS, DEEP, INSERT, STEP, record_text, records_of, version_of
+from text_form import ACTIONS, DEEP, INSERT, RANGE, STEP, record_text, records_of, version_of
 
 MARGIN = " " * 11
 
@@ -26,8 +26,8 @@ def deeds_of(records):
         if action == STEP:
             steps[thread] += 1
         else:
-            depth = f" {int.from_bytes(bytes(more), 'big')}" if more and action == INSERT else ""
-            operation[thread], steps[thread] = f"{ACTIONS[action]} {second}{depth}", 0
+            extra = f" {int.from_bytes(bytes(more), 'big')}" if more and action in (INSERT, RANGE) else ""
+            operation[thread], steps[thread] = f"{ACTIONS[action]} {second}{extra}", 0
         deeds.append(Deed(thread, operation[thread], steps[thread]))
     return deeds
 

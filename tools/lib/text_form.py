@@ -1,4 +1,4 @@
-"""The text form of a schedule: text to the file of document 01, or of document 02 (a) for version 2, and back.
+"""The text form of a schedule: text to the file of document 01, or of document 02 (a and b) for version 2, and back.
 
 docs/SCHEDULES.md describes the form. Every file, also one that 01 refuses, has a text that encodes to it.
 """
@@ -10,13 +10,14 @@ import unicodedata
 from faults import Fault
 
 VERSION = 1
-DEEP = 2  # the version whose inserts have depths
+DEEP = 2  # the version whose inserts have depths, and which has range queries
 VERSIONS = (VERSION, DEEP)  # a file that starts with one of these bytes is a schedule file, any other is text
 RECORD = {VERSION: 2, DEEP: 4}  # bytes of a record; those of version 1 where there is no such version
 HEADER = 3
-ACTIONS = ("step", "lookup", "insert", "remove", "split", "join")
+ACTIONS = ("step", "lookup", "insert", "remove", "split", "join", "range")
 STEP = 0
 INSERT = 2
+RANGE = 6  # of version 2: from the station to an upper end
 THREADS = 4
 STATIONS = 64
 DEPTH_MOST = 9999
@@ -35,13 +36,14 @@ SYNONYMS = {
     **dict.fromkeys(("delete", "del", "erase", "discard", "rm"), "remove"),
     **dict.fromkeys(("end", "complete", "done"), FINISH),
     **dict.fromkeys(("next", "turn"), "step"),
+    **dict.fromkeys(("query", "scan", "between"), "range"),
     "merge": "join",
 }
 
 # How the first bytes of text in another encoding look.
 ENCODINGS = {b"\xff\xfe\0\0": "UTF-32", b"\0\0\xfe\xff": "UTF-32", b"\xff\xfe": "UTF-16", b"\xfe\xff": "UTF-16"}
 BOM = b"\xef\xbb\xbf"
-DEPTH_LINE = re.compile(rb"[ \t]*t[0-3][ \t]+insert[ \t]+[^ \t#]+[ \t]+[^ \t\r#]")
+DEEP_LINE = re.compile(rb"[ \t]*t[0-3][ \t]+(insert[ \t]+[^ \t#]+[ \t]+[^ \t\r#]|range[ \t\r#]|range$)")
 
 
 class BadText(Fault):
@@ -162,14 +164,14 @@ class _Encoder:
         self.lines = []  # the line of each byte of the records and the tail
         self.finisher = finisher
         self.sound = True  # whether all lines so far were good
-        self.deep_line = 0  # the first line that gives an insert's depth, 0 for none
+        self.deep_line = 0  # the first line that only version 2 has, an insert's depth or a range query; 0 for none
 
     def prepare(self, lines):
-        """What must be known of the whole text before its first line: whether a depth is given."""
-        self.deep_line = next((number for number, raw in enumerate(lines, 1) if DEPTH_LINE.match(raw)), 0)
+        """What must be known of the whole text before its first line: whether it has a line that only version 2 has."""
+        self.deep_line = next((number for number, raw in enumerate(lines, 1) if DEEP_LINE.match(raw)), 0)
 
     def version(self):
-        """The version of the file: the one that a line says or, where none does, that of the depths."""
+        """The version of the file: the one that a line says or, where none does, that of its depths and range queries."""
         if "no-header" in self.header:
             return VERSION
         return self.header.get("version", DEEP if self.deep_line else VERSION)
@@ -223,14 +225,19 @@ class _Encoder:
         if first == "raw":
             record = self.raw_record(line)
         else:
-            word = line.choice(ACTION_WORDS, "an action is step, finish, lookup, insert, remove, split or join")
+            word = line.choice(ACTION_WORDS, "an action is step, finish, lookup, insert, remove, split, join or range")
             action = STEP if word == FINISH else ACTIONS.index(word)
             record = [16 * int(first[1]) + action, *[0] * (self.width() - 1)]
             if word == FINISH:
                 times = self.steps_left(word, int(first[1]))
             elif action != STEP:
+                if action == RANGE:
+                    self.needs_deep("a range query", word)
                 record[1] = line.number(0, STATIONS - 1, f"a station is a number 0 to {STATIONS - 1}")
-                if line.more():
+                if action == RANGE:
+                    right = f"the upper end of a range is a number from its station, {record[1]}, to {STATIONS - 1}"
+                    record[2:] = line.number(record[1], STATIONS - 1, right).to_bytes(2, "big")
+                elif line.more():
                     record[2:] = self.depth(action, line).to_bytes(2, "big")
             elif line.more():
                 times = self.step_count(line)
@@ -260,10 +267,14 @@ class _Encoder:
             if self.version() != DEEP:
                 line.end()
             raise _wrong(line.words[line.at], "only an insert has a depth")
+        self.needs_deep("a depth", line.words[line.at])
+        return line.number(0, DEPTH_MOST, f"a depth is a number of millimetres, 0 to {DEPTH_MOST}")
+
+    def needs_deep(self, what, word):
+        """The text must be of the version that has it."""
         if self.version() != DEEP:
             told = f"the text says version {self.version()}" if "version" in self.header else "with no-header there is no version"
-            raise _wrong(line.words[line.at], f"a depth needs version {DEEP}, and {told}")
-        return line.number(0, DEPTH_MOST, f"a depth is a number of millimetres, 0 to {DEPTH_MOST}")
+            raise _wrong(word, f"{what} needs version {DEEP}, and {told}")
 
     @staticmethod
     def step_count(line):
@@ -361,16 +372,17 @@ def encode(text, name):
 
 
 def record_text(first, second, *more):
-    """One record as a line of text; `more` is what a record of version 2 has, two bytes of depth."""
+    """One record as a line of text; `more` is what a record of version 2 has, two bytes: an insert's depth, a range's upper end."""
     thread, action = first >> 4, first & 15
-    depth = int.from_bytes(bytes(more), "big")
-    if thread < THREADS and action == STEP and second == depth == 0:
-        return f"t{thread} step"
-    if thread < THREADS and action == INSERT and second < STATIONS and more and depth <= DEPTH_MOST:
-        return f"t{thread} {ACTIONS[action]} {second} {depth}"
-    if thread < THREADS and STEP < action < len(ACTIONS) and second < STATIONS and depth == 0:
-        return f"t{thread} {ACTIONS[action]} {second}"
-    return f"raw {bytes((first, second, *more)).hex(' ')}"
+    extra = int.from_bytes(bytes(more), "big")
+    raw = f"raw {bytes((first, second, *more)).hex(' ')}"
+    if thread >= THREADS or action >= len(ACTIONS) or second >= STATIONS:
+        return raw
+    if action == STEP:
+        return f"t{thread} step" if second == extra == 0 else raw
+    if more and (action == INSERT and extra <= DEPTH_MOST or action == RANGE and second <= extra < STATIONS):
+        return f"t{thread} {ACTIONS[action]} {second} {extra}"
+    return f"t{thread} {ACTIONS[action]} {second}" if extra == 0 and action != RANGE else raw
 
 
 def version_of(file):

@@ -28,7 +28,7 @@
 
 #include "nuxalder.h"
 
-enum { RECORDS_MOST = 4096, HEADER = 3, FILE_ROOM = 1 << 18, ACTIONS = 6, THREADS = 4, UNTOUCHED = 0xA5 };
+enum { RECORDS_MOST = 4096, HEADER = 3, FILE_ROOM = 1 << 18, ACTIONS = 7, THREADS = 4, UNTOUCHED = 0xA5 };
 
 #ifdef ONE_WRITER
 #define RUN nuxalder_run_one_writer

@@ -7,21 +7,20 @@ use Prim.Native.Nat.{ℕ}
 use lib.Dec.{eqb, ltb, leb}
 use Rattle.container.specs.Choice.{ite}
 use Rattle.definitions.specs.declared.Action.{Action}
-use Rattle.definitions.specs.declared.Action.the-variants.{Lookup, Insert, Remove, Split, Join}
+use Rattle.definitions.specs.declared.Action.the-variants.{Lookup, Insert, Remove, Split, Join, Query}
 use Rattle.definitions.specs.declared.Effect.{Effect}
+use Rattle.definitions.specs.declared.Effect.the-variants.{Quiet}
 use Rattle.definitions.specs.declared.Answer.the-variants.{No, Yes, At}
-use Rattle.definitions.specs.declared.Thread.{Thread}
-use Rattle.definitions.specs.declared.Turn.{Turn}
-use Rattle.definitions.specs.declared.Turn.the-variants.{Moves, Finishes, Full}
+use Rattle.definitions.specs.Threads.{Thread, Turn, Moves, Finishes, Finds, Full, NoStore}
 use Rattle.definitions.specs.Bench.{Store}
-use Rattle.definitions.specs.Places.{own, found, united, Place, nowhere, p1, p2, p3, p15, p16, p20, p21, p22, p23, p24, p25, p30, p31, p32, p33, p34, p35, p36, p37, p38, p40, p45, p46, p47, p48, p49, p50, p51, swap, placeOf}
+use Rattle.definitions.specs.Places.{own, found, united, opening, next, Place, nowhere, p1, p2, p3, p15, p16, p20, p21, p22, p23, p24, p25, p30, p31, p32, p33, p34, p35, p36, p37, p38, p40, p45, p46, p47, p48, p49, p50, p51, p60, p61, p62, p70, p71, p72, p73, p74, p76, p81, p82, swap, placeOf}
 use Rattle.definitions.specs.Answers.{said, shown}
 use Rattle.definitions.specs.Reasons.{changes, Reason}
 
 -- ---- the parts of an operation
 
 pub data Part : Type 0 where
-  -- none; 1-16; 20-25; 26-38; 40-51
+  -- none; 1-16 and 60-82; 20-25; 26-38; 40-51
   idle free seeking holding helping : Part
 
 abbrev pub partOf : Place → Part
@@ -57,6 +56,19 @@ partOf p48 = helping
 partOf p49 = helping
 partOf p50 = helping
 partOf p51 = helping
+partOf p60 = free
+partOf p61 = free
+partOf p62 = free
+partOf (swap opening q) = free
+partOf p70 = free
+partOf p71 = free
+partOf p72 = free
+partOf p73 = free
+partOf p74 = free
+partOf p76 = free
+partOf (swap next q) = free
+partOf p81 = free
+partOf p82 = free
 
 -- d: the thread's operation has made its change. From 40 on the owner's has, a helper's has not
 abbrev pub Stand : Part → Thread → Bool → Type 0
@@ -73,17 +85,25 @@ Stands th d = Stand (partOf (placeOf (th .place))) th d
 abbrev pub Told : Thread → ℕ → (Effect → Bool) → Turn → Type 0
 Told th n f (Moves th' e) = Stands th' (f e)
 Told th n f (Finishes e a) = Reason (th .action) n (f e) (shown a)
+Told th n f (Finds c) = Reason (th .action) n (f Quiet) (said (not (eqb c 0)))
 Told th n f Full = Unit {0}
+Told th n f NoStore = Unit {0}
 
 pub same : (th : Thread) (n : ℕ) (f : Effect → Bool) (c : Bool) (o : Turn) → ((e : Effect) → f e ≡ c) → Told th n (λ _. c) o → Told th n f o
 same th n f c (Moves th' e) h k = rw (h e) k
 same th n f c (Finishes e a) h k = rw (h e) k
+same th n f c (Finds c') h k = rw (h Quiet) k
 same th n f c Full h k = tt
+same th n f c NoStore h k = tt
 
 pub either : (th : Thread) (n : ℕ) (f : Effect → Bool) (c : Bool) (o o' : Turn) → (c ≡ true → Told th n f o) → (c ≡ false → Told th n f o') → Told th n f (ite c o o')
 unfolding ite
 either th n f true o o' p q = p refl
 either th n f false o o' p q = q refl
+
+pub one-of : (v : Bool) → (said v ≡ No) ⊎ (said v ≡ Yes)
+one-of true = inr refl
+one-of false = inl refl
 
 pub one-shown : (v : Bool) → (shown (said v) ≡ No) ⊎ (shown (said v) ≡ Yes)
 one-shown true = inr refl
@@ -117,3 +137,4 @@ none Insert n s s' th h i = refl
 none Remove n s s' th h i = refl
 none Split n s s' th h i = rw h
 none Join n s s' th h i = rw i
+none Query n s s' th h i = refl

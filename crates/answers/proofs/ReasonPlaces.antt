@@ -14,7 +14,7 @@ use Rattle.definitions.specs.declared.Link.the-variants.{Nil, To}
 use Rattle.definitions.specs.declared.Check.{Check}
 use Rattle.definitions.specs.declared.Node.{Node}
 use Rattle.definitions.specs.declared.Action.{Action}
-use Rattle.definitions.specs.declared.Action.the-variants.{Lookup, Insert, Remove, Split, Join}
+use Rattle.definitions.specs.declared.Action.the-variants.{Lookup, Insert, Remove, Split, Join, Query}
 use Rattle.definitions.specs.declared.Quarter.{Quarter}
 use Rattle.definitions.specs.declared.Quarter.the-variants.{ReadLeft, SwapLeft, ReadRight, SwapRight}
 use Rattle.definitions.specs.declared.Spot.{Spot}
@@ -24,16 +24,17 @@ use Rattle.definitions.specs.declared.Probe.the-variants.{Hit, Next, Miss}
 use Rattle.definitions.specs.declared.Effect.{Effect}
 use Rattle.definitions.specs.declared.Effect.the-variants.{Fork, Commit}
 use Rattle.definitions.specs.declared.Answer.the-variants.{Yes, Lacking}
-use Rattle.definitions.specs.declared.Thread.{Thread}
-use Rattle.definitions.specs.declared.Turn.{Turn}
+use Rattle.definitions.specs.Threads.{Thread, Turn}
 use Rattle.definitions.specs.Nodes.{childFor, check, isPreparing}
 use Rattle.definitions.specs.Bench.{Store, Sight, sightOf}
-use Rattle.definitions.specs.Places.{own, found, united, Place, nowhere, p1, p2, p3, p15, p16, p20, p21, p22, p23, p24, p25, p30, p31, p32, p33, p34, p35, p36, p37, p38, p40, p45, p46, p47, p48, p49, p50, p51, swap, placeOf, number, at}
+use Rattle.definitions.specs.Places.{own, found, united, opening, next, Place, nowhere, p1, p2, p3, p15, p16, p20, p21, p22, p23, p24, p25, p30, p31, p32, p33, p34, p35, p36, p37, p38, p40, p45, p46, p47, p48, p49, p50, p51, p60, p61, p62, p70, p71, p72, p73, p74, p76, p81, p82, swap, placeOf, number, at}
 use Rattle.definitions.specs.Effects.{perform}
+use Rattle.definitions.specs.Frames.{back}
 use Rattle.definitions.specs.Steps.{says, atLeaf, reached, helpBy, blockedAs, blocked, lacksAs, lacks, joinUnder, clearedAs, cleared, probe, lostAs, lost, replacedAs, replaced, ownBy, foundBy, unitedBy, beside, grandMarking, backOut, ended, cutAt, cutOn, cutRight, freeing, step}
 use Rattle.definitions.specs.Reasons.{changes, Reason}
 use Rattle.answers.proofs.PlaceNumbers.{place-number, number-of}
 use Rattle.answers.proofs.ReasonParts.{partOf, Stand, Stands, Told, same, either, one-shown, one-looked, or-off, apart, all-of, none}
+use Rattle.answers.proofs.ReasonQueries.{Free, fork, goes-back, at-60, at-61, at-62, at-opening, at-70, at-71, at-72, at-73, at-74, at-76, at-next, at-81, at-82}
 
 -- where nothing is written, none either
 not-less : (n : ℕ) → ltb n n ≡ false
@@ -70,53 +71,58 @@ module _ (s : Store) (th : Thread) where
   calmly p c d e h i k = let (o, u, v) = all-of (ltb 0 (number p)) _ _ h in
       placed p d e (ltb-true 0 (number p) o) (same th (number p) (after (number p) d) c (step p r th) (λ z. ap (λ x. d || x) (none (th .action) (number p) s (perform z s) th u v) ∙ or-off d ∙ i) k)
 
-  abbrev Free : ℕ → Turn → Type 0
-  Free n o = Told th n (λ _. false) o
+  abbrev Calm : ℕ → Turn → Type 0
+  Calm n o = Free r th n o
 
-  fork : (n : ℕ) (c : Bool) (o o' : Turn) → Free n o → Free n o' → Free n (ite c o o')
-  fork n c o o' p q = either th n (λ _. false) c o o' (λ _. p) (λ _. q)
+  split : (n : ℕ) (c : Bool) (o o' : Turn) → Calm n o → Calm n o' → Calm n (ite c o o')
+  split n c o o' p q = fork r th n c o o' p q
 
   -- ---- 1 to 3
 
-  leaf : (n : ℕ) (a : Action) (x : ℕ) → th .action ≡ a → Free n (atLeaf a (r .nodes) th x)
+  leaf : (n : ℕ) (a : Action) (x : ℕ) → th .action ≡ a → Calm n (atLeaf a (r .nodes) th x)
   leaf n Lookup x i = rw i (one-looked (has (r .nodes x .container) (th .station)) x)
   leaf n Insert x i = refl
   leaf n Remove x i = refl
   leaf n Split x i = refl
   leaf n Join x i = refl
+  leaf n Query x i = tt
 
-  reach : (n x : ℕ) → Free n (reached (r .nodes) th x)
+  reach : (n x : ℕ) → Calm n (reached (r .nodes) th x)
   unfolding reached
-  reach n x = fork n _ _ _ refl (leaf n (th .action) x refl)
+  reach n x = split n _ _ _ refl (leaf n (th .action) x refl)
 
-  lacking : (a : Action) (b : Node) → th .action ≡ a → lacksAs a b ≡ true → Free 3 (says Lacking)
+  lacking : (a : Action) (b : Node) → th .action ≡ a → lacksAs a b ≡ true → Calm 3 (says Lacking)
   lacking Lookup b i h = absurd (false≢true h)
   lacking Insert b i h = absurd (false≢true h)
   lacking Remove b i h = absurd (false≢true h)
+  lacking Query b i h = absurd (false≢true h)
   lacking Split b i h = rw i (refl, refl)
   lacking Join b i h = rw i (refl, refl)
 
-  link : (l : Link) → th .action ≡ Join → Free 3 (joinUnder l th)
+  link : (l : Link) → th .action ≡ Join → Calm 3 (joinUnder l th)
   link Nil i = rw i (refl, refl)
   link (To p) i = (i, refl)
 
-  clear : (a : Action) (b : Node) → th .action ≡ a → Free 3 (clearedAs a b th)
+  clear : (a : Action) (b : Node) → th .action ≡ a → Calm 3 (clearedAs a b th)
   clear Lookup b i = rw i (inl refl)
   clear Insert b i = refl
   clear Remove b i = refl
   clear Split b i = refl
   clear Join b i = link (b .parent) i
+  clear Query b i = tt
 
-  help : (n : ℕ) (c : Check) → Free n (helpBy c th)
-  help n Check.Replaceable = refl
+  help : (n : ℕ) (c : Check) → Calm n (helpBy c th)
+  help n Check.Replaceable = goes-back r th n _
   help n (Check.Preparing m) = refl
   help n (Check.Completing m) = refl
-  help n Check.Stale = refl
+  help n Check.Stale = goes-back r th n _
+  help n (Check.Unset l h k) = refl
 
-  block : (a : Action) (c : Check) → th .action ≡ a → Free 3 (blockedAs a c th)
+  block : (a : Action) (c : Check) → th .action ≡ a → Calm 3 (blockedAs a c th)
   block Lookup c i = rw i (inl refl)
   block Insert c i = help 3 c
   block Remove c i = help 3 c
+  block Query c i = tt
   block Split c i = rw i (refl, refl)
   block Join c i = rw i (refl, refl)
 
@@ -126,6 +132,7 @@ module _ (s : Store) (th : Thread) where
   quiet-own Lookup q = refl
   quiet-own Insert q = refl
   quiet-own Remove q = refl
+  quiet-own Query q = refl
   quiet-own Split q = rw (in-own q) (not-less (s .used))
   quiet-own Join ReadLeft = refl
   quiet-own Join SwapLeft = refl
@@ -136,6 +143,7 @@ module _ (s : Store) (th : Thread) where
   lost-own Lookup q i = rw i (inl refl)
   lost-own Insert q i = rw i refl
   lost-own Remove q i = rw i refl
+  lost-own Query q i = tt
   lost-own Split q i = rw i (sym (quiet-own Split q), inl (own-range q))
   lost-own Join q i = rw i (sym (quiet-own Join q), inl (own-range q))
 
@@ -148,6 +156,7 @@ module _ (s : Store) (th : Thread) where
   hit-own Lookup q v b i = tt
   hit-own Insert q v b i = either th _ _ _ _ _ (λ _. rw i (one-shown (not (has (b .container) (th .station))))) (λ _. tt)
   hit-own Remove q v b i = either th _ _ _ _ _ (λ _. rw i (one-shown (has (b .container) (th .station)))) (λ _. tt)
+  hit-own Query q v b i = tt
   hit-own Split q v b i = either th _ _ _ _ _ (λ _. rw (i, in-own q) (sym (forks v _ _ _ _), tt)) (λ _. tt)
   hit-own Join q v b i = tt
 
@@ -160,19 +169,19 @@ module _ (s : Store) (th : Thread) where
   -- ---- 26 to 38
 
   module _ (i : th .action ≡ Join) (o : th .owner ≡ true) where
-    by-found : (n : ℕ) (p : Probe) (b : Node) → Free n (foundBy p b (s .used) th)
-    by-found n (Hit v) b = fork n _ _ _ (i, o, refl) tt
+    by-found : (n : ℕ) (p : Probe) (b : Node) → Calm n (foundBy p b (s .used) th)
+    by-found n (Hit v) b = split n _ _ _ (i, o, refl) tt
     by-found n (Next q) b = rw (place-number (swap found q)) (i, o, refl)
     by-found n Miss b = (i, o, refl)
 
-    grand : (l : Link) → Free 33 (grandMarking l (r .nodes) th)
+    grand : (l : Link) → Calm 33 (grandMarking l (r .nodes) th)
     grand Nil = (i, o, refl)
-    grand (To g) = fork 33 _ _ _ (i, o, refl) (i, o, refl)
+    grand (To g) = split 33 _ _ _ (i, o, refl) (i, o, refl)
 
     -- 35: the stage of its main becomes a node number, or it goes back
-    back : (l : Link) → Stands (at (backOut l) th) false
-    back Nil = (i, o, refl)
-    back (To g) = (i, o, refl)
+    backs : (l : Link) → Stands (at (backOut l) th) false
+    backs Nil = (i, o, refl)
+    backs (To g) = (i, o, refl)
 
     made : isPreparing (s .nodes (th .main) .stage) ≡ true → (x : ℕ) (p : Link) (n : ℕ) (g : Link) (y : ℕ) → changes (th .action) 35 s (perform (Commit (th .main) x p n g y) s) th ≡ true
     made e x p n g y = rw (i, e, eq-eqb (th .main) (th .main) refl)
@@ -182,7 +191,7 @@ module _ (s : Store) (th : Thread) where
 
     at-35 : Told th 35 (after 35 false) (step p35 r th)
     unfolding step
-    at-35 = either th 35 _ _ _ _ (λ e. either th 35 _ _ _ _ (λ _. made e _ _ _ _ _ ∙ sym o) (λ _. tt)) (λ e. rw (not-made e) (back (th .grandparent)))
+    at-35 = either th 35 _ _ _ _ (λ e. either th 35 _ _ _ _ (λ _. made e _ _ _ _ _ ∙ sym o) (λ _. tt)) (λ e. rw (not-made e) (backs (th .grandparent)))
 
   -- ---- 40 to 51
 
@@ -196,11 +205,12 @@ module _ (s : Store) (th : Thread) where
   says-yes n Lookup e = inr refl
   says-yes n Insert e = inr refl
   says-yes n Remove e = inr refl
+  says-yes n Query e = inr refl
   says-yes n Split e = (sym e, tt)
   says-yes n Join e = (sym e, tt)
 
   ends : (n : ℕ) (v : Effect) → Helps n (ended v th)
-  ends n v = either th n _ _ _ _ (λ e. says-yes n (th .action) e) (λ e. e)
+  ends n v = either th n _ _ _ _ (λ e. says-yes n (th .action) e) (λ e. subst (λ c. Told th n (λ _. c) (back v th)) (sym e) (goes-back r th n v))
 
   by-united : (n : ℕ) (p : Probe) (m : Node) → Helps n (unitedBy p m th)
   by-united n (Hit v) m = refl
@@ -237,25 +247,37 @@ module _ (s : Store) (th : Thread) where
   apart-united ReadRight = refl
   apart-united SwapRight = refl
 
+  apart-opening : (q : Quarter) → apart (number (swap opening q)) ≡ true
+  apart-opening ReadLeft = refl
+  apart-opening SwapLeft = refl
+  apart-opening ReadRight = refl
+  apart-opening SwapRight = refl
+
+  apart-next : (q : Quarter) → apart (number (swap next q)) ≡ true
+  apart-next ReadLeft = refl
+  apart-next SwapLeft = refl
+  apart-next ReadRight = refl
+  apart-next SwapRight = refl
+
   pub told : (p : Place) (d : Bool) → placeOf (th .place) ≡ p → Stand (partOf p) th d → Step p d
   unfolding step beside lacks cleared blocked
   told nowhere d e h = rw e tt
   told p1 d e h = calmly p1 false d e refl h (reach 1 (r .root))
   told p2 d e h = calmly p2 false d e refl h (reach 2 (childFor (th .station) (r .nodes (th .route))))
-  told p3 d e h = calmly p3 false d e refl h (either th 3 _ _ _ _ (λ z. lacking (th .action) (r .nodes (th .base)) refl z) (λ _. fork 3 _ _ _ (clear (th .action) (r .nodes (th .base)) refl) (block (th .action) (check (r .nodes) (th .base)) refl)))
+  told p3 d e h = calmly p3 false d e refl h (either th 3 _ _ _ _ (λ z. lacking (th .action) (r .nodes (th .base)) refl z) (λ _. split 3 _ _ _ (clear (th .action) (r .nodes (th .base)) refl) (block (th .action) (check (r .nodes) (r .stores) (th .base)) refl)))
   told (swap own q) d e h = placed (swap own q) d e (omega (arith, own-range q)) (rw h (by-own q (probe q (r .nodes (th .base) .parent) (r .nodes) (r .root) (th .base)) (r .nodes (th .base))))
-  told p15 d e h = calmly p15 false d e refl h (help 15 (check (r .nodes) (th .base)))
-  told p16 d e h = calmly p16 false d e refl h (fork 16 _ _ _ refl refl)
-  told p20 d e (i, h) = calmly p20 false d e refl h (fork 20 _ _ _ (i, refl) (i, refl))
-  told p21 d e (i, h) = calmly p21 false d e refl h (fork 21 _ _ _ (i, refl) (rw i (refl, inr (inl refl))))
-  told p22 d e (i, h) = calmly p22 false d e refl h (fork 22 _ _ _ (i, refl) (i, refl))
-  told p23 d e (i, h) = calmly p23 false d e refl h (fork 23 _ _ _ (i, refl) (i, refl))
-  told p24 d e (i, h) = calmly p24 false d e refl h (fork 24 _ _ _ (i, refl) (rw i (refl, refl)))
-  told p25 d e (i, h) = calmly p25 false d e refl h (fork 25 _ _ _ (fork 25 _ _ _ (i, refl, refl) tt) (rw i (refl, inr (inr refl))))
+  told p15 d e h = calmly p15 false d e refl h (help 15 (check (r .nodes) (r .stores) (th .base)))
+  told p16 d e h = calmly p16 false d e refl h (split 16 _ _ _ (goes-back r th 16 _) (goes-back r th 16 _))
+  told p20 d e (i, h) = calmly p20 false d e refl h (split 20 _ _ _ (i, refl) (i, refl))
+  told p21 d e (i, h) = calmly p21 false d e refl h (split 21 _ _ _ (i, refl) (rw i (refl, inr (inl refl))))
+  told p22 d e (i, h) = calmly p22 false d e refl h (split 22 _ _ _ (i, refl) (i, refl))
+  told p23 d e (i, h) = calmly p23 false d e refl h (split 23 _ _ _ (i, refl) (i, refl))
+  told p24 d e (i, h) = calmly p24 false d e refl h (split 24 _ _ _ (i, refl) (rw i (refl, refl)))
+  told p25 d e (i, h) = calmly p25 false d e refl h (split 25 _ _ _ (split 25 _ _ _ (i, refl, refl) tt) (rw i (refl, inr (inr refl))))
   told (swap found q) d e (i, o, h) = calmly (swap found q) false d e (apart-found q) h (by-found i o (number (swap found q)) (probe q (r .nodes (th .found) .parent) (r .nodes) (r .root) (th .found)) (r .nodes (th .found)))
-  told p30 d e (i, o, h) = calmly p30 false d e refl h (fork 30 _ _ _ (i, o, refl) (i, o, refl))
-  told p31 d e (i, o, h) = calmly p31 false d e refl h (fork 31 _ _ _ (i, o, refl) (fork 31 _ _ _ (i, o, refl) (i, o, refl)))
-  told p32 d e (i, o, h) = calmly p32 false d e refl h (fork 32 _ _ _ (i, o, refl) (fork 32 _ _ _ (i, o, refl) (i, o, refl)))
+  told p30 d e (i, o, h) = calmly p30 false d e refl h (split 30 _ _ _ (i, o, refl) (i, o, refl))
+  told p31 d e (i, o, h) = calmly p31 false d e refl h (split 31 _ _ _ (i, o, refl) (split 31 _ _ _ (i, o, refl) (i, o, refl)))
+  told p32 d e (i, o, h) = calmly p32 false d e refl h (split 32 _ _ _ (i, o, refl) (split 32 _ _ _ (i, o, refl) (i, o, refl)))
   told p33 d e (i, o, h) = calmly p33 false d e refl h (grand i o (th .grandparent))
   told p34 d e (i, o, h) = calmly p34 false d e refl h (i, o, refl)
   told p35 d e (i, o, h) = placed p35 d e (omega arith) (rw h (at-35 i o))
@@ -271,3 +293,16 @@ module _ (s : Store) (th : Thread) where
   told p49 d e h = calmly p49 (th .owner) d e refl h (at-47 49 false (r .nodes (th .main) .grandparent) (r .nodes (th .main)))
   told p50 d e h = calmly p50 (th .owner) d e refl h (at-50 (r .nodes (th .main) .grandparent))
   told p51 d e h = calmly p51 (th .owner) d e refl h (ends 51 _)
+  told p60 d e h = calmly p60 false d e refl h (at-60 r th)
+  told p61 d e h = calmly p61 false d e refl h (at-61 r th)
+  told p62 d e h = calmly p62 false d e refl h (at-62 r th)
+  told (swap opening q) d e h = calmly (swap opening q) false d e (apart-opening q) h (at-opening r th (number (swap opening q)) q)
+  told p70 d e h = calmly p70 false d e refl h (at-70 r th)
+  told p71 d e h = calmly p71 false d e refl h (at-71 r th)
+  told p72 d e h = calmly p72 false d e refl h (at-72 r th)
+  told p73 d e h = calmly p73 false d e refl h (at-73 r th)
+  told p74 d e h = calmly p74 false d e refl h (at-74 r th)
+  told p76 d e h = calmly p76 false d e refl h (at-76 r th)
+  told (swap next q) d e h = calmly (swap next q) false d e (apart-next q) h (at-next r th (number (swap next q)) q)
+  told p81 d e h = calmly p81 false d e refl h (at-81 r th)
+  told p82 d e h = calmly p82 false d e refl h (at-82 r th)

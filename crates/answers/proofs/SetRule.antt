@@ -12,7 +12,7 @@ use Rattle.definitions.specs.declared.Link.{Link}
 use Rattle.definitions.specs.declared.Link.the-variants.{Nil}
 use Rattle.definitions.specs.declared.Answer.{Answer}
 use Rattle.definitions.specs.declared.Action.{Action}
-use Rattle.definitions.specs.declared.Action.the-variants.{Lookup, Insert, Remove, Split, Join}
+use Rattle.definitions.specs.declared.Action.the-variants.{Lookup, Insert, Remove, Split, Join, Query}
 use Rattle.definitions.specs.Bench.{Bench, fresh}
 use Rattle.definitions.specs.Records.{Row, noRow, row, Result, refused, carried, recordStep}
 use Rattle.definitions.specs.Answers.{said}
@@ -52,6 +52,7 @@ settled-same (doing Insert st d) T S h s = in-cond (eqb s st) _ _ true (S s) ref
 settled-same (doing Remove st d) T S h s = in-cond (eqb s st) _ _ false (S s) refl (h s)
 settled-same (doing Split st d) T S h s = h s
 settled-same (doing Join st d) T S h s = h s
+settled-same (doing Query st d) T S h s = h s
 
 module _ (P : table.Plain) (Q : set.Plain) (same : Same P Q) where
   finish-same : (t : ℕ) → Same (table.finish t P) (set.finish t Q)
@@ -74,7 +75,8 @@ module _ (P : table.Plain) (Q : set.Plain) (same : Same P Q) where
   carried-same (suc (suc (suc zero))) t y d w = start-same t Remove y d
   carried-same (suc (suc (suc (suc zero)))) t y d w = start-same t Split y d
   carried-same (suc (suc (suc (suc (suc zero))))) t y d w = start-same t Join y d
-  carried-same (suc (suc (suc (suc (suc (suc _)))))) t y d w = same
+  carried-same (suc (suc (suc (suc (suc (suc zero)))))) t y d w = start-same t Query y d
+  carried-same (suc (suc (suc (suc (suc (suc (suc _))))))) t y d w = same
 
   feed-same : (r : Rec) (w : Bool) → Same (table.feed r (wasCarried w) P) (set.feed r (wasCarried w) Q)
   feed-same r w = carried-same (r .first % 16) (r .first / 16) (r .second) (r .extra) w
@@ -83,7 +85,7 @@ module _ (P : table.Plain) (Q : set.Plain) (same : Same P Q) where
 at-same : (rs : List Rec) (k : ℕ) (b : Bench) (P : table.Plain) (Q : set.Plain) → Same P Q → Same (deep.plainAt rs k b P) (plain.plainAt rs k b Q)
 at-same [] k b P Q same = same
 at-same (r ∷ rs) zero b P Q same = same
-at-same (r ∷ rs) (suc k) b P Q same = go (recordStep b (r .first) (r .second) (r .extra)) (λ b' P' Q' z. at-same rs k b' P' Q' z)
+at-same (r ∷ rs) (suc k) b P Q same = go (recordStep b (r .last) (r .first) (r .second) (r .extra)) (λ b' P' Q' z. at-same rs k b' P' Q' z)
   where
     go : (o : Result) → ((b' : Bench) (P' : table.Plain) (Q' : set.Plain) → Same P' Q' → Same (deep.plainAt rs k b' P') (plain.plainAt rs k b' Q'))
         → Same (deep.plainBy o r P (λ b' P'. deep.plainAt rs k b' P')) (plain.plainBy o r Q (λ b' Q'. plain.plainAt rs k b' Q'))
@@ -99,17 +101,18 @@ moments-same rs k s = at-same rs k fresh table.empty set.empty empty-same .stati
 -- ---- the claim
 
 module _ (H : deep.Moments) (G : plain.Moments) (same-at : (k s : ℕ) → isIn (H k s) ≡ G k s) where
-  fits-same : (P : table.Plain) (Q : set.Plain) (o : table.Operation) (place f k : ℕ) (a : Answer) (d : ℕ) → Same P Q → deep.Fits o place P H f k a d → plain.Fits (without o) place Q G f k a
-  fits-same P Q noOperation place f k a d same h = h
-  fits-same P Q (doing Lookup st _) place f k a d same (j, lo, hi, e, _) = (j, lo, hi, e ∙ ap said (same-at j st))
-  fits-same P Q (doing Insert st _) place f k a d same (e, own) = (e ∙ ap (λ v. said (not v)) (same .stations st), own)
-  fits-same P Q (doing Remove st _) place f k a d same (e, own) = (e ∙ ap said (same .stations st), own)
-  fits-same P Q (doing Split st _) place f k a d same h = tt
-  fits-same P Q (doing Join st _) place f k a d same h = tt
+  fits-same : (P : table.Plain) (Q : set.Plain) (o : table.Operation) (place f k : ℕ) (a : Answer) (d c : ℕ) → Same P Q → deep.Fits o place P H f k a d c → plain.Fits (without o) place Q G f k a
+  fits-same P Q noOperation place f k a d c same h = h
+  fits-same P Q (doing Lookup st _) place f k a d c same (j, lo, hi, e, _) = (j, lo, hi, e ∙ ap said (same-at j st))
+  fits-same P Q (doing Insert st _) place f k a d c same (e, own) = (e ∙ ap (λ v. said (not v)) (same .stations st), own)
+  fits-same P Q (doing Remove st _) place f k a d c same (e, own) = (e ∙ ap said (same .stations st), own)
+  fits-same P Q (doing Split st _) place f k a d c same h = tt
+  fits-same P Q (doing Join st _) place f k a d c same h = tt
+  fits-same P Q (doing Query st _) place f k a d c same h = tt
 
   answered-same : (P : table.Plain) (Q : set.Plain) (w : Row) (t place f k : ℕ) → Same P Q → deep.Answered w (P .operation t) place P H f k → plain.Answered w (Q .operation t) place Q G f k
   answered-same P Q noRow t place f k same h = tt
-  answered-same P Q (row a d c) t place f k same h = subst (λ o. plain.Fits o place Q G f k a) (same .operations t) (fits-same P Q (P .operation t) place f k a d same h)
+  answered-same P Q (row a d c) t place f k same h = subst (λ o. plain.Fits o place Q G f k a) (same .operations t) (fits-same P Q (P .operation t) place f k a d c same h)
 
   set-same : (b : Bench) (P : table.Plain) (Q : set.Plain) → Same P Q → deep.SameTable b P → plain.SameSet b Q
   set-same b P Q same h s l = sym (is-in (treeHeld b) s) ∙ ap isIn (h s l) ∙ same .stations s
@@ -117,7 +120,7 @@ module _ (H : deep.Moments) (G : plain.Moments) (same-at : (k s : ℕ) → isIn 
   from-same : (rs : List Rec) (b : Bench) (P : table.Plain) (Q : set.Plain) (f : ℕ → Link) (k : ℕ) → Same P Q → deep.From rs b P H f k → plain.From rs b Q G f k
   from-same [] b P Q f k same h = set-same b P Q same h
   from-same (r ∷ rs) b P Q f k same (h, onward) =
-      (set-same b P Q same h, go (recordStep b (r .first) (r .second) (r .extra)) onward (λ b' P' Q' z. from-same rs b' P' Q' (first k) (suc k) z))
+      (set-same b P Q same h, go (recordStep b (r .last) (r .first) (r .second) (r .extra)) onward (λ b' P' Q' z. from-same rs b' P' Q' (first k) (suc k) z))
     where
       first : ℕ → ℕ → Link
       first j = firstSteps (r .first % 16) (r .first / 16) j f

@@ -15,7 +15,7 @@ use Rattle.definitions.specs.Bench.{Store, Bench, fresh, sightOf}
 use Rattle.definitions.specs.Places.{placeOf}
 use Rattle.definitions.specs.Effects.{hang, contentOf, perform}
 use Rattle.definitions.specs.Steps.{step}
-use Rattle.definitions.specs.Records.{Result, refused, carried, taken, stepped, depthRefusal, started, acted, recordStep}
+use Rattle.definitions.specs.Records.{Result, refused, carried, taken, stepped, depthRefusal, started, asked, acted, recordStep}
 use Rattle.definitions.specs.Schedule.{Rec, recordAt}
 use Rattle.definitions.specs.Run.{Progress, begin, advanceBy, advance, after}
 use Rattle.definitions.specs.declared.Content.{Content}
@@ -23,12 +23,12 @@ use Rattle.definitions.specs.declared.Content.the-variants.{Of, With, Without}
 use Rattle.definitions.specs.declared.Spot.{Spot}
 use Rattle.definitions.specs.declared.Spot.the-variants.{Root, Under}
 use Rattle.definitions.specs.declared.Effect.{Effect}
-use Rattle.definitions.specs.declared.Effect.the-variants.{Quiet, Mark, Settle, Invalid, Swing, Base, Fork, Commit}
+use Rattle.definitions.specs.declared.Effect.the-variants.{Quiet, Mark, Settle, Invalid, Swing, Base, Fork, Commit, Ask, Fill}
 use Rattle.definitions.specs.declared.Action.{Action}
-use Rattle.definitions.specs.declared.Action.the-variants.{Lookup, Insert, Remove, Split, Join}
-use Rattle.definitions.specs.declared.Thread.{Thread}
-use Rattle.definitions.specs.declared.Turn.{Turn}
-use Rattle.definitions.specs.declared.Turn.the-variants.{Moves, Finishes, Full}
+use Rattle.definitions.specs.declared.Action.the-variants.{Lookup, Insert, Remove, Split, Join, Query}
+use Rattle.definitions.specs.Threads.{Thread}
+use Rattle.definitions.specs.Threads.{Turn}
+use Rattle.definitions.specs.Threads.{Moves, Finishes, Finds, Full, NoStore}
 use Rattle.answers.proofs.Tools.{on, off, test}
 use Rattle.answers.proofs.SameOperation.{Puts, Same, same-op}
 
@@ -84,6 +84,8 @@ perform-small th (Base v x k q (Without y t) m) s h l p = hang-small v x _ (all-
 perform-small th (Fork v x a c k y) s h l p = let o = halves-small (s .nodes y .container) (h y) in
     hang-small v x _ (all-upd _ c _ (all-upd _ a _ (all-upd (s .nodes) x _ h (h y)) (o .0)) (o .1))
 perform-small th (Commit m x q n g o) s h l p = let a = all-upd (s .nodes) x _ h (merge-small (s .nodes m .container) (s .nodes n .container) (h m) (h n)) in all-upd _ m _ a (a m)
+perform-small th (Ask v x q y a c k n) s h l p = hang-small v x _ (all-upd (s .nodes) x _ h (h y))
+perform-small th (Fill k c) s h l p = h
 
 -- ---- records
 
@@ -108,7 +110,9 @@ module _ (b : Bench) (h : Small b) (t : ℕ) where
   unfolding taken
   taken-small (Moves th e) (_, _, d, p) = record { nodes = perform-small (b .threads t) e (b .store) (h .nodes) (h .threads t) p; threads = threads-small (b .threads) t th (h .threads) (rw d (h .threads t)) }
   taken-small (Finishes e a) p = record { nodes = perform-small (b .threads t) e (b .store) (h .nodes) (h .threads t) p; threads = threads-small (b .threads) t _ (h .threads) (omega arith) }
+  taken-small (Finds c) p = record { nodes = h .nodes; threads = threads-small (b .threads) t _ (h .threads) (omega arith) }
   taken-small Full p = tt
+  taken-small NoStore p = tt
 
   -- a depth that is not refused
   fits : (a : Action) (d : ℕ) → depthRefusal a d ≡ 0 → d ≤ 9999
@@ -118,11 +122,17 @@ module _ (b : Bench) (h : Small b) (t : ℕ) where
   fits Remove d e = unused d e
   fits Split d e = unused d e
   fits Join d e = unused d e
+  fits Query d e = unused d e
 
   starts-small : (a : Action) (y d : ℕ) → Then (started b t a y d)
   unfolding started
   starts-small a y d = either _ _ _ (λ _. tt) (λ _. either _ _ _ (λ e. either _ _ _
       (λ _. record { nodes = h .nodes; threads = threads-small (b .threads) t _ (h .threads) (fits a d (eqb-true _ _ e)) }) (λ _. tt)) (λ _. tt))
+
+  asks-small : (y z : ℕ) → Then (asked b t y z)
+  unfolding asked
+  asks-small y z = either _ _ _ (λ _. tt) (λ _. either _ _ _ (λ _. tt) (λ i. either _ _ _ (λ _. tt) (λ _. either _ _ _
+      (λ _. record { nodes = h .nodes; threads = threads-small (b .threads) t _ (h .threads) (omega (arith, ltb-false 63 z i)) }) (λ _. tt))))
 
   steps-small : (y d : ℕ) → Then (stepped b t y d)
   unfolding stepped
@@ -135,11 +145,12 @@ module _ (b : Bench) (h : Small b) (t : ℕ) where
   acts-small (suc (suc (suc zero))) y d = starts-small Remove y d
   acts-small (suc (suc (suc (suc zero)))) y d = starts-small Split y d
   acts-small (suc (suc (suc (suc (suc zero))))) y d = starts-small Join y d
-  acts-small (suc (suc (suc (suc (suc (suc _)))))) y d = tt
+  acts-small (suc (suc (suc (suc (suc (suc zero)))))) y d = asks-small y d
+  acts-small (suc (suc (suc (suc (suc (suc (suc _))))))) y d = tt
 
-record-small : (b : Bench) (x y d : ℕ) → Small b → Then (recordStep b x y d)
+record-small : (b : Bench) (l x y d : ℕ) → Small b → Then (recordStep b l x y d)
 unfolding recordStep
-record-small b x y d h = either _ _ _ (λ _. tt) (λ _. acts-small b h (x / 16) (x % 16) y d)
+record-small b l x y d h = either _ _ _ (λ _. tt) (λ _. either _ _ _ (λ _. tt) (λ _. acts-small b h (x / 16) (x % 16) y d))
 
 -- ---- runs
 
@@ -148,7 +159,7 @@ fresh-small = record { nodes = λ x s. omega arith; threads = λ t. omega arith 
 
 advance-small : (file : List ℕ) (p : Progress) (r : Rec) → Small (p .bench) → Small (advance file p r .bench)
 unfolding advance ite
-advance-small file p r h = elim (test (eqb (p .refusal) 0)) [ on e ↦ rw e (go (recordStep (p .bench) (r .first) (r .second) (r .extra)) (record-small (p .bench) (r .first) (r .second) (r .extra) h)) | off e ↦ rw e h ]
+advance-small file p r h = elim (test (eqb (p .refusal) 0)) [ on e ↦ rw e (go (recordStep (p .bench) (r .last) (r .first) (r .second) (r .extra)) (record-small (p .bench) (r .last) (r .first) (r .second) (r .extra) h)) | off e ↦ rw e h ]
   where
     go : (res : Result) → Then res → Small (advanceBy file p (r .first / 16) res .bench)
     go (refused k) _ = h

@@ -17,7 +17,7 @@ use Rattle.answers.proofs.Tools.{on, off, test}
 
 along : (rs : List Rec) (b : Bench) → CountedFrom rs b
 along [] b = counted b
-along (r ∷ rs) b = (counted b, go (recordStep b (r .first) (r .second) (r .extra)) (λ b'. along rs b'))
+along (r ∷ rs) b = (counted b, go (recordStep b (r .last) (r .first) (r .second) (r .extra)) (λ b'. along rs b'))
   where
     go : (res : Result) → ((b' : Bench) → CountedFrom rs b') → CountedOnward res b (λ b'. CountedFrom rs b')
     go (refused _) ih = counted b

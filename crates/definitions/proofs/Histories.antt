@@ -8,6 +8,7 @@ use Rattle.container.specs.Depths.{put, takeOut, merge, within, lower, upper}
 use lib.Count.{onesIn, trailingZeros}
 use lib.ListN.{length, replicate}
 use Rattle.definitions.specs.Nodes.{check, replaceable}
+use Rattle.definitions.specs.Frames.{back}
 use Rattle.definitions.specs.Steps.{reached, blocked, lacks, cleared, lost, probe, replaced, beside, step}
 use Rattle.definitions.specs.Records.{taken, stepped, started, recordStep}
 use Rattle.definitions.specs.Schedule.{countOf, recordAt, fileRefusal, recordsOf}
@@ -124,5 +125,5 @@ outcomes f [] = []
 outcomes f (c ∷ cs) = f c ∷ outcomes f cs
 
 pub written-so : outcomes outcome cases ≡ outcomes expected cases
-unfolding ite countOf recordAt fileRefusal fault put takeOut merge within lower upper recordsOf advance after written writtenRefusal writtenReport writtenBuffer check replaceable reached blocked lacks cleared lost probe replaced beside step taken stepped started recordStep has insert remove union cut below from size least dropLeast upperHalf lowerHalf splitKey onesIn trailingZeros
+unfolding ite countOf recordAt fileRefusal fault put takeOut merge within lower upper recordsOf advance after written writtenRefusal writtenReport writtenBuffer back check replaceable reached blocked lacks cleared lost probe replaced beside step taken stepped started recordStep has insert remove union cut below from size least dropLeast upperHalf lowerHalf splitKey onesIn trailingZeros
 written-so = refl

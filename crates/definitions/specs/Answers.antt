@@ -43,7 +43,7 @@ answerOf (suc (suc (suc (suc (suc (suc (suc _))))))) = Stopped
 abbrev pub answerWord : ℕ → List ℕ
 answerWord y = rendered (answerOf y) .1
 
--- the answer of a lookup, an insert or a remove
+-- the answer of a lookup, an insert, a remove or a query
 abbrev pub said : Bool → Answer
 said true = Yes
 said false = No

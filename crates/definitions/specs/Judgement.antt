@@ -9,7 +9,7 @@ use lib.Dec.{eqb, ltb}
 use lib.ListN.{length, replicate}
 use Rattle.definitions.specs.PlainSet.{settled}
 use Rattle.definitions.specs.declared.Action.{Action}
-use Rattle.definitions.specs.declared.Action.the-variants.{Lookup, Insert, Remove, Split, Join}
+use Rattle.definitions.specs.declared.Action.the-variants.{Lookup, Insert, Remove, Split, Join, Query}
 use Rattle.definitions.specs.History.{Operation, Operations, readingOf, historyRefusal}
 use Rattle.definitions.specs.declared.Judged.{Judged}
 
@@ -47,6 +47,7 @@ reply Insert st S = not (S st)
 reply Remove st S = S st
 reply Split st S = false
 reply Join st S = false
+reply Query st S = false
 
 -- "gives these answers", from the plain set S on
 abbrev pub Answers : Operations → (ℕ → Bool) → List ℕ → Type 0

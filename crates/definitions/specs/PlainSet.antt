@@ -7,7 +7,7 @@ use Rattle.container.specs.Choice.{upd}
 use Rattle.definitions.specs.Schedule.{Rec}
 use Rattle.definitions.specs.Plain.{Told, wasRefused, wasCarried}
 use Rattle.definitions.specs.declared.Action.{Action}
-use Rattle.definitions.specs.declared.Action.the-variants.{Lookup, Insert, Remove, Split, Join}
+use Rattle.definitions.specs.declared.Action.the-variants.{Lookup, Insert, Remove, Split, Join, Query}
 
 -- a thread's open operation with its station
 pub data Operation : Type 0 where
@@ -29,6 +29,7 @@ settled Insert st S s = cond (eqb s st) true (S s)
 settled Remove st S s = cond (eqb s st) false (S s)
 settled Split st S s = S s
 settled Join st S s = S s
+settled Query st S s = S s
 
 abbrev pub settledBy : Operation → (ℕ → Bool) → ℕ → Bool
 settledBy noOperation S = S
@@ -50,7 +51,8 @@ carriedOut (suc (suc zero)) t y rowAdded P = start t Insert y P
 carriedOut (suc (suc (suc zero))) t y rowAdded P = start t Remove y P
 carriedOut (suc (suc (suc (suc zero)))) t y rowAdded P = start t Split y P
 carriedOut (suc (suc (suc (suc (suc zero))))) t y rowAdded P = start t Join y P
-carriedOut (suc (suc (suc (suc (suc (suc _)))))) t y rowAdded P = P
+carriedOut (suc (suc (suc (suc (suc (suc zero)))))) t y rowAdded P = start t Query y P
+carriedOut (suc (suc (suc (suc (suc (suc (suc _))))))) t y rowAdded P = P
 
 -- "refused record: nothing changes"
 abbrev pub feed : Rec → Told → Plain → Plain

@@ -1,6 +1,6 @@
 -- The profile run (02, request l, "One-writer profile"): as Run, with refusal 24 more.
 use Prim.Native.Nat.{ℕ, zero, suc, _/_, _%_}
-use mathlib.Core.Bool.{Bool, _&&_}
+use mathlib.Core.Bool.{Bool, _&&_, _||_}
 use mathlib.Core.List.{List}
 use lib.Dec.{eqb, ltb, leb}
 use lib.ListN.{length}
@@ -11,16 +11,16 @@ use Rattle.definitions.specs.Schedule.{Rec, countOf, recordAt}
 use Rattle.definitions.specs.Run.{Progress, begin, advanceBy, reportOf, refusedReport, runRefusal, overlay}
 use Rattle.definitions.specs.declared.Report.{Report}
 
--- "It refuses actions 2 to 6 for threads 1 to 3": thread t, action a. An action over 5 is refused with 8 in both versions, so 2 to 5 are left
+-- "It refuses actions 2 to 6 for threads 1 to 3, and action 6 for thread 0": thread t, action a
 abbrev pub outside : ℕ → ℕ → Bool
-outside t a = ltb 0 t && (leb 2 a && leb a 5)
+outside t a = eqb a 6 || (ltb 0 t && (leb 2 a && leb a 5))
 
--- "with 24, after 8 and before 9": a record that 7 and 8 let through
+-- "with 24, after 8 and before 9": a record that 7 and 8 let through, so in version 1 an action 6 is 8
 abbrev pub barred : Rec → Bool
-barred r = leb (r .first / 16) 3 && outside (r .first / 16) (r .first % 16)
+barred r = (leb (r .first / 16) 3 && leb (r .first % 16) (r .last)) && outside (r .first / 16) (r .first % 16)
 
 unfoldable pub profileStep : Bench → Rec → Result
-profileStep b r = ite (barred r) (refused 24) (recordStep b (r .first) (r .second) (r .extra))
+profileStep b r = ite (barred r) (refused 24) (recordStep b (r .last) (r .first) (r .second) (r .extra))
 
 unfoldable pub profileAdvance : List ℕ → Progress → Rec → Progress
 profileAdvance file p r = ite (eqb (p .refusal) 0) (advanceBy file p (r .first / 16) (profileStep (p .bench) r)) p

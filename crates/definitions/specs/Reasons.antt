@@ -8,12 +8,12 @@ use lib.Dec.{eqb, ltb, leb}
 use Rattle.container.specs.Choice.{upd}
 use Rattle.definitions.specs.Nodes.{isPreparing, isCompleting}
 use Rattle.definitions.specs.Bench.{Store, Bench, fresh}
-use Rattle.definitions.specs.declared.Thread.{Thread}
+use Rattle.definitions.specs.Threads.{Thread}
 use Rattle.definitions.specs.Records.{Row, noRow, row, Result, refused, carried, recordStep}
 use Rattle.definitions.specs.Answers.{isYes}
 use Rattle.definitions.specs.Schedule.{Rec}
 use Rattle.definitions.specs.declared.Action.{Action}
-use Rattle.definitions.specs.declared.Action.the-variants.{Lookup, Insert, Remove, Split, Join}
+use Rattle.definitions.specs.declared.Action.the-variants.{Lookup, Insert, Remove, Split, Join, Query}
 use Rattle.definitions.specs.declared.Answer.{Answer}
 use Rattle.definitions.specs.declared.Answer.the-variants.{No, Yes, At, Lacking, Blocked, Lost, NeighbourBlocked, StoodDown, Stopped}
 
@@ -27,6 +27,7 @@ changes Insert place s s' th = false
 changes Remove place s s' th = false
 changes Split place s s' th = (leb 10 place && leb place 13) && ltb (s .used) (s' .used)
 changes Join place s s' th = eqb place 35 && (isPreparing (s .nodes (th .main) .stage) && isCompleting (s' .nodes (th .main) .stage))
+changes Query place s s' th = false
 
 -- which threads' open operations have made theirs, after a record of action a and thread t: a start has not
 abbrev pub succeeded : ℕ → ℕ → Bench → Bench → (ℕ → Bool) → ℕ → Bool
@@ -56,6 +57,7 @@ Reason Insert place d a = (a ≡ No) ⊎ (a ≡ Yes)
 Reason Remove place d a = (a ≡ No) ⊎ (a ≡ Yes)
 Reason Split place d a = (isYes a ≡ d) × GivenAt a place
 Reason Join place d a = (isYes a ≡ d) × GivenAt a place
+Reason Query place d a = (a ≡ No) ⊎ (a ≡ Yes)
 
 -- th is the row's thread before its last step
 abbrev pub Reasoned : Row → Thread → Bool → Type 0
@@ -72,7 +74,7 @@ ReasonsOnward (carried b' w) b r d C =
 
 abbrev pub ReasonsFrom : List Rec → Bench → (ℕ → Bool) → Type 0
 ReasonsFrom [] b d = Unit {0}
-ReasonsFrom (r ∷ rs) b d = ReasonsOnward (recordStep b (r .first) (r .second) (r .extra)) b r d (λ b' d'. ReasonsFrom rs b' d')
+ReasonsFrom (r ∷ rs) b d = ReasonsOnward (recordStep b (r .last) (r .first) (r .second) (r .extra)) b r d (λ b' d'. ReasonsFrom rs b' d')
 
 abbrev pub ReasonsRule : Type 0
 ReasonsRule = (rs : List Rec) → ReasonsFrom rs fresh (λ _. false)

@@ -17,7 +17,7 @@ use Rattle.definitions.specs.Claim.{rowAdded, firstSteps, moment, OwnSwa
 use Rattle.definitions.specs.declared.Link.{Link}
 use Rattle.definitions.specs.declared.Link.the-variants.{Nil}
 use Rattle.definitions.specs.declared.Answer.{Answer}
-use Rattle.definitions.specs.declared.Action.the-variants.{Lookup, Insert, Remove, Split, Join}
+use Rattle.definitions.specs.declared.Action.the-variants.{Lookup, Insert, Remove, Split, Join, Query}
 
 -- ---- the plain set at each moment
 
@@ -29,7 +29,7 @@ plainBy (carried b w) r P onward = onward b (feed r (wasCarried (rowAdded w)) P)
 abbrev pub plainAt : List Rec → ℕ → Bench → Plain → Plain
 plainAt [] k b P = P
 plainAt (r ∷ rs) zero b P = P
-plainAt (r ∷ rs) (suc k) b P = plainBy (recordStep b (r .first) (r .second) (r .extra)) r P (λ b' P'. plainAt rs k b' P')
+plainAt (r ∷ rs) (suc k) b P = plainBy (recordStep b (r .last) (r .first) (r .second) (r .extra)) r P (λ b' P'. plainAt rs k b' P')
 
 -- the plain set of the whole list, station by station, at every moment
 abbrev pub Moments : Type 0
@@ -47,7 +47,8 @@ SameSet b P = (s : ℕ) → s < 64 → has (treeSet b) s ≡ P .set s
 -- the answer a of an operation whose last step is taken at `place`, k being the moment just before it and P the plain set then;
 -- f is the moment just after its first step.
 -- "Insert and remove answer by the moment just before their last step"; a lookup's "yes needs a moment with the station in,
--- no needs one with it out, from just after its first step to just after its last". What a split or join answers: Reasons.antt
+-- no needs one with it out, from just after its first step to just after its last". What a split or join answers: Reasons.antt;
+-- what a range query finds: Claim.antt
 abbrev pub Fits : Operation → ℕ → Plain → Moments → ℕ → ℕ → Answer → Type 0
 Fits noOperation place P H f k a = ⊥
 Fits (doing Lookup st) place P H f k a = (j : ℕ) × (f ≤ j) × (j ≤ suc k) × (a ≡ said (H j st))
@@ -55,6 +56,7 @@ Fits (doing Insert st) place P H f k a = (a ≡ said (not (P .set st))) × OwnSw
 Fits (doing Remove st) place P H f k a = (a ≡ said (P .set st)) × OwnSwap place
 Fits (doing Split st) place P H f k a = Unit {0}
 Fits (doing Join st) place P H f k a = Unit {0}
+Fits (doing Query st) place P H f k a = Unit {0}
 
 abbrev pub Answered : Row → Operation → ℕ → Plain → Moments → ℕ → ℕ → Type 0
 Answered noRow o place P H f k = Unit {0}
@@ -73,7 +75,7 @@ abbrev pub From : List Rec → Bench → Plain → Moments → (ℕ → Link) �
 From [] b P H f k = SameSet b P
 From (r ∷ rs) b P H f k =
     SameSet b P
-    × Onward (recordStep b (r .first) (r .second) (r .extra)) b r P H (firstSteps (r .first % 16) (r .first / 16) k f) k
+    × Onward (recordStep b (r .last) (r .first) (r .second) (r .extra)) b r P H (firstSteps (r .first % 16) (r .first / 16) k f) k
     (λ b' P'. From rs b' P' H (firstSteps (r .first % 16) (r .first / 16) k f) (suc k))
 
 -- every list of records, "from a fresh bench: root 0, all threads idle, used 1"

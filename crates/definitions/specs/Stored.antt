@@ -21,7 +21,7 @@ CountedOnward (carried b' _) b C = C b'
 
 abbrev pub CountedFrom : List Rec → Bench → Type 0
 CountedFrom [] b = Counted b
-CountedFrom (r ∷ rs) b = Counted b × CountedOnward (recordStep b (r .first) (r .second) (r .extra)) b (λ b'. CountedFrom rs b')
+CountedFrom (r ∷ rs) b = Counted b × CountedOnward (recordStep b (r .last) (r .first) (r .second) (r .extra)) b (λ b'. CountedFrom rs b')
 
 -- every list of records from a fresh bench, and what Run hands back for every file, refused ones too; n is the row buffer's length
 abbrev pub StoredRule : Type 0

@@ -1,5 +1,5 @@
--- The versions of the schedule file: 1 is 01's, 2 has a depth beside each station (02, request a). All that differs between them stands here,
--- a line for each, version 1 first.
+-- The versions of the schedule file: 1 is 01's, 2 has a depth beside each station (02, request a) and range queries (b). All that differs
+-- between them stands here, a line for each, version 1 first.
 use Prim.Native.Nat.{ℕ, _*_}
 use mathlib.Core.Bool.{Bool, _||_}
 use mathlib.Core.List.{List, []}
@@ -22,9 +22,13 @@ by file a b = ite (eqb (version file) 1) a b
 abbrev pub width : List ℕ → ℕ
 width file = by file 2 4
 
--- a record's depth from its last two bytes: none; "the depth, big-endian"
-abbrev pub depthAt : List ℕ → ℕ → ℕ
-depthAt file d = by file 0 d
+-- a record's last two bytes as a number d: none; "the depth, big-endian", or "the upper end in the last two bytes"
+abbrev pub extraAt : List ℕ → ℕ → ℕ
+extraAt file d = by file 0 d
+
+-- the last action: "an action over 5 (8)"; "In version 2 refusal 8 is for actions over 6"
+abbrev pub lastAction : List ℕ → ℕ
+lastAction file = by file 5 6
 
 -- bytes of a row: "A result row is four bytes"; "Rows become 14 bytes"
 abbrev pub rowWidth : List ℕ → ℕ

@@ -40,7 +40,7 @@ eventsBy (carried b' w) b r onward = eventOf (r .first % 16) b r w ++ onward b'
 -- "in turn order"; "the first one refused ends the run" (01)
 abbrev pub eventsFrom : List Rec → Bench → List Event
 eventsFrom [] b = []
-eventsFrom (r ∷ rs) b = eventsBy (recordStep b (r .first) (r .second) (r .extra)) b r (λ b'. eventsFrom rs b')
+eventsFrom (r ∷ rs) b = eventsBy (recordStep b (r .last) (r .first) (r .second) (r .extra)) b r (λ b'. eventsFrom rs b')
 
 -- the events of a schedule's run
 abbrev pub runEvents : List ℕ → List Event

@@ -1,6 +1,6 @@
--- The cases of an effect, each with the code's own facts as premises. Assumes nothing.
+-- The cases of what a step writes, each with the code's own facts as premises. Assumes nothing.
 use mathlib.Core.Path.{_≡_, refl, _∙_, ap, fun-ext}
-use mathlib.Core.Bool.{Bool, false}
+use mathlib.Core.Bool.{Bool, true, false, cond}
 use Prim.Native.Nat.{ℕ, _+_}
 use native.Mathlib.Numerals.{add-one}
 use native.Mathlib.Decide.{ℕ-discrete}
@@ -9,10 +9,13 @@ use Rattle.container.specs.Choice.{upd}
 use Rattle.container.specs.Container.{insert, remove, union, upperHalf, lowerHalf}
 use Rattle.container.specs.Depths.{container, put, takeOut, merge, lower, upper}
 use Rattle.depths.specs.Rows.{Rows, changed, selected, full}
-use Rattle.definitions.specs.Nodes.{Nodes, Shapes, entry, over, newBase, newRoute, withKid, withMark, withValid, withStage, committed}
+use Rattle.definitions.specs.Nodes.{Shapes, Stores, entry, over, newBase, newRoute, newRange, withKid, withMark, withValid, withStage, committed}
 use Rattle.definitions.specs.Bench.{store}
 use Rattle.definitions.specs.Effects.{hang, contentOf, forked, perform}
-use Rattle.effects.specs.Used.{usedAfter, baseShape, setOf, forkShapes, Hung, depthsOf, deepened, Applied}
+use Rattle.effects.specs.Writes.{effectOf}
+use Rattle.effects.specs.Used.{usedAfter, baseShape, rangeShape, setOf, forkShapes, Hung, depthsOf, deepened, Applied}
+use Rattle.effects.specs.declared.Write.{Write}
+use Rattle.effects.specs.declared.Write.the-variants.{Quiet, Mark, Settle, Invalid, Swing, Base, Fork, Commit}
 use Rattle.definitions.specs.declared.Link.{Link}
 use Rattle.definitions.specs.declared.Link.the-variants.{To}
 use Rattle.definitions.specs.declared.Node.{Node}
@@ -23,8 +26,7 @@ use Rattle.definitions.specs.declared.Spot.{Spot}
 use Rattle.definitions.specs.declared.Spot.the-variants.{Root, Under}
 use Rattle.definitions.specs.declared.Content.{Content}
 use Rattle.definitions.specs.declared.Content.the-variants.{Of, With, Without}
-use Rattle.definitions.specs.declared.Effect.{Effect}
-use Rattle.definitions.specs.declared.Effect.the-variants.{Quiet, Mark, Settle, Invalid, Swing, Base, Fork, Commit}
+use Rattle.definitions.specs.declared.Effect.the-variants.{Ask}
 
 -- ---- one node of the table with its depths
 
@@ -45,17 +47,12 @@ upd-own : (d : Rows) (x y : ℕ) → upd d x (d y) y ≡ d y
 upd-own d x y = elim (ℕ-discrete y x) [ yes e ↦ rw (eq-eqb y x e) | no e ↦ rw (ne-eqb y x e) ]
 
 -- ---- a node is put at a spot: t' is the table after it
-module _ (t : Shapes) (o u x : ℕ) {v : Spot} where
-  pub hang-root : v ≡ Root → Hung t o u v x t x
-  hang-root q d = rw q
+module _ (t : Shapes) (o x : ℕ) {v : Spot} where
+  pub hang-root : v ≡ Root → Hung t o v x t x
+  hang-root q d u k j = rw q
 
-  pub hang-under : {t' : Shapes} (r : ℕ) (b : Bool) → v ≡ Under r b → t' ≡ upd t r (withKid b x (t r)) → Hung t o u v x t' o
-  hang-under r b q h d = rw (q, h) (ap (λ n. store n o u) (full-same t d r (withKid b x (t r))))
-
--- ---- it is the same with any count of the numbers used: w for u
-pub hang-used : (v : Spot) (x : ℕ) (n : Nodes) (o : ℕ) {n' : Nodes} {y u : ℕ} (w : ℕ) → store n' y u ≡ hang v x (store n o u) → store n' y w ≡ hang v x (store n o w)
-hang-used Root x n o w h = ap (λ s. store (s .nodes) (s .root) w) h
-hang-used (Under r d) x n o w h = ap (λ s. store (s .nodes) (s .root) w) h
+  pub hang-under : {t' : Shapes} (r : ℕ) (b : Bool) → v ≡ Under r b → t' ≡ upd t r (withKid b x (t r)) → Hung t o v x t' o
+  hang-under r b q h d u k j = rw (q, h) (ap (λ n. store n o u k j) (full-same t d r (withKid b x (t r))))
 
 -- ---- the set of a new base: n is the node y
 module _ (t : Shapes) {c : Content} {n : Node} where
@@ -96,62 +93,79 @@ union-made : (t : Shapes) (d : Rows) (x : ℕ) (p : Link) (a b : ℕ)
 unfolding merge
 union-made t d x p a b = full-new t d x _ _
 
--- ---- the numbers used after an effect that makes nodes
-module _ (u : ℕ) {e : Effect} where
-  pub used-base : (v : Spot) (x : ℕ) (k : Kind) (p : Link) (c : Content) (m : ℕ) → e ≡ Base v x k p c m → x + 1 ≡ usedAfter u e
+-- ---- a range base with the container of node y
+range-made : (t : Shapes) (d : Rows) (x : ℕ) (p : Link) (y l h k : ℕ) → full (upd t x (rangeShape p (t y .container) l h k)) (upd d x (d y)) ≡ upd (full t d) x (newRange p (full t d y .container) l h k)
+range-made t d x p y l h k = full-new t d x _ _
+
+-- ---- the numbers used after a write that makes nodes
+module _ (u : ℕ) {e : Write} where
+  pub used-base : (v : Spot) (x : ℕ) (k : Kind) (p : Link) (c : Content) (m : ℕ) → e ≡ Base v x k p c m → x + 1 ≡ usedAfter u (effectOf e)
   used-base v x k p c m q = rw q
 
-  pub used-fork : (v : Spot) (x l r k y : ℕ) → e ≡ Fork v x l r k y → x + 3 ≡ usedAfter u e
+  pub used-fork : (v : Spot) (x l r k y : ℕ) → e ≡ Fork v x l r k y → x + 3 ≡ usedAfter u (effectOf e)
   used-fork v x l r k y q = rw q
 
-  pub used-commit : (m x : ℕ) (p : Link) (b : ℕ) (g : Link) (w : ℕ) → e ≡ Commit m x p b g w → x + 1 ≡ usedAfter u e
+  pub used-commit : (m x : ℕ) (p : Link) (b : ℕ) (g : Link) (w : ℕ) → e ≡ Commit m x p b g w → x + 1 ≡ usedAfter u (effectOf e)
   used-commit m x p b g w q = rw q
 
--- ---- an effect on the nodes: t₁ is the table with the new nodes, t' and y the table and the root after it
-module _ (t : Shapes) (o u : ℕ) {e : Effect} where
-  pub apply-quiet : e ≡ Quiet → Applied t o u e t o
+-- ---- on the nodes, whatever the stores: t₁ is the table with the new nodes, t' and y the table and the root after it
+module _ (t : Shapes) (o u : ℕ) (k : Stores) (j : ℕ) {e : Write} where
+  pub apply-quiet : e ≡ Quiet → Applied t o u k j (effectOf e) t o k
   apply-quiet q = record { stored = λ d. rw q }
 
-  pub apply-mark : {t' : Shapes} (r : ℕ) (l : Link) → e ≡ Mark r l → t' ≡ upd t r (withMark l (t r)) → Applied t o u e t' o
-  apply-mark r l q h = record { stored = λ d. rw (q, h) (ap (λ n. store n o u) (full-same t d r _)) }
+  pub apply-mark : {t' : Shapes} (r : ℕ) (l : Link) → e ≡ Mark r l → t' ≡ upd t r (withMark l (t r)) → Applied t o u k j (effectOf e) t' o k
+  apply-mark r l q h = record { stored = λ d. rw (q, h) (ap (λ n. store n o u k j) (full-same t d r _)) }
 
-  pub apply-settle : {t' : Shapes} (m : ℕ) (s : Stage) → e ≡ Settle m s → t' ≡ upd t m (withStage s (t m)) → Applied t o u e t' o
-  apply-settle m s q h = record { stored = λ d. rw (q, h) (ap (λ n. store n o u) (full-same t d m _)) }
+  pub apply-settle : {t' : Shapes} (m : ℕ) (s : Stage) → e ≡ Settle m s → t' ≡ upd t m (withStage s (t m)) → Applied t o u k j (effectOf e) t' o k
+  apply-settle m s q h = record { stored = λ d. rw (q, h) (ap (λ n. store n o u k j) (full-same t d m _)) }
 
-  pub apply-invalid : {t' : Shapes} (r : ℕ) → e ≡ Invalid r → t' ≡ upd t r (withValid false (t r)) → Applied t o u e t' o
-  apply-invalid r q h = record { stored = λ d. rw (q, h) (ap (λ n. store n o u) (full-same t d r _)) }
+  pub apply-invalid : {t' : Shapes} (r : ℕ) → e ≡ Invalid r → t' ≡ upd t r (withValid false (t r)) → Applied t o u k j (effectOf e) t' o k
+  apply-invalid r q h = record { stored = λ d. rw (q, h) (ap (λ n. store n o u k j) (full-same t d r _)) }
 
-  pub apply-swing : {t' : Shapes} {y : ℕ} (v : Spot) (x : ℕ) → e ≡ Swing v x → Hung t o u v x t' y → Applied t o u e t' y
-  apply-swing v x q h = record { stored = λ d. rw q (h d) }
+  pub apply-swing : {t' : Shapes} {y : ℕ} (v : Spot) (x : ℕ) → e ≡ Swing v x → Hung t o v x t' y → Applied t o u k j (effectOf e) t' y k
+  apply-swing v x q h = record { stored = λ d. rw q (h d u k j) }
 
-  pub apply-base : {t₁ t' : Shapes} {y w : ℕ} (v : Spot) (x : ℕ) (k : Kind) (p : Link) (c : Content) (m : ℕ) → e ≡ Base v x k p c m → w ≡ setOf c t → t₁ ≡ upd t x (baseShape k p w m) → Hung t₁ o u v x t' y → Applied t o u e t' y
-  apply-base {t₁} {t'} {y} {w} v x k p c m q i h j = record {
+  pub apply-base : {t₁ t' : Shapes} {y w : ℕ} (v : Spot) (x : ℕ) (i : Kind) (p : Link) (c : Content) (m : ℕ) → e ≡ Base v x i p c m → w ≡ setOf c t → t₁ ≡ upd t x (baseShape i p w m) → Hung t₁ o v x t' y → Applied t o u k j (effectOf e) t' y k
+  apply-base {t₁} {t'} {y} {w} v x i p c m q f h g = record {
     stored = λ d. rw q (
-        hang-used v x (full t₁ (upd d x (depthsOf c d))) o (x + 1) (j (upd d x (depthsOf c d)))
-        ∙ rw (h, i, full-new t d x (baseShape k p (setOf c t) m) (depthsOf c d), ← content-made c t d, add-one)
+        g (upd d x (depthsOf c d)) (x + 1) k j
+        ∙ rw (h, f, full-new t d x (baseShape i p (setOf c t) m) (depthsOf c d), ← content-made c t d, add-one)
         );
   }
 
-  pub apply-fork : {t₁ t' : Shapes} {y : ℕ} {n : Node} (v : Spot) (x l r k z : ℕ) → e ≡ Fork v x l r k z → n ≡ t z → t₁ ≡ forkShapes x l r k (n .container) t → Hung t₁ o u v x t' y → Applied t o u e t' y
-  apply-fork {t₁} {t'} {y} {n} v x l r k z q f h i = record {
+  pub apply-fork : {t₁ t' : Shapes} {y : ℕ} {n : Node} (v : Spot) (x l r i z : ℕ) → e ≡ Fork v x l r i z → n ≡ t z → t₁ ≡ forkShapes x l r i (n .container) t → Hung t₁ o v x t' y → Applied t o u k j (effectOf e) t' y k
+  apply-fork {t₁} {t'} {y} {n} v x l r i z q f h g = record {
     stored = λ d. rw q (
-        hang-used v x (full t₁ (upd (upd (upd d x (d z)) l (d z)) r (d z))) o (x + 3) (i (upd (upd (upd d x (d z)) l (d z)) r (d z)))
-        ∙ rw (h, f) (ap (λ a. hang v x (store a o (x + 3))) (fork-made t d x l r k z))
+        g (upd (upd (upd d x (d z)) l (d z)) r (d z)) (x + 3) k j
+        ∙ rw (h, f) (ap (λ a. hang v x (store a o (x + 3) k j)) (fork-made t d x l r i z))
         );
   }
 
   pub apply-commit : {t₁ t' : Shapes} {c : ℕ} {a z : Node} (m x : ℕ) (p : Link) (b : ℕ) (g : Link) (w : ℕ) → e ≡ Commit m x p b g w → a ≡ t m → z ≡ t b → c ≡ union (a .container) (z .container)
-      → t₁ ≡ upd t x (baseShape Neighbour p c m) → t' ≡ upd t₁ m (committed x b g w (t₁ m)) → Applied t o u e t' o
-  apply-commit {t₁} {t'} {c} {a} {z} m x p b g w q i j k h l = record {
+      → t₁ ≡ upd t x (baseShape Neighbour p c m) → t' ≡ upd t₁ m (committed x b g w (t₁ m)) → Applied t o u k j (effectOf e) t' o k
+  apply-commit {t₁} {t'} {c} {a} {z} m x p b g w q e₁ e₂ e₃ h l = record {
     stored = λ d.
         let s : ℕ → ℕ = selected (t m .container) (d m) (d b) in
-        let f : full t₁ (upd d x s) ≡ upd (full t d) x (newBase Neighbour p (merge (full t d m .container) (full t d b .container)) m) = rw (h, k, i, j) (union-made t d x p m b) in
+        let f : full t₁ (upd d x s) ≡ upd (full t d) x (newBase Neighbour p (merge (full t d m .container) (full t d b .container)) m) = rw (h, e₃, e₁, e₂) (union-made t d x p m b) in
         rw (q, l) (
-        ap (λ n. store n o (x + 1)) (full-same t₁ (upd d x s) m (committed x b g w (t₁ m)))
-        ∙ ap (λ n. store (upd n m (over (committed x b g w) (n m))) o (x + 1)) f
+        ap (λ n. store n o (x + 1) k j) (full-same t₁ (upd d x s) m (committed x b g w (t₁ m)))
+        ∙ ap (λ n. store (upd n m (over (committed x b g w) (n m))) o (x + 1) k j) f
         ∙ rw add-one
         );
   }
+
+-- ---- a new range base, with the container c of node z
+module _ (t : Shapes) (o u : ℕ) (k : Stores) (j : ℕ) where
+  pub apply-ask : {t₁ t' : Shapes} {y c : ℕ} (v : Spot) (x : ℕ) (p : Link) (z l h i : ℕ) (new : Bool) → c ≡ t z .container → t₁ ≡ upd t x (rangeShape p c l h i) → Hung t₁ o v x t' y → Applied t o u k j (Ask v x p z l h i new) t' y k
+  apply-ask {t₁} {t'} {y} {c} v x p z l h i new f g r = record {
+    stored = λ d.
+        r (upd d x (d z)) (x + 1) k (cond new (i + 1) j)
+        ∙ rw (g, f) (ap (λ a. hang v x (store a o (x + 1) k (cond new (i + 1) j))) (range-made t d x p z l h i) ∙ rw (add-one x, add-one i));
+  }
+
+-- the stores shown after it
+pub shown-fresh : (new : Bool) (k j : ℕ) → new ≡ true → k + 1 ≡ cond new (k + 1) j
+shown-fresh new k j n = rw n
 
 -- ---- the depths of a new base: d₁ are those between
 module _ (d : Rows) (x : ℕ) {c : Content} {d' : Rows} where
@@ -164,33 +178,33 @@ module _ (d : Rows) (x : ℕ) {c : Content} {d' : Rows} where
   pub lay-without : (y s : ℕ) → c ≡ Without y s → d' ≡ upd d x (d y) → d' ≡ upd d x (depthsOf c d)
   lay-without y s q f = rw q f
 
--- ---- an effect on the depths: d₁ and d₂ are those between, d' those after it
-module _ (t : Shapes) (d : Rows) {e : Effect} where
-  pub deepen-quiet : e ≡ Quiet → d ≡ deepened e t d
+-- ---- on the depths: d₁ and d₂ are those between, d' those after it
+module _ (t : Shapes) (d : Rows) {e : Write} where
+  pub deepen-quiet : e ≡ Quiet → d ≡ deepened (effectOf e) t d
   deepen-quiet q = rw q
 
-  pub deepen-mark : (r : ℕ) (l : Link) → e ≡ Mark r l → d ≡ deepened e t d
+  pub deepen-mark : (r : ℕ) (l : Link) → e ≡ Mark r l → d ≡ deepened (effectOf e) t d
   deepen-mark r l q = rw q
 
-  pub deepen-settle : (m : ℕ) (s : Stage) → e ≡ Settle m s → d ≡ deepened e t d
+  pub deepen-settle : (m : ℕ) (s : Stage) → e ≡ Settle m s → d ≡ deepened (effectOf e) t d
   deepen-settle m s q = rw q
 
-  pub deepen-invalid : (r : ℕ) → e ≡ Invalid r → d ≡ deepened e t d
+  pub deepen-invalid : (r : ℕ) → e ≡ Invalid r → d ≡ deepened (effectOf e) t d
   deepen-invalid r q = rw q
 
-  pub deepen-swing : (v : Spot) (x : ℕ) → e ≡ Swing v x → d ≡ deepened e t d
+  pub deepen-swing : (v : Spot) (x : ℕ) → e ≡ Swing v x → d ≡ deepened (effectOf e) t d
   deepen-swing v x q = rw q
 
-  pub deepen-base : {d' : Rows} (v : Spot) (x : ℕ) (k : Kind) (p : Link) (c : Content) (m : ℕ) → e ≡ Base v x k p c m → d' ≡ upd d x (depthsOf c d) → d' ≡ deepened e t d
+  pub deepen-base : {d' : Rows} (v : Spot) (x : ℕ) (k : Kind) (p : Link) (c : Content) (m : ℕ) → e ≡ Base v x k p c m → d' ≡ upd d x (depthsOf c d) → d' ≡ deepened (effectOf e) t d
   deepen-base v x k p c m q f = rw q f
 
-  pub deepen-fork : {d₁ d₂ d' : Rows} (v : Spot) (x l r k y : ℕ) → e ≡ Fork v x l r k y → d₁ ≡ upd d x (d y) → d₂ ≡ upd d₁ l (d₁ y) → d' ≡ upd d₂ r (d₂ y) → d' ≡ deepened e t d
+  pub deepen-fork : {d₁ d₂ d' : Rows} (v : Spot) (x l r k y : ℕ) → e ≡ Fork v x l r k y → d₁ ≡ upd d x (d y) → d₂ ≡ upd d₁ l (d₁ y) → d' ≡ upd d₂ r (d₂ y) → d' ≡ deepened (effectOf e) t d
   deepen-fork {d₁} {d₂} {d'} v x l r k y q f₁ f₂ f₃ =
       let h₁ : d₁ y ≡ d y = rw f₁ (upd-own d x y) in
       let h₂ : d₂ y ≡ d y = rw f₂ (upd-own d₁ l y ∙ h₁) in
       rw q (f₃ ∙ rw (h₂, f₂, h₁, f₁))
 
-  pub deepen-commit : {d' : Rows} {a : Node} (m x : ℕ) (p : Link) (b : ℕ) (g : Link) (w : ℕ) → e ≡ Commit m x p b g w → a ≡ t m → d' ≡ upd d x (selected (a .container) (d m) (d b)) → d' ≡ deepened e t d
+  pub deepen-commit : {d' : Rows} {a : Node} (m x : ℕ) (p : Link) (b : ℕ) (g : Link) (w : ℕ) → e ≡ Commit m x p b g w → a ≡ t m → d' ≡ upd d x (selected (a .container) (d m) (d b)) → d' ≡ deepened (effectOf e) t d
   deepen-commit m x p b g w q i f = rw q (f ∙ rw i)
 
 pub ruleset hang-cases = (hang-root, hang-under)

@@ -1,22 +1,69 @@
-// What a step writes, carried out in place: `apply` on the nodes, `deepen` on the depths of their containers.
+// What a step writes, carried out in place: `apply` on the nodes, `deepen` on the depths of the nodes' containers. What a range query
+// writes is apart, in functions of its own, so that the other steps do not pay for it.
 ghost use mathlib.Core.Path.{_≡_};
+ghost use mathlib.Core.Bool.{cond};
+ghost use Prim.Native.Nat.{_+_};
 ghost use lib.ListN.{length};
 ghost use Rattle.container.specs.Choice.{upd};
 ghost use Rattle.nodes.specs.Cells.{table};
 ghost use Rattle.depths.specs.Rows.{rows};
 ghost use Rattle.definitions.specs.Nodes.{newRoute};
-ghost use Rattle.effects.specs.Used.{usedAfter, baseShape, setOf, forkShapes, Hung, depthsOf, deepened, Applied};
+ghost use Rattle.effects.specs.Writes.{effectOf};
+ghost use Rattle.effects.specs.Used.{usedAfter, baseShape, rangeShape, setOf, forkShapes, Hung, depthsOf, deepened, Applies, Asks};
 use definitions::Content;
-use definitions::Effect;
 use definitions::Kind;
 use definitions::Link;
 use definitions::Node;
 use definitions::Spot;
 use definitions::Stage;
 
+// What a step at a place below 60 writes: an effect that makes no range base and sets no result.
+pub enum Write {
+    Quiet,
+    Mark {
+        route: u8,
+        mark: Link,
+    },
+    Settle {
+        main: u8,
+        stage: Stage,
+    },
+    Invalid {
+        route: u8,
+    },
+    Swing {
+        spot: Spot,
+        to: u8,
+    },
+    Base {
+        spot: Spot,
+        at: u8,
+        kind: Kind,
+        parent: Link,
+        content: Content,
+        main: u8,
+    },
+    Fork {
+        spot: Spot,
+        at: u8,
+        left: u8,
+        right: u8,
+        key: u8,
+        base: u8,
+    },
+    Commit {
+        main: u8,
+        at: u8,
+        parent: Link,
+        neighbour: u8,
+        grandparent: Link,
+        other: u8,
+    },
+}
+
 // A new base, but its depths.
 pub fn put_base(
-    cells: &mut [u8; 4096],
+    cells: &mut [u8; 5120],
     sets: &mut [u64; 256],
     at: u8,
     kind: Kind,
@@ -41,13 +88,16 @@ pub fn put_base(
         grandparent: Link::Nil,
         other: 0,
         main: main,
+        lower: 0,
+        upper: 0,
+        store: 0,
     };
     nodes::put_node(cells, sets, at, n);
 }
 
 // A new route.
 pub fn put_route(
-    cells: &mut [u8; 4096],
+    cells: &mut [u8; 5120],
     sets: &mut [u64; 256],
     at: u8,
     key: u8,
@@ -71,20 +121,51 @@ pub fn put_route(
         grandparent: Link::Nil,
         other: 0,
         main: 0,
+        lower: 0,
+        upper: 0,
+        store: 0,
+    };
+    nodes::put_node(cells, sets, at, n);
+}
+
+// A new range base, but its depths.
+pub fn put_range(
+    cells: &mut [u8; 5120],
+    sets: &mut [u64; 256],
+    at: u8,
+    parent: Link,
+    container: u64,
+    lower: u8,
+    upper: u8,
+    store: u8,
+)
+    ensures { λ _. ⌜ table (now (cells .exit)) (now (sets .exit)) ≡ upd (table (now (cells .entry)) (now (sets .entry))) at (rangeShape parent container lower upper store) ⌝ }
+{
+    let n = Node {
+        kind: Kind::Range,
+        key: 0,
+        left: 0,
+        right: 0,
+        valid: true,
+        mark: Link::Nil,
+        parent: parent,
+        container: container,
+        stage: Stage::Preparing,
+        union: 0,
+        neighbour: 0,
+        grandparent: Link::Nil,
+        other: 0,
+        main: 0,
+        lower: lower,
+        upper: upper,
+        store: store,
     };
     nodes::put_node(cells, sets, at, n);
 }
 
 // Node x is put at a spot; gives the root.
-pub fn hang_at(
-    cells: &mut [u8; 4096],
-    sets: &[u64; 256],
-    root: u8,
-    used: u16,
-    spot: Spot,
-    x: u8,
-) -> u8
-    ensures { λ r. ⌜ Hung (table (now (cells .entry)) (now (sets .entry))) root used spot x (table (now (cells .exit)) (now (sets .entry))) r ⌝ }
+pub fn hang_at(cells: &mut [u8; 5120], sets: &[u64; 256], root: u8, spot: Spot, x: u8) -> u8
+    ensures { λ r. ⌜ Hung (table (now (cells .entry)) (now (sets .entry))) root spot x (table (now (cells .exit)) (now (sets .entry))) r ⌝ }
 {
     match spot {
         Spot::Root => x,
@@ -96,7 +177,7 @@ pub fn hang_at(
 }
 
 // The set of a new base's container.
-pub fn set_of(cells: &[u8; 4096], sets: &[u64; 256], content: Content) -> u64
+pub fn set_of(cells: &[u8; 5120], sets: &[u64; 256], content: Content) -> u64
     ensures { λ r. ⌜ r ≡ setOf content (table (now (cells .entry)) (now (sets .entry))) ⌝ }
 {
     match content {
@@ -117,7 +198,7 @@ pub fn set_of(cells: &[u8; 4096], sets: &[u64; 256], content: Content) -> u64
 
 // A route and its two bases, with the halves of the set c.
 pub fn put_fork(
-    cells: &mut [u8; 4096],
+    cells: &mut [u8; 5120],
     sets: &mut [u64; 256],
     at: u8,
     left: u8,
@@ -134,42 +215,42 @@ pub fn put_fork(
     put_base(cells, sets, right, Kind::Normal, Link::To(at), high, 0);
 }
 
-// How many node numbers are used after the effect.
-pub fn used_after(used: u16, e: Effect) -> u16
-    ensures { λ r. ⌜ r ≡ usedAfter used e ⌝ }
+// How many node numbers are used after it.
+pub fn used_after(used: u16, w: Write) -> u16
+    ensures { λ r. ⌜ r ≡ usedAfter used (effectOf w) ⌝ }
 {
-    match e {
-        Effect::Quiet => used,
-        Effect::Mark { .. } => used,
-        Effect::Settle { .. } => used,
-        Effect::Invalid { .. } => used,
-        Effect::Swing { .. } => used,
-        Effect::Base { at, .. } => at as u16 + 1,
-        Effect::Fork { at, .. } => at as u16 + 3,
-        Effect::Commit { at, .. } => at as u16 + 1,
+    match w {
+        Write::Quiet => used,
+        Write::Mark { .. } => used,
+        Write::Settle { .. } => used,
+        Write::Invalid { .. } => used,
+        Write::Swing { .. } => used,
+        Write::Base { at, .. } => at as u16 + 1,
+        Write::Fork { at, .. } => at as u16 + 3,
+        Write::Commit { at, .. } => at as u16 + 1,
     }
 }
 
-// The effect is carried out on the nodes; gives the root.
-pub fn apply(cells: &mut [u8; 4096], sets: &mut [u64; 256], root: u8, used: u16, e: Effect) -> u8
-    ensures { λ r. ⌜ Applied (table (now (cells .entry)) (now (sets .entry))) root used e (table (now (cells .exit)) (now (sets .exit))) r ⌝ }
+// It is carried out on the nodes; gives the root. The stores stay as they are.
+pub fn apply(cells: &mut [u8; 5120], sets: &mut [u64; 256], root: u8, used: u16, w: Write) -> u8
+    ensures { λ r. ⌜ Applies (table (now (cells .entry)) (now (sets .entry))) root used (effectOf w) (table (now (cells .exit)) (now (sets .exit))) r ⌝ }
 {
-    match e {
-        Effect::Quiet => root,
-        Effect::Mark { route, mark } => {
+    match w {
+        Write::Quiet => root,
+        Write::Mark { route, mark } => {
             nodes::set_mark(cells, sets, route, mark);
             root
         }
-        Effect::Settle { main, stage } => {
+        Write::Settle { main, stage } => {
             nodes::set_stage(cells, sets, main, stage);
             root
         }
-        Effect::Invalid { route } => {
+        Write::Invalid { route } => {
             nodes::set_valid(cells, sets, route, false);
             root
         }
-        Effect::Swing { spot, to } => hang_at(cells, sets, root, used, spot, to),
-        Effect::Base {
+        Write::Swing { spot, to } => hang_at(cells, sets, root, spot, to),
+        Write::Base {
             spot,
             at,
             kind,
@@ -179,9 +260,9 @@ pub fn apply(cells: &mut [u8; 4096], sets: &mut [u64; 256], root: u8, used: u16,
         } => {
             let c = set_of(cells, sets, content);
             put_base(cells, sets, at, kind, parent, c, main);
-            hang_at(cells, sets, root, used, spot, at)
+            hang_at(cells, sets, root, spot, at)
         }
-        Effect::Fork {
+        Write::Fork {
             spot,
             at,
             left,
@@ -191,9 +272,9 @@ pub fn apply(cells: &mut [u8; 4096], sets: &mut [u64; 256], root: u8, used: u16,
         } => {
             let n = nodes::node_at(cells, sets, base);
             put_fork(cells, sets, at, left, right, key, n.container);
-            hang_at(cells, sets, root, used, spot, at)
+            hang_at(cells, sets, root, spot, at)
         }
-        Effect::Commit {
+        Write::Commit {
             main,
             at,
             parent,
@@ -226,19 +307,19 @@ fn lay(depths: &mut [u16], at: u8, content: Content)
     }
 }
 
-// The effect is carried out on the depths; the nodes are those before it.
-pub fn deepen(cells: &[u8; 4096], sets: &[u64; 256], depths: &mut [u16], e: Effect)
+// It is carried out on the depths; the nodes are those before it.
+pub fn deepen(cells: &[u8; 5120], sets: &[u64; 256], depths: &mut [u16], w: Write)
     requires { ⌜ length (now depths) ≡ 16384 ⌝ }
-    ensures { λ _. ⌜ rows (now (depths .exit)) ≡ deepened e (table (now (cells .entry)) (now (sets .entry))) (rows (now (depths .entry))) ⌝ }
+    ensures { λ _. ⌜ rows (now (depths .exit)) ≡ deepened (effectOf w) (table (now (cells .entry)) (now (sets .entry))) (rows (now (depths .entry))) ⌝ }
 {
-    match e {
-        Effect::Quiet => {}
-        Effect::Mark { .. } => {}
-        Effect::Settle { .. } => {}
-        Effect::Invalid { .. } => {}
-        Effect::Swing { .. } => {}
-        Effect::Base { at, content, .. } => lay(depths, at, content),
-        Effect::Fork {
+    match w {
+        Write::Quiet => {}
+        Write::Mark { .. } => {}
+        Write::Settle { .. } => {}
+        Write::Invalid { .. } => {}
+        Write::Swing { .. } => {}
+        Write::Base { at, content, .. } => lay(depths, at, content),
+        Write::Fork {
             at,
             left,
             right,
@@ -249,7 +330,7 @@ pub fn deepen(cells: &[u8; 4096], sets: &[u64; 256], depths: &mut [u16], e: Effe
             depths::copy(depths, base, left);
             depths::copy(depths, base, right)
         }
-        Effect::Commit {
+        Write::Commit {
             main,
             at,
             neighbour,
@@ -259,4 +340,41 @@ pub fn deepen(cells: &[u8; 4096], sets: &[u64; 256], depths: &mut [u16], e: Effe
             depths::select(depths, m.container, main, neighbour, at)
         }
     }
+}
+
+// ---- what a range query writes; a result is set by crate nodes
+
+// A range base with the container of `base` is put at a spot; gives the root. Whether its store is a new one is for `shown_after`.
+pub fn ask(
+    cells: &mut [u8; 5120],
+    sets: &mut [u64; 256],
+    root: u8,
+    spot: Spot,
+    at: u8,
+    parent: Link,
+    base: u8,
+    lower: u8,
+    upper: u8,
+    store: u8,
+) -> u8
+    ensures { λ r. ⌜ Asks (table (now (cells .entry)) (now (sets .entry))) root spot at parent base lower upper store (table (now (cells .exit)) (now (sets .exit))) r ⌝ }
+{
+    let c = nodes::container_at(cells, sets, base);
+    put_range(cells, sets, at, parent, c, lower, upper, store);
+    hang_at(cells, sets, root, spot, at)
+}
+
+// How many stores are shown after it.
+pub fn shown_after(shown: u16, store: u8, fresh: bool) -> u16
+    ensures { λ r. ⌜ r ≡ cond fresh (store + 1) shown ⌝ }
+{
+    if fresh { store as u16 + 1 } else { shown }
+}
+
+// Its depths are those of the base that it is put for.
+pub fn deepen_range(depths: &mut [u16], at: u8, old: u8)
+    requires { ⌜ length (now depths) ≡ 16384 ⌝ }
+    ensures { λ _. ⌜ rows (now (depths .exit)) ≡ upd (rows (now (depths .entry))) at (rows (now (depths .entry)) old) ⌝ }
+{
+    depths::copy(depths, old, at);
 }

@@ -13,9 +13,9 @@ use lib.ListN.{getD}
 use borrow.Author.Tests.{eq-eqb, ne-eqb}
 use Rattle.container.specs.Choice.{ite, upd}
 use Rattle.definitions.specs.declared.Action.{Action}
-use Rattle.definitions.specs.declared.Action.the-variants.{Lookup, Insert, Remove, Split, Join}
+use Rattle.definitions.specs.declared.Action.the-variants.{Lookup, Insert, Remove, Split, Join, Query}
 use Rattle.definitions.specs.declared.Answer.{Answer}
-use Rattle.definitions.specs.declared.Thread.{Thread}
+use Rattle.definitions.specs.Threads.{Thread}
 use Rattle.definitions.specs.Bench.{Bench}
 use Rattle.definitions.specs.Records.{Row, noRow, row, Result, refused, carried, recordStep, actionNumber, isIdle}
 use Rattle.definitions.specs.Schedule.{version}
@@ -47,6 +47,7 @@ number-some Insert e = omega arith
 number-some Remove e = omega arith
 number-some Split e = omega arith
 number-some Join e = omega arith
+number-some Query e = omega arith
 
 -- a thread that a record is not for
 same-thread : (f g : ℕ → Thread) (u t : ℕ) (v : Thread) → g ≡ upd f u v → u ≢ t → isIdle (g t) ≡ isIdle (f t)
@@ -69,7 +70,7 @@ pub record Done (file : List ℕ) (k : ℕ) (w : Row) : Type 0 where
   pub others : (t : ℕ) → firstByte file k / 16 ≢ t → isIdle (after file (suc k) .bench .threads t) ≡ isIdle (after file k .bench .threads t)
 
 pub done-at : (file : List ℕ) (k : ℕ) (z : Turned file k) → Done file k (z .added)
-done-at file k z = by (z .added) (subst (λ r. Did (after file k .bench) (firstByte file k / 16) (secondByte file k) (firstByte file k % 16) r) (z .step) (did (after file k .bench) (firstByte file k) (secondByte file k) 0))
+done-at file k z = by (z .added) (subst (λ r. Did (after file k .bench) (firstByte file k / 16) (secondByte file k) (firstByte file k % 16) r) (z .step) (did (after file k .bench) 5 (firstByte file k) (secondByte file k) 0))
   where
     u : ℕ
     u = firstByte file k / 16

@@ -12,8 +12,8 @@ use lib.ListN.{length, getD, length-append, List·getD-append}
 use lib.Seq.{getD-append-add}
 use Rattle.container.specs.Choice.{ite}
 use Rattle.definitions.specs.declared.Answer.{Answer}
-use Rattle.definitions.specs.declared.Thread.{Thread}
 use Rattle.definitions.specs.Answers.{answerNumber}
+use Rattle.definitions.specs.Threads.{Thread}
 use Rattle.definitions.specs.Bench.{Bench}
 use Rattle.definitions.specs.Records.{Row, noRow, row, Result, refused, carried, recordStep, actionNumber}
 use Rattle.definitions.specs.Schedule.{Rec, version, recordAt}
@@ -27,7 +27,7 @@ use Rattle.run.proofs.Rows.{rows-length}
 
 -- record k of a version 1 file
 abbrev pub rec : List ℕ → ℕ → Rec
-rec file k = record { first = firstByte file k; second = secondByte file k; extra = 0 }
+rec file k = record { last = 5; first = firstByte file k; second = secondByte file k; extra = 0 }
 
 rec-is : (file : List ℕ) → version file ≡ 1 → (k : ℕ) → recordAt file k ≡ rec file k
 unfolding recordAt ite
@@ -38,7 +38,7 @@ pub record Turned (file : List ℕ) (k : ℕ) : Type 0 where
   pub bench : Bench
   pub added : Row
   pub fine : after file k .refusal ≡ 0
-  pub step : recordStep (after file k .bench) (firstByte file k) (secondByte file k) 0 ≡ carried bench added
+  pub step : recordStep (after file k .bench) 5 (firstByte file k) (secondByte file k) 0 ≡ carried bench added
   pub next : after file (suc k) ≡ advanceBy file (after file k) (firstByte file k / 16) (carried bench added)
 
 -- where the first n records have led, by the records done
@@ -72,7 +72,7 @@ module _ (file : List ℕ) (one : version file ≡ 1) (n : ℕ) (h : Led file n)
     events = ap (λ (p : Progress). eventsTo file (p .done)) e ∙ h .events ∙ sym (no-event (added-none (after file n) (rec file n) z));
   }
 
-  led-on : after file n .refusal ≡ 0 → (res : Result) → recordStep (after file n .bench) (firstByte file n) (secondByte file n) 0 ≡ res
+  led-on : after file n .refusal ≡ 0 → (res : Result) → recordStep (after file n .bench) 5 (firstByte file n) (secondByte file n) 0 ≡ res
       → Did (after file n .bench) (firstByte file n / 16) (secondByte file n) (firstByte file n % 16) res
       → after file (suc n) ≡ advanceBy file (after file n) (firstByte file n / 16) res → Led file (suc n)
   led-on z (refused m) s d e = record {
@@ -101,7 +101,7 @@ led : (file : List ℕ) → version file ≡ 1 → (n : ℕ) → Led file n
 unfolding after
 led file one zero = record { whole = λ _. refl; few = omega arith; turned = λ k l. absurd (omega arith); rows = refl; finished = refl; events = refl }
 led file one (suc n) = elim (ℕ-discrete (after file n .refusal) 0) [
-  | yes z ↦ led-on file one n (led file one n) z (recordStep (after file n .bench) (firstByte file n) (secondByte file n) 0) refl (did (after file n .bench) (firstByte file n) (secondByte file n) 0) (one-more file one n ∙ advance-on file (after file n) (rec file n) z)
+  | yes z ↦ led-on file one n (led file one n) z (recordStep (after file n .bench) 5 (firstByte file n) (secondByte file n) 0) refl (did (after file n .bench) 5 (firstByte file n) (secondByte file n) 0) (one-more file one n ∙ advance-on file (after file n) (rec file n) z)
   | no z ↦ led-off file one n (led file one n) z (one-more file one n ∙ advance-off file (after file n) (rec file n) z)
 ]
 
@@ -132,7 +132,7 @@ record Grown (l m : List ℕ) : Type 0 where
 
 grown-on : (file : List ℕ) (p : Progress) (r : Rec) → Grown (p .rows) (advance file p r .rows)
 grown-on file p r = elim (ℕ-discrete (p .refusal) 0) [
-  | yes z ↦ by (recordStep (p .bench) (r .first) (r .second) (r .extra)) (advance-on file p r z)
+  | yes z ↦ by (recordStep (p .bench) (r .last) (r .first) (r .second) (r .extra)) (advance-on file p r z)
   | no z ↦ record { rest = []; is = ap (λ (q : Progress). q .rows) (advance-off file p r z) ∙ sym (append-nil (p .rows)) }
 ]
   where

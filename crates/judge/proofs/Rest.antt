@@ -13,7 +13,7 @@ use Rattle.container.specs.Container.{has, insert}
 use Rattle.container.proofs.Laws.{insert-same, insert-other, has-none}
 use Rattle.definitions.specs.PlainSet.{settled}
 use Rattle.definitions.specs.declared.Action.{Action}
-use Rattle.definitions.specs.declared.Action.the-variants.{Lookup, Insert, Remove, Split, Join}
+use Rattle.definitions.specs.declared.Action.the-variants.{Lookup, Insert, Remove, Split, Join, Query}
 use Rattle.definitions.specs.History.{Operation, Operations}
 use Rattle.definitions.specs.Judgement.{times, once, Each, Keeps, actionOf, reply, Answers, Order, First, FirstOrder}
 use Rattle.judge.specs.Search.{flip, changes, turns, stateTo, state, Fitting, Before, undone, Rest, Best, Sound}
@@ -26,6 +26,7 @@ turned : (a : Action) (y : Bool) (st : ℕ) (S : ℕ → Bool) → y ≡ reply a
 turned Lookup y st S e s = refl
 turned Split y st S e s = refl
 turned Join y st S e s = refl
+turned Query y st S e s = refl
 turned Insert y st S e s = elim (test (eqb s st)) [ on q ↦ rw (q, eqb-true s st q, e) (put (S st)) | off q ↦ rw (q, e) (leave (not (S st)) (S s)) ]
   where
     put : (b : Bool) → true ≡ flip (not b && true) b

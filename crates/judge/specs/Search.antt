@@ -8,7 +8,7 @@ use lib.Dec.{eqb, ltb}
 use lib.ListN.{getD}
 use Rattle.container.specs.Container.{has, insert}
 use Rattle.definitions.specs.declared.Action.{Action}
-use Rattle.definitions.specs.declared.Action.the-variants.{Lookup, Insert, Remove, Split, Join}
+use Rattle.definitions.specs.declared.Action.the-variants.{Lookup, Insert, Remove, Split, Join, Query}
 use Rattle.definitions.specs.History.{Operation, Operations, operations}
 use Rattle.definitions.specs.Judgement.{times, once, Keeps, actionOf, reply, Answers, First}
 use Rattle.judge.specs.declared.Work.{Work}
@@ -27,6 +27,7 @@ changes Insert y = y
 changes Remove y = y
 changes Split y = false
 changes Join y = false
+changes Query y = false
 
 abbrev pub turns : Operation → ℕ → Bool
 turns o s = changes (actionOf (o .action)) (o .yes) && eqb s (o .station)

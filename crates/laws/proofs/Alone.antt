@@ -8,11 +8,10 @@ use borrow.Author.Tests.{eq-eqb, ne-eqb}
 use Rattle.container.specs.Choice.{upd}
 use Rattle.container.specs.Depths.{Found, isIn, find}
 use Rattle.definitions.specs.declared.Action.{Action}
-use Rattle.definitions.specs.declared.Action.the-variants.{Lookup, Insert, Remove, Split, Join}
+use Rattle.definitions.specs.declared.Action.the-variants.{Lookup, Insert, Remove, Split, Join, Query}
 use Rattle.definitions.specs.declared.Answer.{Answer}
-use Rattle.definitions.specs.declared.Turn.{Turn}
-use Rattle.definitions.specs.declared.Turn.the-variants.{Moves, Finishes, Full}
-use Rattle.definitions.specs.Bench.{Bench, bench, begun, idle, sightOf}
+use Rattle.definitions.specs.Threads.{begun, idle, Turn, Moves, Finishes, Finds, Full, NoStore}
+use Rattle.definitions.specs.Bench.{Bench, bench, sightOf}
 use Rattle.definitions.specs.Effects.{perform}
 use Rattle.definitions.specs.Places.{placeOf}
 use Rattle.definitions.specs.Steps.{step}
@@ -23,7 +22,7 @@ use Rattle.definitions.specs.Schedule.{Rec}
 use Rattle.definitions.specs.Plain.{doing, Plain, settled, settledBy, finish, start, carriedOut}
 use Rattle.definitions.specs.Claim.{rowAdded}
 use Rattle.answers.proofs.Tools.{_==?_, clash}
-use Rattle.laws.specs.Jobs.{Reachable, past, Job, Updating, Steps, answerTo}
+use Rattle.laws.specs.Jobs.{last, Reachable, past, Job, Updating, Steps, answerTo}
 use Rattle.laws.specs.Laws.{longest, Ends, UpdatesEnd, OneEnd}
 use Rattle.laws.proofs.OneRecord.{opening, stepOf, step-thread, step-action, step-record, start-thread, start-action, action-low, start-record}
 use Rattle.laws.proofs.Kept.{Kept, Says, Said, kept-next, kept-table}
@@ -33,9 +32,9 @@ use Rattle.laws.proofs.Solo.{Solo, at1, SoloTurn, updating, solo, solo-
 -- ---- past a step record of thread t
 
 abbrev stepRec : ℕ → Rec
-stepRec t = record { first = 16 * t; second = 0; extra = 0 }
+stepRec t = record { last = last; first = 16 * t; second = 0; extra = 0 }
 
-kept-step : (b b' : Bench) (P : Plain) (t : ℕ) (w : Row) → Kept b P → recordStep b (16 * t) 0 0 ≡ carried b' w → Kept b' (carriedOut 0 t 0 0 (rowAdded w) P) × Said w (P .operation t) P
+kept-step : (b b' : Bench) (P : Plain) (t : ℕ) (w : Row) → Kept b P → recordStep b last (16 * t) 0 0 ≡ carried b' w → Kept b' (carriedOut 0 t 0 0 (rowAdded w) P) × Said w (P .operation t) P
 kept-step b b' P t w z e = subst (λ u. Kept b' (carriedOut 0 u 0 0 (rowAdded w) P) × Said w (P .operation u) P) (step-thread t)
     (subst (λ n. Kept b' (carriedOut n ((16 * t) / 16) 0 0 (rowAdded w) P) × Said w (P .operation ((16 * t) / 16)) P) (step-action t) (kept-next b b' P (stepRec t) w z e))
 
@@ -67,11 +66,11 @@ unfolding taken
 run zero b P t low a = absurd (solo-some (b .store) (b .threads t) (a .calm) (a .solo))
 run (suc n) b P t low a =
     go (step (placeOf (b .threads t .place)) (sightOf (b .store)) (b .threads t)) (solo (b .store) (a .calm) (b .threads t) (a .update) (a .room) n (a .solo))
-    (step-record b t low (ne-eqb _ _ (solo-busy _ _ _ (a .solo)))) (λ c i. run n c P t low i)
+    (step-record b last t low (ne-eqb _ _ (solo-busy _ _ _ (a .solo)))) (λ c i. run n c P t low i)
   where
-    go : (o : Turn) → SoloTurn (b .store) n o → recordStep b (16 * t) 0 0 ≡ taken b t o → ((c : Bench) → Amid c P t n → Ran t n c P) → Ran t (suc n) b P
+    go : (o : Turn) → SoloTurn (b .store) n o → recordStep b last (16 * t) 0 0 ≡ taken b t o → ((c : Bench) → Amid c P t n → Ran t n c P) → Ran t (suc n) b P
     go (Moves th' e) (q, v, y) r ih =
-        let r' : recordStep b (16 * t) 0 0 ≡ carried (bench (b .store) (upd (b .threads) t th')) noRow = r ∙ ap (λ i. carried (bench i (upd (b .threads) t th')) noRow) q in
+        let r' : recordStep b last (16 * t) 0 0 ≡ carried (bench (b .store) (upd (b .threads) t th')) noRow = r ∙ ap (λ i. carried (bench i (upd (b .threads) t th')) noRow) q in
         let o = ih (bench (b .store) (upd (b .threads) t th')) (record {
           reached = past b (stepRec t) noRow (a .reached) r';
           kept = kept-step b _ P t noRow (a .kept) r' .0;
@@ -94,7 +93,7 @@ run (suc n) b P t low a =
           says = o .says;
         }
     go (Finishes e ans) y r ih =
-        let r' : recordStep b (16 * t) 0 0 ≡ carried (bench (perform e (b .store)) (upd (b .threads) t idle)) (row (shown ans) 0 0)
+        let r' : recordStep b last (16 * t) 0 0 ≡ carried (bench (perform e (b .store)) (upd (b .threads) t idle)) (row (shown ans) 0 0)
         = r ∙ ap (λ d. carried (bench (perform e (b .store)) (upd (b .threads) t idle)) (row (shown ans) d 0)) (y .1 (b .store .nodes) (b .threads t .station)) in
         let k = kept-step b _ P t (row (shown ans) 0 0) (a .kept) r' in record {
           steps = 0;
@@ -109,12 +108,14 @@ run (suc n) b P t low a =
           used = y .0;
           says = k .1;
         }
+    go (Finds c) y r ih = absurd y
     go Full y r ih = absurd y
+    go NoStore y r ih = absurd y
 
 -- ---- from the start record to the row
 
 abbrev startRec : Job → Rec
-startRec j = record { first = 16 * j .thread + actionNumber (j .action); second = j .station; extra = j .depth }
+startRec j = record { last = last; first = 16 * j .thread + actionNumber (j .action); second = j .station; extra = j .depth }
 
 -- the bench and the plain table of a job that has started
 abbrev opens : Bench → Job → Bench
@@ -129,6 +130,7 @@ start-plain Insert t y d P = refl
 start-plain Remove t y d P = refl
 start-plain Split t y d P = refl
 start-plain Join t y d P = refl
+start-plain Query t y d P = refl
 
 kept-start : (b b' : Bench) (P : Plain) (j : Job) → Kept b P → stepOf b (startRec j) ≡ carried b' noRow → Kept b' (underway j P)
 kept-start b b' P j z e = let low = action-low (j .action) in subst (λ v. Kept b' v) (start-plain (j .action) (j .thread) (j .station) (j .depth) P)
@@ -142,12 +144,16 @@ settled-at Insert st d s f g e = rw e
 settled-at Remove st d s f g e = rw e
 settled-at Split st d s f g e = e
 settled-at Join st d s f g e = e
+settled-at Query st d s f g e = e
 
 -- the plain table before the start and after it is one
 says-so : (j : Job) (P : Plain) (ans : Answer) (had : Found) → Updating (j .action) → had ≡ P .table (j .station)
     → Says (doing (j .action) (j .station) (j .depth)) (underway j P) ans → ans ≡ said (answerTo (j .action) (isIn had))
 says-so j P ans had u e = updating (λ a. Says (doing a (j .station) (j .depth)) (underway j P) ans → ans ≡ said (answerTo a (isIn had)))
     (λ h. h ∙ ap (λ v. said (not (isIn v))) (sym e)) (λ h. h ∙ ap (λ v. said (isIn v)) (sym e)) (j .action) u
+
+low-number : (a : Action) → Updating a → actionNumber a ≤ 5
+low-number = updating (λ a. actionNumber a ≤ 5) (omega arith) (omega arith)
 
 pub updates-end : UpdatesEnd
 updates-end b j z h p f = finished (run longest (opens b j) (underway j (k .plain)) (j .thread) (p .thread) (record {
@@ -163,7 +169,7 @@ updates-end b j z h p f = finished (run longest (opens b j) (underway j (k .plai
     k = known b z
 
     started : stepOf b (startRec j) ≡ carried (opens b j) noRow
-    started = start-record b (j .thread) (j .action) (j .station) (j .depth) (p .thread) (p .station) (p .depth) (h (j .thread) (p .thread))
+    started = start-record b last (j .thread) (j .action) (j .station) (j .depth) (low-number (j .action) (p .action)) (low-number (j .action) (p .action)) (p .thread) (p .station) (p .depth) (h (j .thread) (p .thread))
 
     opened : underway j (k .plain) .operation (j .thread) ≡ doing (j .action) (j .station) (j .depth)
     opened = rw (eq-eqb (j .thread) (j .thread) refl)

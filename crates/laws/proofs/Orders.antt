@@ -16,7 +16,7 @@ use Rattle.container.specs.Depths.{Found, absent, deep, isIn, find, merge, with
 use Rattle.container.proofs.Laws.{below-in, below-out, from-in, from-out, has-lt, ext-all}
 use Rattle.container.proofs.DepthLaws.{find-merge, find-within, is-in}
 use Rattle.definitions.specs.declared.Action.{Action}
-use Rattle.definitions.specs.declared.Action.the-variants.{Lookup, Insert, Remove, Split, Join}
+use Rattle.definitions.specs.declared.Action.the-variants.{Lookup, Insert, Remove, Split, Join, Query}
 use Rattle.definitions.specs.declared.Answer.{Answer}
 use Rattle.definitions.specs.declared.Answer.the-variants.{No}
 use Rattle.definitions.specs.Answers.{said}
@@ -42,6 +42,7 @@ puts Insert d = deep d
 puts Remove d = absent
 puts Split d = absent
 puts Join d = absent
+puts Query d = absent
 
 done-is : (j : Job) (T : ℕ → Found) (s : ℕ) → Proper j → done j T s ≡ cond (eqb s (j .station)) (puts (j .action) (j .depth)) (T s)
 done-is j T s p = updating (λ a. settled a (j .station) (j .depth) T s ≡ cond (eqb s (j .station)) (puts a (j .depth)) (T s)) refl refl (j .action) (p .action)

@@ -2,8 +2,8 @@
 -- to 51 (`Tended`). It rests on Turned.antt.
 use mathlib.Core.Path.{_≡_, refl, sym, _∙_, ap, subst}
 use mathlib.Core.Logic.{_⊎_, inl, inr}
-use mathlib.Core.Bool.{true, false, true≢false, false≢true}
-use Prim.Native.Nat.{ℕ, _+_, _<_}
+use mathlib.Core.Bool.{Bool, true, false, cond, true≢false, false≢true}
+use Prim.Native.Nat.{ℕ, suc, _+_, _<_}
 use borrow.Author.Tests.{eq-eqb, ne-eqb, eqb-true}
 use Rattle.container.specs.Choice.{upd}
 use Rattle.container.specs.Depths.{Container, merge}
@@ -13,19 +13,17 @@ use Rattle.definitions.specs.declared.Stage.the-variants.{Preparing, Completing
 use Rattle.definitions.specs.declared.Link.{Link}
 use Rattle.definitions.specs.declared.Spot.{Spot}
 use Rattle.definitions.specs.declared.Spot.the-variants.{Root, Under}
-use Rattle.definitions.specs.declared.Thread.{Thread}
-use Rattle.definitions.specs.declared.Turn.{Turn}
-use Rattle.definitions.specs.declared.Turn.the-variants.{Moves, Finishes, Full}
+use Rattle.definitions.specs.Threads.{Thread, Turn, Moves, Finishes, Finds, Full, NoStore}
 use Rattle.definitions.specs.declared.Effect.{Effect}
-use Rattle.definitions.specs.declared.Effect.the-variants.{Quiet, Mark, Settle, Invalid, Swing, Base, Fork, Commit}
-use Rattle.definitions.specs.Nodes.{Nodes, Entry, isPreparing, newBase}
+use Rattle.definitions.specs.declared.Effect.the-variants.{Quiet, Mark, Settle, Invalid, Swing, Base, Fork, Commit, Ask, Fill}
+use Rattle.definitions.specs.Nodes.{Nodes, Entry, isPreparing, newBase, newRange}
 use Rattle.definitions.specs.Bench.{Store, store, Bench, fresh}
 use Rattle.definitions.specs.Effects.{hang, push, contentOf, forked, perform}
 use Rattle.definitions.specs.Places.{placeOf}
 use Rattle.definitions.specs.Records.{Row, Result, refused, carried, taken}
 use Rattle.definitions.specs.Schedule.{Rec}
 use Rattle.answers.proofs.Tools.{_==?_}
-use Rattle.laws.proofs.Tending.{isOver, Tends, Apt, NewMain, Turned, normal-main, route-main, neighbour-main}
+use Rattle.laws.proofs.Tending.{isOver, Tends, Apt, NewMain, Turned, normal-main, route-main, neighbour-main, range-main}
 use Rattle.laws.proofs.Turned.{turned}
 use Rattle.laws.proofs.OneRecord.{stepOf, by-record}
 
@@ -61,12 +59,15 @@ preparing-not Completing e = absurd (false≢true e)
 preparing-not Aborted e = absurd (false≢true e)
 preparing-not Done e = absurd (false≢true e)
 
--- the store with a split's three nodes, and a commit's neighbour
+-- the store with a split's three nodes, a commit's neighbour, and the store with a query's range base
 abbrev trio : ℕ → ℕ → ℕ → ℕ → Container → Store → Store
-trio x l r k c s = store (forked x l r k c (s .nodes)) (s .root) (x + 3)
+trio x l r k c s = store (forked x l r k c (s .nodes)) (s .root) (x + 3) (s .stores) (s .shown)
 
 abbrev united : Store → Link → ℕ → ℕ → Entry
 united s p m n = newBase Neighbour p (merge (s .nodes m .container) (s .nodes n .container)) m
+
+abbrev ranged : Store → ℕ → Link → ℕ → ℕ → ℕ → ℕ → Bool → Store
+ranged s x p y l h k new = store (upd (s .nodes) x (newRange p (s .nodes y .container) l h k)) (s .root) (suc x) (s .stores) (cond new (suc k) (s .shown))
 
 -- a main that needs its thread after an effect did so before it, or is new
 needs-was : (s : Store) (e : Effect) → Apt s e → (y : ℕ) → Needs (perform e s .nodes) y → Needs (s .nodes) y ⊎ NewMain e y
@@ -101,6 +102,11 @@ needs-was s (Commit m x p n g o) a y h = elim (y ==? x) [
         | no z ↦ inl (as-before _ _ y k (rw (ne-eqb y m z, ne-eqb y x q)) h)
       ]
 ]
+needs-was s (Ask v x p b l u k new) a y h = elim (y ==? x) [
+  | yes q ↦ absurd (range-main (sym (hang-kind v x (ranged s x p b l u k new) y ∙ rw (eq-eqb y x q)) ∙ h .kind))
+  | no q ↦ inl (as-before _ _ y (hang-kind v x (ranged s x p b l u k new) y ∙ rw (ne-eqb y x q)) (hang-stage v x (ranged s x p b l u k new) y ∙ rw (ne-eqb y x q)) h)
+]
+needs-was s (Fill k c) a y h = inl h
 
 -- ---- at every reachable state
 
@@ -141,7 +147,15 @@ sound-turn b t l z (Finishes e a') (a, n, k) = record {
   where
     mine : (x u : ℕ) → Tends (b .threads u) x → u ≡ t → isOver (perform e (b .store) .nodes x .stage) ≡ false → ⊥
     mine x u v q h = let v' : Tends (b .threads t) x = rw q at v in true≢false (sym (k (v' .place)) ∙ ap (λ y. isOver (perform e (b .store) .nodes y .stage)) (v' .main) ∙ h)
+sound-turn b t l z (Finds c) h = record {
+  low = still-low b t _ l z;
+  tended = λ x i. let (u, v) = z .tended x i in elim (u ==? t) [ yes q ↦ absurd (mine x u v q) | no q ↦ (u, rw (ne-eqb u t q) v) ];
+}
+  where
+    mine : (x u : ℕ) → Tends (b .threads u) x → u ≡ t → ⊥
+    mine x u v q = let v' : Tends (b .threads t) x = rw q at v in h (v' .place)
 sound-turn b t l z Full h = tt
+sound-turn b t l z NoStore h = tt
 
 -- an idle thread tends no main
 pub idle-tends : (th : Thread) (x : ℕ) → th .place ≡ 0 → Tends th x → ⊥

@@ -18,9 +18,7 @@ use Rattle.definitions.specs.declared.Quarter.the-variants.{ReadLeft, SwapLeft,
 use Rattle.definitions.specs.declared.Spot.{Spot}
 use Rattle.definitions.specs.declared.Spot.the-variants.{Root, Under}
 use Rattle.definitions.specs.declared.Probe.the-variants.{Next}
-use Rattle.definitions.specs.declared.Thread.{Thread}
-use Rattle.definitions.specs.declared.Turn.{Turn}
-use Rattle.definitions.specs.declared.Turn.the-variants.{Moves, Finishes, Full}
+use Rattle.definitions.specs.Threads.{Thread, Turn, Moves, Finishes, Finds, Full, NoStore}
 use Rattle.definitions.specs.Answers.{said, depthIn}
 use Rattle.definitions.specs.Nodes.{Nodes, shape, kidOf, childFor}
 use Rattle.definitions.specs.Bench.{Store, sightOf}
@@ -57,7 +55,9 @@ solo-busy s th n (at13 _ e _ _ _) z = omega arith
 abbrev pub SoloTurn : Store → ℕ → Turn → Type 0
 SoloTurn s n (Moves th' e) = (perform e s ≡ s) × Updating (th' .action) × Solo s th' n
 SoloTurn s n (Finishes e a) = (perform e s .used ≡ suc (s .used)) × ((m : Nodes) (k : ℕ) → depthIn a m k ≡ 0)
+SoloTurn s n (Finds c) = ⊥
 SoloTurn s n Full = ⊥
+SoloTurn s n NoStore = ⊥
 
 -- by action, for updates only
 pub updating : (Q : Action → Type 0) → Q Insert → Q Remove → (a : Action) → Updating a → Q a

@@ -2,6 +2,7 @@
 -- (`Turned`, Tending.antt). No invariant is needed here.
 use mathlib.Core.Path.{_≡_, refl, sym, _∙_}
 use mathlib.Core.Bool.{Bool, true, false, false≢true}
+use mathlib.Core.List.{List, [], _∷_}
 use Prim.Native.Nat.{ℕ}
 use borrow.Author.Tests.{eq-eqb}
 use Rattle.container.specs.Choice.{ite}
@@ -12,23 +13,24 @@ use Rattle.definitions.specs.declared.Stage.{Stage}
 use Rattle.definitions.specs.declared.Stage.the-variants.{Preparing, Completing, Aborted, Done}
 use Rattle.definitions.specs.declared.Node.{Node}
 use Rattle.definitions.specs.declared.Action.{Action}
-use Rattle.definitions.specs.declared.Action.the-variants.{Lookup, Insert, Remove, Split, Join}
+use Rattle.definitions.specs.declared.Action.the-variants.{Lookup, Insert, Remove, Split, Join, Query}
 use Rattle.definitions.specs.declared.Spot.{Spot}
 use Rattle.definitions.specs.declared.Quarter.{Quarter}
 use Rattle.definitions.specs.declared.Quarter.the-variants.{ReadLeft, SwapLeft, ReadRight, SwapRight}
 use Rattle.definitions.specs.declared.Probe.{Probe}
 use Rattle.definitions.specs.declared.Probe.the-variants.{Hit, Next, Miss}
 use Rattle.definitions.specs.declared.Answer.the-variants.{No}
-use Rattle.definitions.specs.declared.Thread.{Thread}
-use Rattle.definitions.specs.declared.Turn.{Turn}
-use Rattle.definitions.specs.declared.Turn.the-variants.{Moves}
+use Rattle.definitions.specs.declared.Shared.{Shared}
+use Rattle.definitions.specs.declared.Shared.the-variants.{Unset, Set}
+use Rattle.definitions.specs.Threads.{Frame, Thread, Turn, Moves}
+use Rattle.definitions.specs.Frames.{tailOf, storeOf, inFrame, nextFrom, adding, foundFirst, backIn, back}
 use Rattle.definitions.specs.declared.Effect.{Effect}
-use Rattle.definitions.specs.declared.Effect.the-variants.{Quiet, Settle}
+use Rattle.definitions.specs.declared.Effect.the-variants.{Quiet, Settle, Fill}
 use Rattle.definitions.specs.Nodes.{childFor, check, isDone}
 use Rattle.definitions.specs.Bench.{Store, sightOf}
 use Rattle.definitions.specs.Effects.{perform}
-use Rattle.definitions.specs.Places.{own, found, united, Place, nowhere, p1, p2, p3, p15, p16, p20, p21, p22, p23, p24, p25, p30, p31, p32, p33, p34, p35, p36, p37, p38, p40, p45, p46, p47, p48, p49, p50, p51, swap, placeOf, number, at}
-use Rattle.definitions.specs.Steps.{goes, says, hooked, marking, atLeaf, reached, lostAs, lost, joinUnder, clearedAs, cleared, probe, replacedAs, replaced, ownBy, foundBy, unitedBy, helpBy, blockedAs, blocked, beside, grandMarking, backOut, cutAt, cutOn, cutRight, freeing, ended, unmark, invalid, step}
+use Rattle.definitions.specs.Places.{own, found, united, opening, next, Place, nowhere, p1, p2, p3, p15, p16, p20, p21, p22, p23, p24, p25, p30, p31, p32, p33, p34, p35, p36, p37, p38, p40, p45, p46, p47, p48, p49, p50, p51, p60, p61, p62, p70, p71, p72, p73, p74, p76, p81, p82, swap, placeOf, number, at}
+use Rattle.definitions.specs.Steps.{goes, says, hooked, marking, atLeaf, reached, lostAs, lost, joinUnder, clearedAs, cleared, probe, replacedAs, replaced, ownBy, foundBy, unitedBy, helpBy, blockedAs, blocked, beside, grandMarking, backOut, cutAt, cutOn, cutRight, freeing, ended, unmark, invalid, reachedFirst, reachedNext, openedBy, extendedBy, popOn, metBy, filling, readOut, step}
 use Rattle.laws.proofs.Tending.{isOver, tending, Tends, Apt, NewMain, Turned, normal-main, neighbour-main}
 
 done-over : (v : Stage) → isDone v ≡ true → isOver v ≡ true
@@ -42,6 +44,18 @@ own-away ReadLeft = refl
 own-away SwapLeft = refl
 own-away ReadRight = refl
 own-away SwapRight = refl
+
+opening-away : (q : Quarter) → tending (swap opening q) ≡ false
+opening-away ReadLeft = refl
+opening-away SwapLeft = refl
+opening-away ReadRight = refl
+opening-away SwapRight = refl
+
+next-away : (q : Quarter) → tending (swap next q) ≡ false
+next-away ReadLeft = refl
+next-away SwapLeft = refl
+next-away ReadRight = refl
+next-away SwapRight = refl
 
 quarter-found : (q : Quarter) → tending (placeOf (number (swap found q))) ≡ true
 quarter-found ReadLeft = refl
@@ -71,6 +85,24 @@ module _ (s : Store) (p : Place) (th : Thread) where
   goes-on : (th' : Thread) → tending (placeOf (th' .place)) ≡ true → th' .owner ≡ th .owner → th' .main ≡ th .main → Turned s p th (goes th')
   goes-on th' q i j = (tt, λ y z. absurd z, tends th' q i j)
 
+  -- back from helping: the thread does not own the main
+  leaves : (e : Effect) → Apt s e → ((y : ℕ) → NewMain e y → ⊥) → (tending p ≡ true → th .owner ≡ true → ⊥) → (th' : Thread) → Turned s p th (Moves th' e)
+  leaves e a n o th' = (a, λ y z. absurd (n y z), λ z i. absurd (o z i))
+
+  nexted : (l : List ℕ) (e : Effect) (f : Frame) (fs : List Frame) → Apt s e → ((y : ℕ) → NewMain e y → ⊥) → (tending p ≡ true → th .owner ≡ true → ⊥)
+      → Turned s p th (nextFrom l e f fs th)
+  nexted [] e f fs a n o = leaves e a n o _
+  nexted (x ∷ []) e f fs a n o = leaves e a n o _
+  nexted (x ∷ y ∷ l) e f fs a n o = leaves e a n o _
+
+  backed : (fs : List Frame) (e : Effect) → Apt s e → ((y : ℕ) → NewMain e y → ⊥) → (tending p ≡ true → th .owner ≡ true → ⊥) → Turned s p th (backIn fs e th)
+  backed [] e a n o = leaves e a n o _
+  backed (f ∷ fs) e a n o = fork _ _ _ (nexted (f .backup) e f fs a n o) (leaves e a n o _)
+
+  returns : (e : Effect) → Apt s e → ((y : ℕ) → NewMain e y → ⊥) → (tending p ≡ true → th .owner ≡ true → ⊥) → Turned s p th (back e th)
+  unfolding back
+  returns e a n o = backed (th .frames) e a n o
+
   -- at another place
   module _ (away : tending p ≡ false) where
     out : tending p ≡ true → ⊥
@@ -88,6 +120,7 @@ module _ (s : Store) (p : Place) (th : Thread) where
     leaf Remove x = moves _
     leaf Split x = moves _
     leaf Join x = moves _
+    leaf Query x = tt
 
     reach : (x : ℕ) → Turned s p th (reached (sightOf s .nodes) th x)
     unfolding reached
@@ -99,6 +132,7 @@ module _ (s : Store) (p : Place) (th : Thread) where
     lose Remove = moves _
     lose Split = ends
     lose Join = ends
+    lose Query = tt
 
     link : (l : Link) → Turned s p th (joinUnder l th)
     link Nil = ends
@@ -110,6 +144,7 @@ module _ (s : Store) (p : Place) (th : Thread) where
     clear Remove = moves _
     clear Split = moves _
     clear Join = link (s .nodes (th .base) .parent)
+    clear Query = tt
 
     replace : (a : Action) (v : Spot) → Turned s p th (replacedAs a v (sightOf s .nodes (th .base)) (s .used) th)
     replace Lookup v = tt
@@ -117,6 +152,7 @@ module _ (s : Store) (p : Place) (th : Thread) where
     replace Remove v = fork _ _ _ (tt, λ y z. normal-main (z .0), λ z. absurd (out z)) tt
     replace Split v = fork _ _ _ (tt, λ y z. z, λ z. absurd (out z)) tt
     replace Join v = tt
+    replace Query v = tt
 
     by-own : (o : Probe) → Turned s p th (ownBy o (sightOf s .nodes (th .base)) (s .used) th)
     unfolding replaced lost
@@ -124,11 +160,15 @@ module _ (s : Store) (p : Place) (th : Thread) where
     by-own (Next q) = moves _
     by-own Miss = lose (th .action)
 
+    goes-back : (e : Effect) → Apt s e → ((y : ℕ) → NewMain e y → ⊥) → Turned s p th (back e th)
+    goes-back e a n = returns e a n (λ z _. out z)
+
     help : (c : Check) → Turned s p th (helpBy c th)
-    help Check.Replaceable = moves _
+    help Check.Replaceable = goes-back Quiet tt (λ y z. z)
     help (Check.Preparing m) = moves _
     help (Check.Completing m) = moves _
-    help Check.Stale = moves _
+    help Check.Stale = goes-back Quiet tt (λ y z. z)
+    help (Check.Unset l h k) = moves _
 
     block : (a : Action) (c : Check) → Turned s p th (blockedAs a c th)
     block Lookup c = ends
@@ -136,12 +176,62 @@ module _ (s : Store) (p : Place) (th : Thread) where
     block Remove c = help c
     block Split c = ends
     block Join c = ends
+    block Query c = tt
 
     hook : Turned s p th (hooked (sightOf s .nodes) (s .used) th)
     hook = fork _ _ _ (fork _ _ _ (tt, λ y z. record { place = refl; owner = refl; main = z .1 }, λ z. absurd (out z)) tt) (ends)
 
-    kill : Turned s p th (Moves (at p1 th) (Settle (th .main) Aborted))
-    kill = (refl, λ y z. absurd z, λ z. absurd (out z))
+    -- ---- 60 to 82
+
+    shows : (e : Effect) → Apt s e → ((y : ℕ) → NewMain e y → ⊥) → (th' : Thread) → Turned s p th (Moves th' e)
+    shows e a n th' = (a, λ y z. absurd (n y z), λ z. absurd (out z))
+
+    added : (e : Effect) (c : ℕ) (f : Frame) (fs : List Frame) → Apt s e → ((y : ℕ) → NewMain e y → ⊥) → Turned s p th (adding e c f fs th)
+    unfolding adding
+    added e c f fs a n = fork _ _ _ (shows e a n _) (nexted (f .stack) e _ fs a n (λ z _. out z))
+
+    first-found : (l : Link) (n : Node) (f : Frame) (fs : List Frame) → Turned s p th (foundFirst l n f fs th)
+    first-found Nil n f fs = moves _
+    first-found (To k) n f fs = fork _ _ _ (added Quiet _ _ fs tt (λ y z. z)) (moves _)
+
+    first-reached : (x : ℕ) (l : List ℕ) (f : Frame) (fs : List Frame) → Turned s p th (reachedFirst (sightOf s .nodes) x l f fs th)
+    unfolding reachedFirst
+    first-reached x l f fs = fork _ _ _ (moves _) (first-found (f .store) (sightOf s .nodes x) _ fs)
+
+    next-reached : (x : ℕ) (f : Frame) (fs : List Frame) → Turned s p th (reachedNext (sightOf s .nodes) x f fs th)
+    unfolding reachedNext
+    next-reached x f fs = fork _ _ _ (moves _) (moves _)
+
+    popped : (l : List ℕ) (f : Frame) (fs : List Frame) → Turned s p th (popOn l f fs th)
+    popped [] f fs = moves _
+    popped (x ∷ l) f fs = moves _
+
+    met : (v : Shared) (n : Node) (f : Frame) (fs : List Frame) → Turned s p th (metBy v n f fs th)
+    met Unset n f fs = fork _ _ _ (added Quiet _ f fs tt (λ y z. z)) (moves _)
+    met (Set c) n f fs = moves _
+
+    fills : (v : Shared) (f : Frame) → Turned s p th (filling v f th)
+    fills Unset f = shows (Fill (storeOf (f .store)) (f .done)) tt (λ y z. z) _
+    fills (Set c) f = moves _
+
+    read-out : (v : Shared) (fs : List Frame) → Turned s p th (readOut v fs th)
+    read-out Unset fs = tt
+    read-out (Set r) [] = fork _ _ _ out (moves _)
+    read-out (Set r) (f ∷ fs) = backed (f ∷ fs) Quiet tt (λ y z. z) (λ z _. out z)
+
+    by-opening : (o : Probe) (n : Node) (f : Frame) (fs : List Frame) → Turned s p th (openedBy o n (sightOf s) f fs th)
+    by-opening (Hit v) n f fs = fork _ _ _ (fork _ _ _ (added _ _ _ fs tt (λ y z. z)) tt) tt
+    by-opening (Next q) n f fs = moves _
+    by-opening Miss n f fs = moves _
+
+    by-next : (o : Probe) (n : Node) (f : Frame) (fs : List Frame) → Turned s p th (extendedBy o n (sightOf s) f fs th)
+    by-next (Hit v) n f fs = fork _ _ _ (added _ _ _ fs tt (λ y z. z)) tt
+    by-next (Next q) n f fs = moves _
+    by-next Miss n f fs = goes-back Quiet tt (λ y z. z)
+
+    in-frame : (fs : List Frame) (k : Frame → List Frame → Turn) → ((f : Frame) (gs : List Frame) → Turned s p th (k f gs)) → Turned s p th (inFrame fs k)
+    in-frame [] k h = tt
+    in-frame (f ∷ fs) k h = h f fs
 
   -- ---- 26 to 51
 
@@ -195,7 +285,7 @@ module _ (s : Store) (p : Place) (th : Thread) where
   settles v h = rw (eq-eqb (th .main) (th .main) refl) h
 
   end : (e : Effect) → Apt s e → ((y : ℕ) → NewMain e y → ⊥) → isOver (perform e s .nodes (th .main) .stage) ≡ true → Turned s p th (ended e th)
-  end e a n h = either _ _ _ (λ _. (a, n, λ _. h)) (λ o. (a, λ y z. absurd (n y z), λ _ i. absurd (false≢true (sym o ∙ i))))
+  end e a n h = either _ _ _ (λ _. (a, n, λ _. h)) (λ o. returns e a n (λ _ i. false≢true (sym o ∙ i)))
 
 -- every place
 pub turned : (s : Store) (th : Thread) (p : Place) → Turned s p th (step p (sightOf s) th)
@@ -203,10 +293,10 @@ unfolding step beside cleared blocked
 turned s th nowhere = moves s nowhere th refl th
 turned s th p1 = reach s p1 th refl (s .root)
 turned s th p2 = reach s p2 th refl (childFor (th .station) (sightOf s .nodes (th .route)))
-turned s th p3 = fork s p3 th _ _ _ (ends s p3 th refl) (fork s p3 th _ _ _ (clear s p3 th refl (th .action)) (block s p3 th refl (th .action) (check (sightOf s .nodes) (th .base))))
+turned s th p3 = fork s p3 th _ _ _ (ends s p3 th refl) (fork s p3 th _ _ _ (clear s p3 th refl (th .action)) (block s p3 th refl (th .action) (check (sightOf s .nodes) (s .stores) (th .base))))
 turned s th (swap own q) = by-own s (swap own q) th (own-away q) (probe q (s .nodes (th .base) .parent) (sightOf s .nodes) (s .root) (th .base))
-turned s th p15 = help s p15 th refl (check (sightOf s .nodes) (th .base))
-turned s th p16 = fork s p16 th _ _ _ (kill s p16 th refl) (moves s p16 th refl _)
+turned s th p15 = help s p15 th refl (check (sightOf s .nodes) (s .stores) (th .base))
+turned s th p16 = fork s p16 th _ _ _ (goes-back s p16 th refl (Settle (th .main) Aborted) refl (λ y z. z)) (goes-back s p16 th refl Quiet tt (λ y z. z))
 turned s th p20 = fork s p20 th _ _ _ (moves s p20 th refl _) (moves s p20 th refl _)
 turned s th p21 = fork s p21 th _ _ _ (moves s p21 th refl _) (ends s p21 th refl)
 turned s th p22 = fork s p22 th _ _ _ (moves s p22 th refl _) (moves s p22 th refl _)
@@ -234,3 +324,18 @@ turned s th p48 = at-48 s p48 th (s .nodes (th .main) .grandparent) (sightOf s .
 turned s th p49 = at-47 s p49 th false (s .nodes (th .main) .grandparent) (sightOf s .nodes (th .main))
 turned s th p50 = at-50 s p50 th (s .nodes (th .main) .grandparent)
 turned s th p51 = end s p51 th (Settle (th .main) Done) refl (λ y z. z) (settles s p51 th Done refl)
+turned s th p60 = in-frame s p60 th refl (th .frames) _ (λ f fs. first-reached s p60 th refl (s .root) [] f fs)
+turned s th p61 = in-frame s p61 th refl (th .frames) _ (λ f fs. first-reached s p61 th refl _ (f .stack) f fs)
+turned s th p62 = in-frame s p62 th refl (th .frames) _ (λ f fs. fork s p62 th _ _ _ (moves s p62 th refl _) (fork s p62 th _ _ _ (moves s p62 th refl _) (moves s p62 th refl _)))
+turned s th (swap opening q) = in-frame s (swap opening q) th (opening-away q) (th .frames) _
+    (λ f fs. by-opening s (swap opening q) th (opening-away q) (probe q (s .nodes (f .base) .parent) (sightOf s .nodes) (s .root) (f .base)) (sightOf s .nodes (f .base)) f fs)
+turned s th p70 = in-frame s p70 th refl (th .frames) _ (λ f fs. fork s p70 th _ _ _ (moves s p70 th refl _) (moves s p70 th refl _))
+turned s th p71 = in-frame s p71 th refl (th .frames) _ (λ f fs. next-reached s p71 th refl _ f fs)
+turned s th p72 = in-frame s p72 th refl (th .frames) _ (λ f fs. fork s p72 th _ _ _ (moves s p72 th refl _) (popped s p72 th refl (tailOf (f .stack)) f fs))
+turned s th p73 = in-frame s p73 th refl (th .frames) _ (λ f fs. next-reached s p73 th refl _ f fs)
+turned s th p74 = in-frame s p74 th refl (th .frames) _ (λ f fs. met s p74 th refl (s .stores (storeOf (f .store))) (sightOf s .nodes (f .base)) f fs)
+turned s th p76 = in-frame s p76 th refl (th .frames) _ (λ f fs. fork s p76 th _ _ _ (moves s p76 th refl _) (moves s p76 th refl _))
+turned s th (swap next q) = in-frame s (swap next q) th (next-away q) (th .frames) _
+    (λ f fs. by-next s (swap next q) th (next-away q) (probe q (s .nodes (f .base) .parent) (sightOf s .nodes) (s .root) (f .base)) (sightOf s .nodes (f .base)) f fs)
+turned s th p81 = in-frame s p81 th refl (th .frames) _ (λ f fs. fills s p81 th refl (s .stores (storeOf (f .store))) f)
+turned s th p82 = in-frame s p82 th refl (th .frames) _ (λ f fs. read-out s p82 th refl (s .stores (storeOf (f .store))) fs)

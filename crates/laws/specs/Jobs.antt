@@ -8,7 +8,7 @@ use Rattle.definitions.specs.Bench.{Bench, fresh}
 use Rattle.definitions.specs.Records.{Row, noRow, row, carried, isIdle, depthRefusal, recordStep, actionNumber}
 use Rattle.definitions.specs.Schedule.{Rec}
 use Rattle.definitions.specs.declared.Action.{Action}
-use Rattle.definitions.specs.declared.Action.the-variants.{Lookup, Insert, Remove, Split, Join}
+use Rattle.definitions.specs.declared.Action.the-variants.{Lookup, Insert, Remove, Split, Join, Query}
 use Rattle.definitions.specs.declared.Answer.{Answer}
 
 -- ---- states
@@ -16,7 +16,7 @@ use Rattle.definitions.specs.declared.Answer.{Answer}
 -- a "reachable state": the fresh bench, or what a record that is not refused makes of a reachable one. A record of version 1 has depth 0
 pub data Reachable : Bench → Type 0 where
   begins : {b : Bench} → b ≡ fresh → Reachable b
-  past : {b : Bench} (c : Bench) (r : Rec) (w : Row) → Reachable c → recordStep c (r .first) (r .second) (r .extra) ≡ carried b w → Reachable b
+  past : {b : Bench} (c : Bench) (r : Rec) (w : Row) → Reachable c → recordStep c (r .last) (r .first) (r .second) (r .extra) ≡ carried b w → Reachable b
 
 -- "with all threads idle"
 abbrev pub AllIdle : Bench → Type 0
@@ -41,15 +41,19 @@ pub record Proper (j : Job) : Type 0 where
   pub station : j .station < 64
   pub depth : depthRefusal (j .action) (j .depth) ≡ 0
 
+-- the records of a job have the actions 0, 2 and 3: whether the last action of the version is 5 or 6 is of no account (`EveryVersion`)
+abbrev pub last : ℕ
+last = 5
+
 -- n steps of thread t and of no other, the last of them its row with the answer a: from bench b to b'
 abbrev pub Steps : ℕ → ℕ → Bench → Answer → Bench → Type 0
 Steps t zero b a b' = ⊥
-Steps t (suc zero) b a b' = recordStep b (16 * t) 0 0 ≡ carried b' (row a 0 0)
-Steps t (suc (suc n)) b a b' = (c : Bench) × (recordStep b (16 * t) 0 0 ≡ carried c noRow) × Steps t (suc n) c a b'
+Steps t (suc zero) b a b' = recordStep b last (16 * t) 0 0 ≡ carried b' (row a 0 0)
+Steps t (suc (suc n)) b a b' = (c : Bench) × (recordStep b last (16 * t) 0 0 ≡ carried c noRow) × Steps t (suc n) c a b'
 
 -- "run alone": the start record, then n steps of that thread and of no other, to its row
 abbrev pub Alone : Job → ℕ → Bench → Answer → Bench → Type 0
-Alone j n b a b' = (c : Bench) × (recordStep b (16 * j .thread + actionNumber (j .action)) (j .station) (j .depth) ≡ carried c noRow) × Steps (j .thread) n c a b'
+Alone j n b a b' = (c : Bench) × (recordStep b last (16 * j .thread + actionNumber (j .action)) (j .station) (j .depth) ≡ carried c noRow) × Steps (j .thread) n c a b'
 
 -- "Insert says yes if the station was absent, remove if it was present"; had: it was in
 abbrev pub answerTo : Action → Bool → Bool
@@ -58,6 +62,7 @@ answerTo Insert had = not had
 answerTo Remove had = had
 answerTo Split had = had
 answerTo Join had = had
+answerTo Query had = had
 
 -- ---- "a list of station jobs"
 

@@ -1,6 +1,6 @@
 -- Request m, "Laws for reordering work": each law, and all of them (`ReorderLaws`). Versions differ only in whether their records carry
--- depths, so a law of every reachable state is a law of every version. The words are in Jobs.antt.
-use Prim.Native.Nat.{ℕ, suc, _+_, _<_, _≤_}
+-- depths and range queries, so a law of every reachable state is a law of every version. The words are in Jobs.antt.
+use Prim.Native.Nat.{ℕ, suc, _+_, _%_, _<_, _≤_}
 use mathlib.Core.Path.{_≡_}
 use mathlib.Core.Logic.{_≢_}
 use mathlib.Core.Bool.{true}
@@ -9,6 +9,7 @@ use lib.ListN.{length}
 use Rattle.container.specs.Depths.{Container, isIn, find, merge, lower, upper}
 use Rattle.definitions.specs.Nodes.{replaceable}
 use Rattle.definitions.specs.Bench.{Bench, sightOf}
+use Rattle.definitions.specs.Records.{recordStep}
 use Rattle.definitions.specs.Tree.{treeHeld, treeSet}
 use Rattle.definitions.specs.Run.{after}
 use Rattle.definitions.specs.Answers.{said}
@@ -16,7 +17,7 @@ use Rattle.definitions.specs.Plain.{settled}
 use Rattle.definitions.specs.declared.Kind.the-variants.{Route}
 use Rattle.definitions.specs.declared.Answer.{Answer}
 use Rattle.answers.specs.Reachable.{Reached}
-use Rattle.laws.specs.Jobs.{Reachable, AllIdle, Job, Proper, Alone, answerTo, Runs, Apart, Reordered}
+use Rattle.laws.specs.Jobs.{last, Reachable, AllIdle, Job, Proper, Alone, answerTo, Runs, Apart, Reordered}
 
 -- ---- containers
 
@@ -34,10 +35,14 @@ GroupsJoin = (a b c : Container) → merge (merge a b) c ≡ merge a (merge b c)
 abbrev pub RunsReach : Type 0
 RunsReach = (file : List ℕ) (k : ℕ) → Reachable (after file k .bench)
 
--- "with all threads idle no reachable base waits for help": each is replaceable
+-- "with all threads idle no reachable base waits for help": each is replaceable, a range base too: its result is set
 abbrev pub NoneWaits : Type 0
 NoneWaits = (b : Bench) → Reachable b → AllIdle b → (d x lo hi : ℕ) → Reached (b .store .nodes) (b .store .root) d x lo hi
-    → b .store .nodes x .kind ≢ Route → replaceable (sightOf (b .store) .nodes) x ≡ true
+    → b .store .nodes x .kind ≢ Route → replaceable (sightOf (b .store) .nodes) (b .store .stores) x ≡ true
+
+-- a record whose action is at most 5 is carried out alike by every version
+abbrev pub EveryVersion : Type 0
+EveryVersion = (b : Bench) (l x y d : ℕ) → last ≤ l → x % 16 ≤ last → recordStep b l x y d ≡ recordStep b last x y d
 
 -- ---- a job run alone
 
@@ -97,6 +102,7 @@ pub record ReorderLaws : Type 0 where
   pub groups-join : GroupsJoin
   pub runs-reach : RunsReach
   pub none-waits : NoneWaits
+  pub every-version : EveryVersion
   pub updates-end : UpdatesEnd
   pub one-end : OneEnd
   pub either-order : EitherOrder

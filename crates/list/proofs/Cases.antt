@@ -13,7 +13,7 @@ use Rattle.buffer.specs.Page.{Page, page, putAll}
 use Rattle.buffer.proofs.Laws.{put-fits}
 use Rattle.answers.proofs.Reach.{reach-fits}
 use Rattle.depths.specs.Rows.{rows, full}
-use Rattle.definitions.specs.Nodes.{Shapes}
+use Rattle.definitions.specs.Nodes.{Shapes, Stores}
 use Rattle.definitions.specs.Bench.{Bench}
 use Rattle.definitions.specs.Tree.{heldBelow}
 use Rattle.definitions.specs.Versions.{version, textRoom}
@@ -62,8 +62,8 @@ has-text-room file room e z = least (eqb (version file) 1) (has-room (fileRefusa
     least false l = omega arith
 
 -- ---- all records carried out over the depths l, and the text of version v written
-module _ (file text : List ℕ) {t : Shapes} {l : List ℕ} {s : Standing} {first buffer : List ℕ} {v at : ℕ} {text' : List ℕ} (i : v ≡ version file)
-    (whole : (version file ≡ 1 → ⊥) → length l ≡ 16384) (room : 4096 ≤ length text) (h : Carried file (countOf file) t l s first buffer)
+module _ (file text : List ℕ) {t : Shapes} {l : List ℕ} {k : Stores} {s : Standing} {first buffer : List ℕ} {v at : ℕ} {text' : List ℕ} (i : v ≡ version file)
+    (whole : (version file ≡ 1 → ⊥) → length l ≡ 16384) (room : 4096 ≤ length text) (h : Carried file (countOf file) t l k s first buffer)
     (w : page text' at ≡ putAll (page text 0) (subtreeText (headed v) 63 (full t (rows l)) (s .root) ++ setLine (headed v) (heldBelow 63 (full t (rows l)) (s .root) all))) where
   text-at : page text' at ≡ page (overlay (listing file (ended file .bench)) text) (length (listing file (ended file .bench)))
   text-at =

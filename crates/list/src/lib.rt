@@ -5,7 +5,7 @@ ghost use lib.Dec.{eqb};
 ghost use lib.ListN.{length};
 ghost use Rattle.container.specs.Choice.{ite};
 ghost use Rattle.schedule.specs.Proper.{Proper};
-ghost use Rattle.run.specs.Standing.{Lent};
+ghost use Rattle.run.specs.Standing.{Lent, Spare};
 ghost use Rattle.definitions.specs.Run.{ended, overlay};
 ghost use Rattle.definitions.specs.Listing.{listing, listedAt, listRefusal, listReport, listBuffer};
 use definitions::Listed;
@@ -32,16 +32,38 @@ pub fn refusal_of(schedule: &[u8], room: usize) -> u64
     wrong
 }
 
-// List of a file that is not refused, over the depths that are lent.
-fn report(depths: &mut [u16], schedule: &[u8], text: &mut [u8]) -> Listed
-    requires { ⌜ Proper (now schedule) × (Lent (now schedule) (now depths) × (4096 ≤ length (now text))) ⌝ }
+// List of a file that is not refused, over the memory that is lent.
+fn report(
+    depths: &mut [u16],
+    results: &mut [u64],
+    stacks: &mut [[u8; 1408]],
+    backups: &mut [[u8; 1408]],
+    notes: &mut [[u8; 128]],
+    words: &mut [[u64; 64]],
+    schedule: &[u8],
+    text: &mut [u8],
+) -> Listed
+    requires { ⌜ Proper (now schedule) × (Lent (now schedule) (now depths) × (Spare (now schedule) (now results) (now stacks) (now backups) (now notes) (now words) × (4096 ≤ length (now text)))) ⌝ }
     ensures { λ r. ⌜ (r ≡ listedAt (now (schedule .entry)) (ended (now (schedule .entry)))) × (now (text .exit) ≡ overlay (listing (now (schedule .entry)) (ended (now (schedule .entry)) .bench)) (now (text .entry))) ⌝ }
 {
-    let mut cells = [0u8; 4096];
+    let mut cells = [0u8; 5120];
     let mut sets = [0u64; 256];
+    let mut flags = [0u8; 256];
     let mut none = [0u8; 1];
     let version = schedule[0];
-    let p = run::carry_out(&mut cells, &mut sets, depths, schedule, &mut none[..0]);
+    let p = run::carry_out(
+        &mut cells,
+        &mut sets,
+        depths,
+        &mut flags,
+        results,
+        stacks,
+        backups,
+        notes,
+        words,
+        schedule,
+        &mut none[..0],
+    );
     let at = listing::write_tree(&cells, &sets, depths, version, p.root, text);
     Listed {
         refusal: p.refusal as u64,
@@ -49,7 +71,7 @@ fn report(depths: &mut [u16], schedule: &[u8], text: &mut [u8]) -> Listed
     }
 }
 
-// List: the report, and the text in the buffer. Version 1 has no use for depths.
+// List: the report, and the text in the buffer. Version 1 has no use for depths, nor for a query's memory.
 pub fn list(schedule: &[u8], text: &mut [u8]) -> Listed
     ensures { λ r. ⌜ (r ≡ listReport (now (schedule .entry)) (length (now (text .entry)))) × (now (text .exit) ≡ listBuffer (now (schedule .entry)) (now (text .entry))) ⌝ }
 {
@@ -57,11 +79,39 @@ pub fn list(schedule: &[u8], text: &mut [u8]) -> Listed
     let bad = refusal_of(schedule, room);
     if bad == 0 {
         if schedule[0] == 1 {
-            let mut none = [0u16; 1];
-            return report(&mut none[..0], schedule, text);
+            let mut depths = [0u16; 0];
+            let mut results = [0u64; 0];
+            let mut stacks = [[0u8; 1408]; 0];
+            let mut backups = [[0u8; 1408]; 0];
+            let mut notes = [[0u8; 128]; 0];
+            let mut words = [[0u64; 64]; 0];
+            return report(
+                &mut depths[..],
+                &mut results[..],
+                &mut stacks[..],
+                &mut backups[..],
+                &mut notes[..],
+                &mut words[..],
+                schedule,
+                text,
+            );
         }
         let mut depths = [0u16; 16384];
-        return report(&mut depths[..], schedule, text);
+        let mut results = [0u64; 256];
+        let mut stacks = [[0u8; 1408]; 1];
+        let mut backups = [[0u8; 1408]; 1];
+        let mut notes = [[0u8; 128]; 1];
+        let mut words = [[0u64; 64]; 1];
+        return report(
+            &mut depths[..],
+            &mut results[..],
+            &mut stacks[..],
+            &mut backups[..],
+            &mut notes[..],
+            &mut words[..],
+            schedule,
+            text,
+        );
     }
     Listed {
         refusal: bad,

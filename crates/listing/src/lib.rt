@@ -31,6 +31,10 @@ pub fn put_kind(out: &mut [u8], at: usize, kind: Kind) -> usize
             let last = buffer::put_four(out, next, b'h', b'b', b'o', b'u');
             buffer::put_byte(out, last, b'r')
         }
+        Kind::Range => {
+            let next = buffer::put_four(out, at, b'r', b'a', b'n', b'g');
+            buffer::put_byte(out, next, b'e')
+        }
     }
 }
 
@@ -46,7 +50,7 @@ pub fn put_number(out: &mut [u8], at: usize, n: u8) -> usize
 
 // Station s, if c has it.
 pub fn put_station(
-    cells: &[u8; 4096],
+    cells: &[u8; 5120],
     sets: &[u64; 256],
     depths: &[u16],
     version: u8,
@@ -73,7 +77,7 @@ pub fn put_station(
 
 // The stations of c, or a dash.
 pub fn put_stations(
-    cells: &[u8; 4096],
+    cells: &[u8; 5120],
     sets: &[u64; 256],
     depths: &[u16],
     version: u8,
@@ -122,7 +126,7 @@ pub fn put_route(out: &mut [u8], at: usize, n: Node, levels: u8) -> usize
 
 // The line of base x: its stations have their depths there, no step down.
 pub fn put_base(
-    cells: &[u8; 4096],
+    cells: &[u8; 5120],
     sets: &[u64; 256],
     depths: &[u16],
     version: u8,
@@ -143,7 +147,7 @@ pub fn put_base(
 
 // The line of the set c: its stations have the depths of the bases that they lead to.
 pub fn put_set(
-    cells: &[u8; 4096],
+    cells: &[u8; 5120],
     sets: &[u64; 256],
     depths: &[u16],
     version: u8,
@@ -164,7 +168,7 @@ pub fn put_set(
 
 // The lines of node x and what is below it.
 pub fn subtree(
-    cells: &[u8; 4096],
+    cells: &[u8; 5120],
     sets: &[u64; 256],
     depths: &[u16],
     version: u8,
@@ -189,7 +193,7 @@ pub fn subtree(
 
 // The lines of route n and of both its subtrees.
 pub fn route_walk(
-    cells: &[u8; 4096],
+    cells: &[u8; 5120],
     sets: &[u64; 256],
     depths: &[u16],
     version: u8,
@@ -208,7 +212,7 @@ pub fn route_walk(
 
 // The whole text below the root.
 pub fn write_tree(
-    cells: &[u8; 4096],
+    cells: &[u8; 5120],
     sets: &[u64; 256],
     depths: &[u16],
     version: u8,

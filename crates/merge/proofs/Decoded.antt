@@ -18,10 +18,10 @@ use Rattle.merge.proofs.Sorted.{turns-append, kept-append}
 pub pairs : List ℕ → List Rec
 pairs [] = []
 pairs (x ∷ []) = []
-pairs (x ∷ y ∷ l) = record { first = x; second = y; extra = 0 } ∷ pairs l
+pairs (x ∷ y ∷ l) = record { last = 5; first = x; second = y; extra = 0 } ∷ pairs l
 
 abbrev recordOf : List ℕ → ℕ → Rec
-recordOf file k = record { first = firstByte file k; second = secondByte file k; extra = 0 }
+recordOf file k = record { last = 5; first = firstByte file k; second = secondByte file k; extra = 0 }
 
 -- the first k records of a version 1 file
 unfoldable pub plainOf : List ℕ → ℕ → List Rec
@@ -40,7 +40,7 @@ records-length file (suc k) = length-append (plainOf file k) _ ∙ rw (records-l
 
 -- ---- from record k on
 
-two : (x y : ℕ) (rest : List ℕ) → pairs (x ∷ y ∷ rest) ≡ record { first = x; second = y; extra = 0 } ∷ pairs rest
+two : (x y : ℕ) (rest : List ℕ) → pairs (x ∷ y ∷ rest) ≡ record { last = 5; first = x; second = y; extra = 0 } ∷ pairs rest
 unfolding pairs
 two x y rest = refl
 

@@ -10,16 +10,15 @@ use lib.Dec.{eqb, ltb}
 use lib.ListN.{getD}
 use Rattle.container.specs.Choice.{ite}
 use Rattle.definitions.specs.Bench.{Bench, sightOf}
+use Rattle.definitions.specs.Threads.{Turn, Moves, Finishes, Finds, Full, NoStore}
 use Rattle.definitions.specs.Places.{placeOf}
 use Rattle.definitions.specs.Steps.{step}
-use Rattle.definitions.specs.Records.{Result, refused, carried, taken, isIdle, stepped, depthRefusal, started, acted, recordStep}
+use Rattle.definitions.specs.Records.{Result, refused, carried, taken, isIdle, stepped, depthRefusal, started, asked, acted, recordStep}
 use Rattle.definitions.specs.Schedule.{Rec, countOf, recordAt, fileRefusal}
 use Rattle.definitions.specs.Versions.{rowRoom}
 use Rattle.definitions.specs.Run.{Progress, advanceBy, advance, after, ended, reportOf, refusedReport, runRefusal, runReport}
 use Rattle.definitions.specs.declared.Action.{Action}
-use Rattle.definitions.specs.declared.Action.the-variants.{Lookup, Insert, Remove, Split, Join}
-use Rattle.definitions.specs.declared.Turn.{Turn}
-use Rattle.definitions.specs.declared.Turn.the-variants.{Moves, Finishes, Full}
+use Rattle.definitions.specs.declared.Action.the-variants.{Lookup, Insert, Remove, Split, Join, Query}
 
 -- ---- a record's refusal
 
@@ -37,7 +36,9 @@ late-taken : (b : Bench) (t : ℕ) (o : Turn) → Late (taken b t o)
 unfolding taken
 late-taken b t (Moves th e) = tt
 late-taken b t (Finishes e a) = tt
+late-taken b t (Finds c) = tt
 late-taken b t Full = omega arith
+late-taken b t NoStore = omega arith
 
 late-stepped : (b : Bench) (t y d : ℕ) → Late (stepped b t y d)
 unfolding stepped
@@ -63,6 +64,7 @@ fine-depth Insert d = fine-or (ltb 9999 d) 14 0 (inr (omega arith)) (inl refl)
 fine-depth Remove d = fine-or (eqb d 0) 0 10 (inl refl) (inr (omega arith))
 fine-depth Split d = fine-or (eqb d 0) 0 10 (inl refl) (inr (omega arith))
 fine-depth Join d = fine-or (eqb d 0) 0 10 (inl refl) (inr (omega arith))
+fine-depth Query d = fine-or (eqb d 0) 0 10 (inl refl) (inr (omega arith))
 
 late-after : (k : ℕ) (r : Result) → Fine k → Late r → Late (ite (eqb k 0) r (refused k))
 unfolding ite
@@ -73,6 +75,12 @@ late-started : (b : Bench) (t : ℕ) (a : Action) (y d : ℕ) → Late (started 
 unfolding started
 late-started b t a y d = late-or (ltb 63 y) _ _ (omega arith) (late-after (depthRefusal a d) _ (fine-depth a d) (late-or (isIdle (b .threads t)) _ _ tt (omega arith)))
 
+late-asked : (b : Bench) (t y z : ℕ) → Late (asked b t y z)
+unfolding asked
+late-asked b t y z =
+    late-or (ltb 63 y) _ _ (omega arith)
+    (late-or (ltb 63 z) _ _ (omega arith) (late-or (ltb z y) _ _ (omega arith) (late-or (isIdle (b .threads t)) _ _ tt (omega arith))))
+
 late-acted : (n : ℕ) (b : Bench) (t y d : ℕ) → Late (acted n b t y d)
 late-acted zero b t y d = late-stepped b t y d
 late-acted (suc zero) b t y d = late-started b t _ y d
@@ -80,11 +88,12 @@ late-acted (suc (suc zero)) b t y d = late-started b t _ y d
 late-acted (suc (suc (suc zero))) b t y d = late-started b t _ y d
 late-acted (suc (suc (suc (suc zero)))) b t y d = late-started b t _ y d
 late-acted (suc (suc (suc (suc (suc zero))))) b t y d = late-started b t _ y d
-late-acted (suc (suc (suc (suc (suc (suc n)))))) b t y d = omega arith
+late-acted (suc (suc (suc (suc (suc (suc zero)))))) b t y d = late-asked b t y d
+late-acted (suc (suc (suc (suc (suc (suc (suc n))))))) b t y d = omega arith
 
-late-record : (b : Bench) (x y d : ℕ) → Late (recordStep b x y d)
+late-record : (b : Bench) (l x y d : ℕ) → Late (recordStep b l x y d)
 unfolding recordStep
-late-record b x y d = late-or (ltb 3 (x / 16)) _ _ (omega arith) (late-acted (x % 16) b (x / 16) y d)
+late-record b l x y d = late-or (ltb 3 (x / 16)) _ _ (omega arith) (late-or (ltb l (x % 16)) _ _ (omega arith) (late-acted (x % 16) b (x / 16) y d))
 
 -- ---- a run's refusal
 
@@ -97,10 +106,10 @@ unfolding advance ite
 fine-advance file p r h = by (eqb (p .refusal) 0)
   where
     now : Result
-    now = recordStep (p .bench) (r .first) (r .second) (r .extra)
+    now = recordStep (p .bench) (r .last) (r .first) (r .second) (r .extra)
 
     by : (t : Bool) → Fine (ite t (advanceBy file p (r .first / 16) now) p .refusal)
-    by true = fine-by file p (r .first / 16) now (late-record (p .bench) (r .first) (r .second) (r .extra))
+    by true = fine-by file p (r .first / 16) now (late-record (p .bench) (r .last) (r .first) (r .second) (r .extra))
     by false = h
 
 fine-after : (file : List ℕ) (k : ℕ) → Fine (after file k .refusal)

@@ -11,7 +11,7 @@ use Rattle.container.specs.Choice.{ite, upd}
 use Rattle.definitions.specs.declared.Link.{Link}
 use Rattle.definitions.specs.declared.Link.the-variants.{Nil, To}
 use Rattle.definitions.specs.declared.Action.{Action}
-use Rattle.definitions.specs.declared.Action.the-variants.{Lookup, Insert, Remove, Split, Join}
+use Rattle.definitions.specs.declared.Action.the-variants.{Lookup, Insert, Remove, Split, Join, Query}
 use Rattle.definitions.specs.Bench.{Bench, fresh}
 use Rattle.definitions.specs.Records.{Row, noRow, row, Result, refused, carried, recordStep, isIdle, actionNumber}
 use Rattle.definitions.specs.Answers.{said}
@@ -39,6 +39,7 @@ number-low Insert = omega arith
 number-low Remove = omega arith
 number-low Split = omega arith
 number-low Join = omega arith
+number-low Query = omega arith
 
 -- the answer of a lookup, an insert or a remove
 mark-low : (a : Answer) (v : Bool) → a ≡ said v → finishMark a < 3
@@ -65,6 +66,7 @@ carried-start Insert t y P = refl
 carried-start Remove t y P = refl
 carried-start Split t y P = refl
 carried-start Join t y P = refl
+carried-start Query t y P = refl
 
 first-start : (a : Action) (t k : ℕ) (f : ℕ → Link) → firstSteps (actionNumber a) t k f ≡ upd f t Nil
 first-start Lookup t k f = refl
@@ -72,6 +74,7 @@ first-start Insert t k f = refl
 first-start Remove t k f = refl
 first-start Split t k f = refl
 first-start Join t k f = refl
+first-start Query t k f = refl
 
 abbrev startEvent : Rec → Action → Event
 startEvent r a = record { thread = r .first / 16; action = actionNumber a; station = r .second; mark = 0 }
@@ -85,6 +88,7 @@ event-start Insert b r = refl
 event-start Remove b r = refl
 event-start Split b r = refl
 event-start Join b r = refl
+event-start Query b r = refl
 
 module _ (H : Hist) (r : Rec) (rs : List Rec) (b b' : Bench) (P : Plain) (f : ℕ → Link) (k : ℕ) (R : Reading) (z : Standing H (r ∷ rs) b P f k) (l : Linked b P R) (tidy : Tidy R) (small : r .first / 16 < 4) where
   abbrev Onward : Type 0
@@ -193,11 +197,12 @@ module _ (H : Hist) (r : Rec) (rs : List Rec) (b b' : Bench) (P : Plain) (f : �
       by Remove q y = update Remove (P .set st) q (ap actionOf (action-is Remove q)) (y .0) (sym (set-now st))
       by Split q y = absurd (omega (arith, three .0, ap actionNumber q))
       by Join q y = absurd (omega (arith, three .0, ap actionNumber q))
+      by Query q y = absurd (omega (arith, three .0, ap actionNumber q))
 
 pub pass : (H : Hist) (rs : List Rec) (b : Bench) (P : Plain) (f : ℕ → Link) (k : ℕ) (R : Reading) → Standing H rs b P f k → Linked b P R → Tidy R
     → OnlyThree (eventsFrom rs b) → AllFinished (endFrom rs b) → Passed H (eventsFrom rs b) R f k
 pass H [] b P f k R z l tidy o fin = stops H b P R f k l tidy fin
-pass H (r ∷ rs) b P f k R z l tidy o fin = go (recordStep b (r .first) (r .second) (r .extra)) (next H r rs b P f k z) (did b (r .first) (r .second) (r .extra)) o fin (λ b' P' f' R'. pass H rs b' P' f' (suc k) R')
+pass H (r ∷ rs) b P f k R z l tidy o fin = go (recordStep b (r .last) (r .first) (r .second) (r .extra)) (next H r rs b P f k z) (did b (r .last) (r .first) (r .second) (r .extra)) o fin (λ b' P' f' R'. pass H rs b' P' f' (suc k) R')
   where
     go : (res : Result) → Next H r rs b P (firsts r k f) k res → Did b (r .first / 16) (r .second) (r .first % 16) res
         → OnlyThree (eventsBy res b r (λ b'. eventsFrom rs b')) → AllFinished (endBy res b (λ b'. endFrom rs b'))

@@ -9,8 +9,8 @@ use Rattle.container.specs.Choice.{upd}
 use Rattle.definitions.specs.declared.Link.{Link}
 use Rattle.definitions.specs.declared.Link.the-variants.{Nil, To}
 use Rattle.definitions.specs.declared.Action.{Action}
-use Rattle.definitions.specs.declared.Thread.{Thread}
-use Rattle.definitions.specs.Bench.{Bench, begun as newThread, idle, fresh}
+use Rattle.definitions.specs.Threads.{Thread}
+use Rattle.definitions.specs.Bench.{Bench, fresh}
 use Rattle.definitions.specs.Records.{isIdle, actionNumber}
 use Rattle.definitions.specs.PlainSet as plain
 use Rattle.definitions.specs.PlainSet.{Plain, doing, empty, finish, start}
@@ -61,7 +61,8 @@ frame g h (works i a b c d e s) = works i a b (h i b .0 ∙ c) (h i b .1 ∙ d) 
 module _ (b b' : Bench) (P : Plain) (R : Reading) (l : Linked b P R) (tidy : Tidy R) where
   pub linked-start : (e : Event) (y n : ℕ) (s : Started b (e .thread) y n b') → e .action ≡ n → e .station ≡ y → Linked b' (start (e .thread) (s .what) y P) (begun e R)
   linked-start e y n s ea es v = rw (s .threads) (elim (v ==? e .thread) [
-    | yes q ↦ rw (eq-eqb v (e .thread) q) (works (R .all .count) refl refl (rw (eq-eqb (R .all .count) (R .all .count) refl) (ea ∙ s .number)) (rw (eq-eqb (R .all .count) (R .all .count) refl) es) refl (s .low))
+    | yes q ↦ rw (eq-eqb v (e .thread) q) (works (R .all .count) (s .busy) refl (rw (eq-eqb (R .all .count) (R .all .count) refl) (ea ∙ s .number ∙ ap actionNumber (sym (s .action))))
+        (rw (eq-eqb (R .all .count) (R .all .count) refl) (es ∙ sym (s .station))) (λ i. doing (sym (s .action) i) (sym (s .station) i)) (rw (s .station) (s .low)))
     | no q ↦ rw (ne-eqb v (e .thread) q) (frame (begun e R .all .operation) (λ i z. rw (ne-eqb i (R .all .count) (λ w. omega (arith, tidy .low v i z))) (refl, refl)) (l v))
   ])
 

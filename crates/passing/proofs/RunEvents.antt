@@ -16,20 +16,20 @@ use Rattle.passing.proofs.RunRows.{walk, walk-is, advance-on, stuck}
 
 -- the events that record r adds where a run stands at p
 abbrev pub added : Progress → Rec → List Event
-added p r = ite (eqb (p .refusal) 0) (eventsBy (recordStep (p .bench) (r .first) (r .second) (r .extra)) (p .bench) r (λ _. [])) []
+added p r = ite (eqb (p .refusal) 0) (eventsBy (recordStep (p .bench) (r .last) (r .first) (r .second) (r .extra)) (p .bench) r (λ _. [])) []
 
 pub added-none : (p : Progress) (r : Rec) → (p .refusal ≡ 0 → ⊥) → added p r ≡ []
 unfolding ite
 added-none p r h = rw (ne-eqb (p .refusal) 0 h)
 
-pub added-by : (p : Progress) (r : Rec) {res : Result} → p .refusal ≡ 0 → recordStep (p .bench) (r .first) (r .second) (r .extra) ≡ res → added p r ≡ eventsBy res (p .bench) r (λ _. [])
+pub added-by : (p : Progress) (r : Rec) {res : Result} → p .refusal ≡ 0 → recordStep (p .bench) (r .last) (r .first) (r .second) (r .extra) ≡ res → added p r ≡ eventsBy res (p .bench) r (λ _. [])
 unfolding ite
 added-by p r e q = rw (eq-eqb (p .refusal) 0 e, q)
 
 snoc : (file : List ℕ) (rs : List Rec) (r : Rec) (p : Progress) → p .refusal ≡ 0 → eventsFrom (rs ++ r ∷ []) (p .bench) ≡ eventsFrom rs (p .bench) ++ added (walk file rs p) r
 unfolding walk
 snoc file [] r p e = sym (added-by p r e refl)
-snoc file (q ∷ rs) r p e = go (recordStep (p .bench) (q .first) (q .second) (q .extra)) (did (p .bench) (q .first) (q .second) (q .extra)) (advance-on file p q e) (λ p'. snoc file rs r p')
+snoc file (q ∷ rs) r p e = go (recordStep (p .bench) (q .last) (q .first) (q .second) (q .extra)) (did (p .bench) (q .last) (q .first) (q .second) (q .extra)) (advance-on file p q e) (λ p'. snoc file rs r p')
   where
     go : (res : Result) → Did (p .bench) (q .first / 16) (q .second) (q .first % 16) res → advance file p q ≡ advanceBy file p (q .first / 16) res
         → ((p' : Progress) → p' .refusal ≡ 0 → eventsFrom (rs ++ r ∷ []) (p' .bench) ≡ eventsFrom rs (p' .bench) ++ added (walk file rs p') r)

@@ -33,7 +33,7 @@ unfolding after recordsOf walk
 walk-is file zero = refl
 walk-is file (suc k) = ap (λ p. advance file p (recordAt file k)) (walk-is file k) ∙ sym (walk-last file (recordsOf file k) _ begin)
 
-pub advance-on : (file : List ℕ) (p : Progress) (r : Rec) → p .refusal ≡ 0 → advance file p r ≡ advanceBy file p (r .first / 16) (recordStep (p .bench) (r .first) (r .second) (r .extra))
+pub advance-on : (file : List ℕ) (p : Progress) (r : Rec) → p .refusal ≡ 0 → advance file p r ≡ advanceBy file p (r .first / 16) (recordStep (p .bench) (r .last) (r .first) (r .second) (r .extra))
 unfolding advance ite
 advance-on file p r e = rw (eq-eqb (p .refusal) 0 e)
 
@@ -65,7 +65,7 @@ module _ (file : List ℕ) where
   pub bench-same : (rs : List Rec) (p : Progress) → p .refusal ≡ 0 → walk file rs p .bench ≡ endFrom rs (p .bench)
   unfolding walk
   bench-same [] p e = refl
-  bench-same (r ∷ rs) p e = go (recordStep (p .bench) (r .first) (r .second) (r .extra)) (did (p .bench) (r .first) (r .second) (r .extra)) (advance-on file p r e) (λ q. bench-same rs q)
+  bench-same (r ∷ rs) p e = go (recordStep (p .bench) (r .last) (r .first) (r .second) (r .extra)) (did (p .bench) (r .last) (r .first) (r .second) (r .extra)) (advance-on file p r e) (λ q. bench-same rs q)
     where
       go : (res : Result) → Did (p .bench) (r .first / 16) (r .second) (r .first % 16) res → advance file p r ≡ advanceBy file p (r .first / 16) res
           → ((q : Progress) → q .refusal ≡ 0 → walk file rs q .bench ≡ endFrom rs (q .bench)) → walk file rs (advance file p r) .bench ≡ endBy res (p .bench) (λ b'. endFrom rs b')
@@ -75,7 +75,7 @@ module _ (file : List ℕ) where
   rows-same : (one : version file ≡ 1) (rs : List Rec) (p : Progress) → p .refusal ≡ 0 → walk file rs p .rows ≡ p .rows ++ rowsOf (eventsFrom rs (p .bench))
   unfolding walk
   rows-same one [] p e = sym (append-nil (p .rows))
-  rows-same one (r ∷ rs) p e = go (recordStep (p .bench) (r .first) (r .second) (r .extra)) (did (p .bench) (r .first) (r .second) (r .extra)) (advance-on file p r e) (λ q. rows-same one rs q)
+  rows-same one (r ∷ rs) p e = go (recordStep (p .bench) (r .last) (r .first) (r .second) (r .extra)) (did (p .bench) (r .last) (r .first) (r .second) (r .extra)) (advance-on file p r e) (λ q. rows-same one rs q)
     where
       go : (res : Result) → Did (p .bench) (r .first / 16) (r .second) (r .first % 16) res → advance file p r ≡ advanceBy file p (r .first / 16) res
           → ((q : Progress) → q .refusal ≡ 0 → walk file rs q .rows ≡ q .rows ++ rowsOf (eventsFrom rs (q .bench)))
@@ -111,7 +111,7 @@ one-few (suc n) b r w = omega arith
 
 pub events-few : (rs : List Rec) (b : Bench) → length (eventsFrom rs b) ≤ length rs
 events-few [] b = omega arith
-events-few (r ∷ rs) b = go (recordStep b (r .first) (r .second) (r .extra)) (λ b'. events-few rs b')
+events-few (r ∷ rs) b = go (recordStep b (r .last) (r .first) (r .second) (r .extra)) (λ b'. events-few rs b')
   where
     go : (res : Result) → ((b' : Bench) → length (eventsFrom rs b') ≤ length rs) → length (eventsBy res b r (λ b'. eventsFrom rs b')) ≤ suc (length rs)
     go (refused k) ih = omega arith

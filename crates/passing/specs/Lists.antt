@@ -15,7 +15,7 @@ endBy (carried b' w) b onward = onward b'
 
 abbrev pub endFrom : List Rec → Bench → Bench
 endFrom [] b = b
-endFrom (r ∷ rs) b = endBy (recordStep b (r .first) (r .second) (r .extra)) b (λ b'. endFrom rs b')
+endFrom (r ∷ rs) b = endBy (recordStep b (r .last) (r .first) (r .second) (r .extra)) b (λ b'. endFrom rs b')
 
 -- "only lookups, inserts and removes, at most 12, all finished"
 pub record Eligible (rs : List Rec) : Type 0 where

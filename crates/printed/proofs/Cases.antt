@@ -38,9 +38,13 @@ module _ (p : Page) {a : ℕ} where
   unfolding actionWord ite
   word-split h e f = rw h (ended p (115 ∷ 112 ∷ 108 ∷ 105 ∷ []) 116 e f)
 
-  pub word-join : {q : Page} → (a ≡ 1 → ⊥) → (a ≡ 2 → ⊥) → (a ≡ 3 → ⊥) → (a ≡ 4 → ⊥) → q ≡ putAll p (106 ∷ 111 ∷ 105 ∷ 110 ∷ []) → q ≡ putAll p (actionWord a)
+  pub word-join : {q : Page} → a ≡ 5 → q ≡ putAll p (106 ∷ 111 ∷ 105 ∷ 110 ∷ []) → q ≡ putAll p (actionWord a)
   unfolding actionWord ite
-  word-join h₁ h₂ h₃ h₄ e = e ∙ rw (ne-eqb _ _ h₁, ne-eqb _ _ h₂, ne-eqb _ _ h₃, ne-eqb _ _ h₄)
+  word-join h e = rw h e
+
+  pub word-range : {q r : Page} → (a ≡ 1 → ⊥) → (a ≡ 2 → ⊥) → (a ≡ 3 → ⊥) → (a ≡ 4 → ⊥) → (a ≡ 5 → ⊥) → q ≡ putAll p (114 ∷ 97 ∷ 110 ∷ 103 ∷ []) → r ≡ put q 101 → r ≡ putAll p (actionWord a)
+  unfolding actionWord ite
+  word-range h₁ h₂ h₃ h₄ h₅ e f = ended p (114 ∷ 97 ∷ 110 ∷ 103 ∷ []) 101 e f ∙ rw (ne-eqb _ _ h₁, ne-eqb _ _ h₂, ne-eqb _ _ h₃, ne-eqb _ _ h₄, ne-eqb _ _ h₅)
 
 -- ---- the answer
 
@@ -207,4 +211,4 @@ putAll-within p (x ∷ xs) h = putAll-within (put p x) xs (put-within p x h)
 pub ends-within : (l m xs : List ℕ) (n : ℕ) → page l n ≡ putAll (page m 0) xs → n ≤ length l
 ends-within l m xs n e = subst (λ (p : Page). p .at ≤ length (p .bytes)) (sym e) (putAll-within (page m 0) xs (omega arith))
 
-pub ruleset printed-cases = (word-lookup, word-insert, word-remove, word-split, word-join, answer-no, answer-yes, width-narrow, width-wide, depth-plain, depth-other, depth-no, depth-put, start-put, end-put, row-put, records-put, count-put, refusal-put, first-put, stored-put, used-put, last-put, lines-put, ends-within)
+pub ruleset printed-cases = (word-lookup, word-insert, word-remove, word-split, word-join, word-range, answer-no, answer-yes, width-narrow, width-wide, depth-plain, depth-other, depth-no, depth-put, start-put, end-put, row-put, records-put, count-put, refusal-put, first-put, stored-put, used-put, last-put, lines-put, ends-within)

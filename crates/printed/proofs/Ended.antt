@@ -22,7 +22,8 @@ use Rattle.buffer.specs.Page.{Page, putAll}
 use Rattle.answers.proofs.Reach.{reach-stored}
 use Rattle.listing.specs.Texts.{headed}
 use Rattle.run.proofs.Rows.{done-few, rows-length}
-use Rattle.printed.proofs.Used.{used-few, refusal-few, file-refusal-few}
+use Rattle.answers.proofs.UsedRun.{reach-used}
+use Rattle.printed.proofs.Refusals.{refusal-few, file-refusal-few}
 use Rattle.printed.proofs.Lines.{version-lines, lines-front}
 
 -- ---- a file that is not refused
@@ -80,7 +81,7 @@ ended-lines file rows text few =
     let count : countOf file % 10000 ≡ countOf file = small _ few in
     let refusal : ended file .refusal % 10000 ≡ ended file .refusal = small _ (omega (arith, refusal-few file (countOf file))) in
     let held : stored (ended file .bench) % 10000 ≡ stored (ended file .bench) = small _ (omega (arith, reach-stored file (countOf file))) in
-    let used : ended file .bench .store .used % 10000 ≡ ended file .bench .store .used = small _ (omega (arith, used-few file (countOf file))) in
+    let used : ended file .bench .store .used % 10000 ≡ ended file .bench .store .used = small _ (omega (arith, reach-used file (countOf file))) in
     let lines : rowLines (headed (version file)) (ended file .finished) (overlay (ended file .rows) rows) ≡ rowLines file (ended file .finished) (ended file .rows) =
     version-lines (headed (version file)) file refl (ended file .finished) (overlay (ended file .rows) rows) ∙ lines-front file (ended file .finished) (ended file .rows) (drop (length (ended file .rows)) rows) (row-bytes file) in
     rw (done, count, refusal, held, used, lines, take-append-seam)

@@ -38,7 +38,7 @@ decimal-few n = rw (length-append, length-append, length-append) (omega (
 
 action-few : (a : ℕ) → length (actionWord a) ≤ 6
 unfolding actionWord
-action-few a = one-of (eqb a 1) _ _ 6 (omega arith) (one-of (eqb a 2) _ _ 6 (omega arith) (one-of (eqb a 3) _ _ 6 (omega arith) (one-of (eqb a 4) _ _ 6 (omega arith) (omega arith))))
+action-few a = one-of (eqb a 1) _ _ 6 (omega arith) (one-of (eqb a 2) _ _ 6 (omega arith) (one-of (eqb a 3) _ _ 6 (omega arith) (one-of (eqb a 4) _ _ 6 (omega arith) (one-of (eqb a 5) _ _ 6 (omega arith) (omega arith)))))
 
 word-few : (a : Answer) → length (rendered a .1) ≤ 3
 word-few No = omega arith

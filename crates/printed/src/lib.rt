@@ -47,7 +47,11 @@ pub fn put_action(out: &mut [u8], at: usize, a: u8) -> usize
             let next = put_four(out, at, b's', b'p', b'l', b'i');
             put_byte(out, next, b't')
         }
-        _ => put_four(out, at, b'j', b'o', b'i', b'n'),
+        5 => put_four(out, at, b'j', b'o', b'i', b'n'),
+        _ => {
+            let next = put_four(out, at, b'r', b'a', b'n', b'g');
+            put_byte(out, next, b'e')
+        }
     }
 }
 

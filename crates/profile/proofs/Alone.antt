@@ -10,7 +10,7 @@ use borrow.Author.Tests.{ltb-true, ltb-false}
 use Rattle.definitions.specs.declared.Link.{Link}
 use Rattle.definitions.specs.declared.Link.the-variants.{Nil, To}
 use Rattle.definitions.specs.declared.Kind.{Kind}
-use Rattle.definitions.specs.declared.Kind.the-variants.{Normal, Route, Main, Neighbour}
+use Rattle.definitions.specs.declared.Kind.the-variants.{Normal, Route, Main, Neighbour, Range}
 use Rattle.definitions.specs.declared.Stage.the-variants.{Done}
 use Rattle.definitions.specs.declared.Spot.{Spot}
 use Rattle.definitions.specs.declared.Spot.the-variants.{Root, Under}
@@ -60,15 +60,16 @@ module _ {w : World} {hist : Hist} (mem : Mem w hist) where
         go Nil e = let (P, R, d, j) = mem .mains .joint x k (lives l) (inr (main-done x k)) in clash (let a = j .parent in cc)
         go (To p) e = alive (mem .shape .child x p l (up-parent x ib l ∙ e) .0) (done-dead x p k (lives l) (main-done x k) e)
 
-    pub base-ready : (x : ℕ) → IsBase w x → Live w x → replaceable (λ z. shape (w .nodes z)) x ≡ true
+    pub base-ready : (x : ℕ) → IsBase w x → Live w x → replaceable (λ z. shape (w .nodes z)) (w .stores) x ≡ true
     unfolding replaceable check
     base-ready x ib l = go (kindOf w x) refl
       where
-        go : (k : Kind) → kindOf w x ≡ k → isReplaceable (checkAs k (λ z. shape (w .nodes z)) x) ≡ true
+        go : (k : Kind) → kindOf w x ≡ k → isReplaceable (checkAs k (λ z. shape (w .nodes z)) (w .stores) x) ≡ true
         go Normal e = refl
         go Route e = absurd (ib e)
         go Main e = absurd (not-main x l e)
         go Neighbour e = rw (main-done (w .nodes x .main) (mem .neighbours .main x e (lives l) .0))
+        go Range e = absurd (t .rangeless x e)
 
     pub base-hangs : (x : ℕ) → IsBase w x → Live w x → (v : Spot) × At (w .nodes) (w .root) (w .used) v x
     base-hangs x ib l = go (w .nodes x .parent) refl

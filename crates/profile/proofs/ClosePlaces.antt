@@ -13,8 +13,7 @@ use Rattle.definitions.specs.declared.Quarter.{Quarter}
 use Rattle.definitions.specs.declared.Spot.{Spot}
 use Rattle.definitions.specs.declared.Spot.the-variants.{Root, Under}
 use Rattle.definitions.specs.declared.Probe.{Probe}
-use Rattle.definitions.specs.declared.Thread.{Thread}
-use Rattle.definitions.specs.declared.Turn.{Turn}
+use Rattle.definitions.specs.Threads.{Thread, Turn}
 use Rattle.definitions.specs.Nodes.{withValid, withStage, isDone, shape, over}
 use Rattle.definitions.specs.Bench.{sightOf, Store}
 use Rattle.definitions.specs.Places.{p40, p45, p46, p47, p48, p49, p50, p51, swap, united, at}

@@ -11,18 +11,16 @@ use Rattle.container.specs.Depths.{Container}
 use Rattle.definitions.specs.declared.Link.{Link}
 use Rattle.definitions.specs.declared.Link.the-variants.{Nil, To}
 use Rattle.definitions.specs.declared.Kind.{Kind}
-use Rattle.definitions.specs.declared.Kind.the-variants.{Normal, Route, Main}
+use Rattle.definitions.specs.declared.Kind.the-variants.{Normal, Route, Main, Range}
 use Rattle.definitions.specs.declared.Action.{Action}
-use Rattle.definitions.specs.declared.Action.the-variants.{Lookup, Insert, Remove, Split, Join}
+use Rattle.definitions.specs.declared.Action.the-variants.{Lookup, Insert, Remove, Split, Join, Query}
 use Rattle.definitions.specs.declared.Answer.{Answer}
 use Rattle.definitions.specs.declared.Answer.the-variants.{Lacking}
 use Rattle.definitions.specs.declared.Quarter.{Quarter}
 use Rattle.definitions.specs.declared.Quarter.the-variants.{ReadLeft}
 use Rattle.definitions.specs.declared.Spot.{Spot}
 use Rattle.definitions.specs.declared.Probe.{Probe}
-use Rattle.definitions.specs.declared.Thread.{Thread}
-use Rattle.definitions.specs.declared.Turn.{Turn}
-use Rattle.definitions.specs.declared.Turn.the-variants.{Moves, Finishes, Full}
+use Rattle.definitions.specs.Threads.{Thread, Turn, Moves, Finishes, Finds, Full, NoStore}
 use Rattle.definitions.specs.Nodes.{newBase, childFor, shape}
 use Rattle.definitions.specs.Bench.{sightOf, Store, store, Bench}
 use Rattle.definitions.specs.Places.{p1, p2, p3, p20, p21, p22, p23, p24, swap, own, placeOf, at}
@@ -47,7 +45,9 @@ use Rattle.profile.proofs.Mine.{Probed, struck, onward, probed, Spotted
 abbrev pub OkTurn : Store → Thread → ℕ → Turn → Type 0
 OkTurn s th c (Moves th' e) = Mine (placeOf (th' .place)) (perform e s) th' (suc c)
 OkTurn s th c (Finishes e a) = Quiet (perform e s) × Joined (row (shown a) 0 0) s th
+OkTurn s th c (Finds r) = ⊥
 OkTurn s th c Full = Unit {0}
+OkTurn s th c NoStore = Unit {0}
 
 pub fork : (s : Store) (th : Thread) (c : ℕ) (k : Bool) (o o' : Turn) → (k ≡ true → OkTurn s th c o) → (k ≡ false → OkTurn s th c o') → OkTurn s th c (ite k o o')
 unfolding ite
@@ -67,9 +67,9 @@ unfolding ite
 pick-false P k o o' e h = rw e h
 
 -- a new base that is no main, put where another was
-pub quiet-base : (s : Store) (v : Spot) (k : Kind) (p : Link) (x : Container) (m : ℕ) {l g : Link} → k ≢ Main → Tidy (s .nodes) (s .used) l g
+pub quiet-base : (s : Store) (v : Spot) (k : Kind) (p : Link) (x : Container) (m : ℕ) {l g : Link} → k ≢ Main → k ≢ Range → Tidy (s .nodes) (s .used) l g
     → Tidy (hang v (s .used) (push (s .used) (newBase k p x m) s) .nodes) (hang v (s .used) (push (s .used) (newBase k p x m) s) .used) l g
-quiet-base s v k p x m h t = tidy-hang v (s .used) (push (s .used) (newBase k p x m) s) (tidy-used (tidy-fill t (s .used) (newBase k p x m) (omega arith) h refl (λ z. clash (cc))) (suc (s .used)) (omega arith))
+quiet-base s v k p x m h ra t = tidy-hang v (s .used) (push (s .used) (newBase k p x m) s) (tidy-used (tidy-fill t (s .used) (newBase k p x m) (omega arith) h refl (λ z. clash (cc)) ra) (suc (s .used)) (omega arith))
 
 module _ {b : Bench} {hist : Hist} {now : ℕ} {first : ℕ → Link} (inv : Inv b hist now first) (c : ℕ) where
   abbrev th : Thread
@@ -105,6 +105,7 @@ module _ {b : Bench} {hist : Hist} {now : ℕ} {first : ℕ → Link} (inv : Inv
       leaf Remove i k = (t, q, ap suc e, k)
       leaf Split i k = (t, q, ap suc e, k)
       leaf Join i k = (t, q, ap suc e, k)
+      leaf Query i k = tt
 
   pub at-1 : Mine p1 s th c → Ok (step p1 (sightOf s) th)
   unfolding step
@@ -138,6 +139,7 @@ module _ {b : Bench} {hist : Hist} {now : ℕ} {first : ℕ → Link} (inv : Inv
   lacking Insert i p e = absurd (false≢true e)
   lacking Remove i p e = absurd (false≢true e)
   lacking Split i p e = ((λ z. absurd (clash (cc))), (λ _. inr (refl, p, ltb-true _ _ e)))
+  lacking Query i p e = absurd (false≢true e)
   lacking Join i p e = ((λ _. inr (refl, p, none (s .nodes (th .base) .parent) e)), (λ z. absurd (clash (cc))))
     where
       none : (l : Link) → isNil l ≡ true → l ≡ Nil
@@ -162,6 +164,7 @@ module _ {b : Bench} {hist : Hist} {now : ℕ} {first : ℕ → Link} (inv : Inv
       go Remove i = swaps
       go Split i = swaps
       go Join i = link (s .nodes (th .base) .parent) refl i
+      go Query i = tt
 
   -- ---- 10 to 13
 
@@ -171,15 +174,16 @@ module _ {b : Bench} {hist : Hist} {now : ℕ} {first : ℕ → Link} (inv : Inv
     where
       put : (a : Action) (v : Spot) → th .action ≡ a → Ok (replacedAs a v (shape (s .nodes (th .base))) (s .used) th)
       put Lookup v i = tt
-      put Insert v i = fork s th c _ _ _ (λ _. (quiet-base s v Normal _ _ 0 (λ z. clash (cc)) t, neither s th _ (λ z. clash (cc)) (λ z. clash (cc)))) (λ _. tt)
-      put Remove v i = fork s th c _ _ _ (λ _. (quiet-base s v Normal _ _ 0 (λ z. clash (cc)) t, neither s th _ (λ z. clash (cc)) (λ z. clash (cc)))) (λ _. tt)
+      put Insert v i = fork s th c _ _ _ (λ _. (quiet-base s v Normal _ _ 0 (λ z. clash (cc)) (λ z. clash (cc)) t, neither s th _ (λ z. clash (cc)) (λ z. clash (cc)))) (λ _. tt)
+      put Remove v i = fork s th c _ _ _ (λ _. (quiet-base s v Normal _ _ 0 (λ z. clash (cc)) (λ z. clash (cc)) t, neither s th _ (λ z. clash (cc)) (λ z. clash (cc)))) (λ _. tt)
       put Split v i = fork s th c _ _ _ (λ _. (
-        tidy-hang v (s .used) (store _ (s .root) (s .used + 3)) (tidy-used
-            (tidy-fill (tidy-fill (tidy-fill t (s .used) _ (omega arith) (λ z. clash (cc)) refl (λ z. clash (cc))) (s .used + 1) _ (omega arith) (λ z. clash (cc)) refl (λ z. clash (cc))) (s .used + 2) _ (omega arith) (λ z. clash (cc)) refl (λ z. clash (cc)))
+        tidy-hang v (s .used) (store _ (s .root) (s .used + 3) (s .stores) (s .shown)) (tidy-used
+            (tidy-fill (tidy-fill (tidy-fill t (s .used) _ (omega arith) (λ z. clash (cc)) refl (λ z. clash (cc)) (λ z. clash (cc))) (s .used + 1) _ (omega arith) (λ z. clash (cc)) refl (λ z. clash (cc)) (λ z. clash (cc))) (s .used + 2) _ (omega arith) (λ z. clash (cc)) refl (λ z. clash (cc)) (λ z. clash (cc)))
             (s .used + 3) (omega arith)),
         ((λ z. absurd (clash (cc))), (λ _. inl refl)),
       )) (λ _. tt)
       put Join v i = tt
+      put Query v i = tt
 
       by : (p : Probe) → Probed s (th .base) q p → Ok (ownBy p (shape (s .nodes (th .base))) (s .used) th)
       by _ (struck v' o') = put (th .action) v' refl

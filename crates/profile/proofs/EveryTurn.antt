@@ -12,10 +12,10 @@ use Rattle.definitions.specs.declared.Action.the-variants.{Join}
 use Rattle.definitions.specs.declared.Quarter.{Quarter}
 use Rattle.definitions.specs.declared.Quarter.the-variants.{ReadLeft, SwapLeft, ReadRight, SwapRight}
 use Rattle.definitions.specs.declared.Probe.{Probe}
-use Rattle.definitions.specs.declared.Thread.{Thread}
+use Rattle.definitions.specs.Threads.{Thread}
 use Rattle.definitions.specs.Nodes.{isPreparing, shape}
 use Rattle.definitions.specs.Bench.{sightOf, Store, Bench}
-use Rattle.definitions.specs.Places.{Place, nowhere, p1, p2, p3, p15, p16, p20, p21, p22, p23, p24, p25, p30, p31, p32, p33, p34, p35, p36, p37, p38, p40, p45, p46, p47, p48, p49, p50, p51, swap, own, found, united}
+use Rattle.definitions.specs.Places.{Place, nowhere, p1, p2, p3, p15, p16, p20, p21, p22, p23, p24, p25, p30, p31, p32, p33, p34, p35, p36, p37, p38, p40, p45, p46, p47, p48, p49, p50, p51, p60, p61, p62, p70, p71, p72, p73, p74, p76, p81, p82, swap, own, found, united, opening, next as nextOf}
 use Rattle.definitions.specs.Steps.{step, isNil}
 use Rattle.definitions.specs.Records.{isIdle}
 use Rattle.profile.specs.Claim.{missed, grandTaken, rootLost, sideLost, markLost, compares, fails, updates}
@@ -72,6 +72,19 @@ upright p48 s th c m = m .2 .tidy .upright
 upright p49 s th c m = m .2 .tidy .upright
 upright p50 s th c m = m .1 .tidy .upright
 upright p51 s th c m = m .tidy .upright
+upright p60 s th c m = absurd m
+upright p61 s th c m = absurd m
+upright p62 s th c m = absurd m
+upright p70 s th c m = absurd m
+upright p71 s th c m = absurd m
+upright p72 s th c m = absurd m
+upright p73 s th c m = absurd m
+upright p74 s th c m = absurd m
+upright p76 s th c m = absurd m
+upright p81 s th c m = absurd m
+upright p82 s th c m = absurd m
+upright (swap opening q) s th c m = absurd m
+upright (swap nextOf q) s th c m = absurd m
 
 module _ {b : Bench} {hist : Hist} {now : ℕ} {first : ℕ → Link} (inv : Inv b hist now first) (c : ℕ) where
   abbrev th : Thread
@@ -81,7 +94,7 @@ module _ {b : Bench} {hist : Hist} {now : ℕ} {first : ℕ → Link} (inv : Inv
   s = b .store
 
   busy : Stands b 0 nowhere → isIdle th ≡ false → ⊥
-  busy e h = true≢false (sym (eq-eqb _ _ (know-now inv 0 nowhere e)) ∙ h)
+  busy e h = true≢false (sym (eq-eqb _ _ (know-now inv 0 nowhere e .0)) ∙ h)
 
   pub turn : (p : Place) → Stands b 0 p → isIdle th ≡ false → Mine p s th c → OkTurn s th c (step p (sightOf s) th)
   turn nowhere e h m = absurd (busy e h)
@@ -116,6 +129,19 @@ module _ {b : Bench} {hist : Hist} {now : ℕ} {first : ℕ → Link} (inv : Inv
   turn p49 e h m = at-49 s th c m
   turn p50 e h m = at-50 s th c m
   turn p51 e h m = at-51 s th c m
+  turn p60 e h m = absurd m
+  turn p61 e h m = absurd m
+  turn p62 e h m = absurd m
+  turn p70 e h m = absurd m
+  turn p71 e h m = absurd m
+  turn p72 e h m = absurd m
+  turn p73 e h m = absurd m
+  turn p74 e h m = absurd m
+  turn p76 e h m = absurd m
+  turn p81 e h m = absurd m
+  turn p82 e h m = absurd m
+  turn (swap opening q) e h m = absurd m
+  turn (swap nextOf q) e h m = absurd m
 
   side-found : (d : Bool) (P G : ℕ) → Close s (th .action) (th .owner) (th .main) P → s .nodes (th .main) .grandparent ≡ To G → OnSide s (th .main) P G d → sideLost d (s .nodes (th .main) .grandparent) (shape (s .nodes (th .main))) (sightOf s) ≡ false
   side-found d P G k e i = subst (λ z. sideLost d z (shape (s .nodes (th .main))) (sightOf s) ≡ false) (sym e) (ap not (names-it (s .nodes (th .main) .parent) P (kidAt d (s .nodes G)) (k .parent) (i .0)))
@@ -159,6 +185,19 @@ module _ {b : Bench} {hist : Hist} {now : ℕ} {first : ℕ → Link} (inv : Inv
   finds p49 e (P, G, k, i, o) = side-found false P G k i o
   finds p50 e (G, k) = subst (λ z. markLost z (th .main) (sightOf s) ≡ false) (sym (k .grand)) (ap not (names-it (s .nodes G .mark) (th .main) (th .main) (k .mark) refl))
   finds p51 e m = refl
+  finds p60 e m = refl
+  finds p61 e m = refl
+  finds p62 e m = refl
+  finds p70 e m = refl
+  finds p71 e m = refl
+  finds p72 e m = refl
+  finds p73 e m = refl
+  finds p74 e m = refl
+  finds p76 e m = refl
+  finds p81 e m = refl
+  finds p82 e m = refl
+  finds (swap opening q) e m = refl
+  finds (swap nextOf q) e m = refl
 
   joins : {n : ℕ} → th .action ≡ Join → updates (th .action) ≡ true → suc n ≤ 68
   joins e a = absurd (false≢true (sym (ap updates e) ∙ a))
@@ -197,3 +236,16 @@ module _ {b : Bench} {hist : Hist} {now : ℕ} {first : ℕ → Link} (inv : Inv
   brief p49 e h m a = joins (m .2 .act) a
   brief p50 e h m a = joins (m .1 .act) a
   brief p51 e h m a = joins (m .act) a
+  brief p60 e h m a = absurd m
+  brief p61 e h m a = absurd m
+  brief p62 e h m a = absurd m
+  brief p70 e h m a = absurd m
+  brief p71 e h m a = absurd m
+  brief p72 e h m a = absurd m
+  brief p73 e h m a = absurd m
+  brief p74 e h m a = absurd m
+  brief p76 e h m a = absurd m
+  brief p81 e h m a = absurd m
+  brief p82 e h m a = absurd m
+  brief (swap opening q) e h m a = absurd m
+  brief (swap nextOf q) e h m a = absurd m

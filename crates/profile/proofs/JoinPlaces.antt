@@ -17,8 +17,7 @@ use Rattle.definitions.specs.declared.Quarter.the-variants.{ReadLeft}
 use Rattle.definitions.specs.declared.Spot.{Spot}
 use Rattle.definitions.specs.declared.Spot.the-variants.{Root, Under}
 use Rattle.definitions.specs.declared.Probe.{Probe}
-use Rattle.definitions.specs.declared.Thread.{Thread}
-use Rattle.definitions.specs.declared.Turn.{Turn}
+use Rattle.definitions.specs.Threads.{Thread, Turn}
 use Rattle.definitions.specs.Nodes.{Nodes, newBase, childFor, withMark, committed, isRoute, isPreparing, Entry, shape, over}
 use Rattle.definitions.specs.Bench.{sightOf, Store, store, Bench}
 use Rattle.definitions.specs.Places.{p25, p30, p31, p32, p33, p34, p35, p40, swap, found, at}
@@ -136,7 +135,7 @@ module _ {b : Bench} {hist : Hist} {now : ℕ} {first : ℕ → Link} (inv : Inv
   at-25 e (k, q, ib) = pick-true Ok _ _ _ (eq-eqb _ _ (k .here)) (fork s th c _ _ _ (λ _. made) (λ _. tt))
     where
       made : Mine (swap found ReadLeft) (hang (Under (th .parent) (th .left)) (s .used) (push (s .used) M s))
-          (record { action = th .action; station = th .station; extra = th .extra; place = 26; route = th .route; base = th .base; parent = th .parent; left = th .left; found = th .found; neighbour = th .neighbour; main = s .used; owner = true; grandparent = th .grandparent; other = th .other }) (suc c)
+          (record { action = th .action; station = th .station; extra = th .extra; place = 26; route = th .route; base = th .base; parent = th .parent; left = th .left; found = th .found; neighbour = th .neighbour; main = s .used; owner = true; grandparent = th .grandparent; other = th .other; frames = th .frames }) (suc c)
       made = let u = s .used in let v = M in let sp = Under (th .parent) (th .left) in let s1 = push u v s in
           let lp : th .parent < u = mem inv c .shape .low (th .parent) (lives (live-of inv c (th .parent) (k .reach))) in
           let lf : th .found < u = mem inv c .shape .low (th .found) (lives (live-of inv c (th .found) q)) in
@@ -147,7 +146,7 @@ module _ {b : Bench} {hist : Hist} {now : ℕ} {first : ℕ → Link} (inv : Inv
             record {
               act = k .act;
               owner = refl;
-              tidy = tidy-hang sp u s1 (tidy-main (k .quiet) v refl (λ z. clash (cc)));
+              tidy = tidy-hang sp u s1 (tidy-main (k .quiet) v refl (λ z. clash (cc)) (λ z. clash (cc)));
               kind = alike-hang sp u s1 u .kind ∙ ap (λ z. z .kind) zu;
               stage = alike-hang sp u s1 u .stage ∙ ap (λ z. z .stage) zu;
               parent = alike-hang sp u s1 u .parent ∙ ap (λ z. z .parent) zu ∙ know-now inv 0 p25 e .0 .parent;
@@ -178,7 +177,7 @@ module _ {b : Bench} {hist : Hist} {now : ℕ} {first : ℕ → Link} (inv : Inv
             record {
               act = k .act;
               owner = k .owner;
-              tidy = quiet-base s v Neighbour _ _ _ (λ z. clash (cc)) (k .tidy);
+              tidy = quiet-base s v Neighbour _ _ _ (λ z. clash (cc)) (λ z. clash (cc)) (k .tidy);
               kind = alike-hang v u s1 (th .main) .kind ∙ ap (λ z. z .kind) zm ∙ k .kind;
               stage = alike-hang v u s1 (th .main) .stage ∙ ap (λ z. z .stage) zm ∙ k .stage;
               parent = alike-hang v u s1 (th .main) .parent ∙ ap (λ z. z .parent) zm ∙ k .parent;
@@ -305,7 +304,7 @@ module _ {b : Bench} {hist : Hist} {now : ℕ} {first : ℕ → Link} (inv : Inv
       act = k .act;
       owner = k .owner;
       tidy = subst (λ z. Tidy (s3 p x .nodes) (s3 p x .used) (To (th .main)) z) (sym (ap (λ z. z .grandparent) zm)) (tidy-close (s2 p x .nodes) (suc (s .used)) (th .main) (C p x) (record { kind = refl; mark = refl; parent = refl })
-          (tidy-used (tidy-fill (k .tidy) (s .used) (united p x) (omega arith) (λ z. clash (cc)) refl (λ z. clash (cc))) (suc (s .used)) (omega arith)) (λ z. clash (cc)));
+          (tidy-used (tidy-fill (k .tidy) (s .used) (united p x) (omega arith) (λ z. clash (cc)) refl (λ z. clash (cc)) (λ z. clash (cc))) (suc (s .used)) (omega arith)) (λ z. clash (cc)));
       kind = fr (th .main) lm .kind ∙ k .kind;
       stage = ap (λ z. z .stage) zm;
       parent = fr (th .main) lm .parent ∙ k .parent;

@@ -20,10 +20,10 @@ use Rattle.definitions.specs.declared.Spot.{Spot}
 use Rattle.definitions.specs.declared.Spot.the-variants.{Root, Under}
 use Rattle.definitions.specs.declared.Probe.{Probe}
 use Rattle.definitions.specs.declared.Probe.the-variants.{Hit, Next}
-use Rattle.definitions.specs.declared.Thread.{Thread}
+use Rattle.definitions.specs.Threads.{Thread}
 use Rattle.definitions.specs.Nodes.{Entry, shape, over, withKid}
 use Rattle.definitions.specs.Bench.{Store}
-use Rattle.definitions.specs.Places.{Place, nowhere, p1, p2, p3, p15, p16, p20, p21, p22, p23, p24, p25, p30, p31, p32, p33, p34, p35, p36, p37, p38, p40, p45, p46, p47, p48, p49, p50, p51, swap, own, found, united}
+use Rattle.definitions.specs.Places.{Place, nowhere, p1, p2, p3, p15, p16, p20, p21, p22, p23, p24, p25, p30, p31, p32, p33, p34, p35, p36, p37, p38, p40, p45, p46, p47, p48, p49, p50, p51, p60, p61, p62, p70, p71, p72, p73, p74, p76, p81, p82, swap, own, found, united, opening, next as nextOf}
 use Rattle.definitions.specs.Effects.{hang, push}
 use Rattle.definitions.specs.Steps.{probe}
 use Rattle.answers.specs.Reachable.{Reached}
@@ -253,3 +253,16 @@ Mine p48 s th c = (P G : ℕ) × CloseOf s th P × (s .nodes (th .main) .grandpa
 Mine p49 s th c = (P G : ℕ) × CloseOf s th P × (s .nodes (th .main) .grandparent ≡ To G) × OnSide s (th .main) P G false
 Mine p50 s th c = (G : ℕ) × Leaves s (th .action) (th .owner) (th .main) G
 Mine p51 s th c = Ends s (th .action) (th .owner) (th .main)
+Mine p60 s th c = ⊥
+Mine p61 s th c = ⊥
+Mine p62 s th c = ⊥
+Mine p70 s th c = ⊥
+Mine p71 s th c = ⊥
+Mine p72 s th c = ⊥
+Mine p73 s th c = ⊥
+Mine p74 s th c = ⊥
+Mine p76 s th c = ⊥
+Mine p81 s th c = ⊥
+Mine p82 s th c = ⊥
+Mine (swap opening q) s th c = ⊥
+Mine (swap nextOf q) s th c = ⊥

@@ -12,15 +12,12 @@ use Rattle.container.specs.Choice.{ite, upd}
 use Rattle.definitions.specs.declared.Link.{Link}
 use Rattle.definitions.specs.declared.Link.the-variants.{Nil}
 use Rattle.definitions.specs.declared.Action.{Action}
-use Rattle.definitions.specs.declared.Action.the-variants.{Lookup, Insert, Remove, Split, Join}
+use Rattle.definitions.specs.declared.Action.the-variants.{Lookup, Insert, Remove, Split, Join, Query}
 use Rattle.definitions.specs.declared.Spot.{Spot}
 use Rattle.definitions.specs.declared.Spot.the-variants.{Root, Under}
 use Rattle.definitions.specs.declared.Effect.{Effect}
-use Rattle.definitions.specs.declared.Effect.the-variants.{Quiet, Mark, Settle, Invalid, Swing, Base, Fork, Commit}
-use Rattle.definitions.specs.declared.Thread.{Thread}
-use Rattle.definitions.specs.declared.Turn.{Turn}
-use Rattle.definitions.specs.declared.Turn.the-variants.{Moves, Finishes, Full}
-use Rattle.definitions.specs.Bench.{begun}
+use Rattle.definitions.specs.declared.Effect.the-variants.{Quiet, Mark, Settle, Invalid, Swing, Base, Fork, Commit, Ask, Fill}
+use Rattle.definitions.specs.Threads.{Thread, begun, Turn, Moves, Finishes, Finds, Full, NoStore}
 use Rattle.definitions.specs.Nodes.{childFor, shape}
 use Rattle.definitions.specs.Bench.{sightOf, Store, Bench, bench, fresh}
 use Rattle.definitions.specs.Places.{Place, placeOf}
@@ -56,7 +53,9 @@ record Looks (th : Thread) : Type 0 where
 abbrev Harmless : Store → Turn → Type 0
 Harmless s (Moves th' e) = (perform e s ≡ s) × Looks th'
 Harmless s (Finishes e a) = perform e s ≡ s
+Harmless s (Finds r) = Unit {0}
 Harmless s Full = Unit {0}
+Harmless s NoStore = Unit {0}
 
 either : (s : Store) (c : Bool) (o o' : Turn) → Harmless s o → Harmless s o' → Harmless s (ite c o o')
 unfolding ite
@@ -73,6 +72,7 @@ looking s th k = go (k .place)
     leaf x Remove e = absurd (clash (cc))
     leaf x Split e = absurd (clash (cc))
     leaf x Join e = absurd (clash (cc))
+    leaf x Query e = absurd (clash (cc))
 
     arrive : (x : ℕ) → Harmless s (reached (λ z. shape (s .nodes z)) th x)
     arrive x = either s _ _ _ (refl, record { act = k .act; place = walking refl }) (leaf x (th .action) (k .act))
@@ -90,7 +90,7 @@ pub record Solo (b : Bench) (c : ℕ → ℕ) : Type 0 where
 
 fresh-solo : Solo fresh (λ _. 0)
 fresh-solo = record {
-  mine = record { mains = λ x e. absurd (clash (cc)); marks = λ r m e. absurd (clash (cc)); upright = λ x e. clash (cc) };
+  mine = record { mains = λ x e. absurd (clash (cc)); marks = λ r m e. absurd (clash (cc)); upright = λ x e. clash (cc); rangeless = λ x e. clash (cc) };
   others = λ t _. record { act = refl; place = resting refl };
 }
 
@@ -104,7 +104,7 @@ not-among n Q [] h q = refl
 not-among n Q (k ∷ l) (h, h') q = rw (ne-eqb n k (λ i. h (subst (λ v. Q (placeOf v)) i q))) (not-among n Q l h' q)
 
 writer-shut : (s : Store) (th : Thread) (c : ℕ) → Shut (λ p. Mine p s th c) asides
-writer-shut s th c = ((λ q. q), ((λ q. q), ((λ q. q), ((λ q. q), ((λ q. q), tt)))))
+writer-shut s th c = ((λ q. q), ((λ q. q), ((λ q. q), ((λ q. q), ((λ q. q), ((λ q. q), ((λ q. q), ((λ q. q), ((λ q. q), ((λ q. q), ((λ q. q), ((λ q. q), ((λ q. q), ((λ q. q), ((λ q. q), ((λ q. q), ((λ q. q), ((λ q. q), ((λ q. q), ((λ q. q), ((λ q. q), ((λ q. q), ((λ q. q), ((λ q. q), tt))))))))))))))))))))))))
 
 roams-straight : (n : ℕ) → Roams n → among n asides ≡ false
 roams-straight n (resting e) = rw e
@@ -133,6 +133,10 @@ calm {b} inv c z = record {
 
 -- ---- one record
 
+both-off : (a b : Bool) → a || b ≡ false → (a ≡ false) × (b ≡ false)
+both-off true b e = absurd (true≢false e)
+both-off false b e = (refl, e)
+
 module _ {b : Bench} {hist : Hist} {now : ℕ} {f : ℕ → Link} (inv : Inv b hist now f) (c : ℕ → ℕ) (z : Solo b c) (y d : ℕ) where
   abbrev Kept : ℕ → ℕ → Result → Type 0
   Kept n t (refused _) = Unit {0}
@@ -149,7 +153,9 @@ module _ {b : Bench} {hist : Hist} {now : ℕ} {f : ℕ → Link} (inv : Inv b h
   unfolding taken
   taken-mine (Moves th' e) m h = (h, tt, record { mine = m; others = λ t i. rw (ne-eqb t 0 i) (z .others t i) })
   taken-mine (Finishes e a) (m, j) h = (h, j, record { mine = m; others = λ t i. rw (ne-eqb t 0 i) (z .others t i) })
+  taken-mine (Finds r) m h = absurd m
   taken-mine Full m h = tt
+  taken-mine NoStore m h = tt
 
   taken-other : (t : ℕ) → t ≢ 0 → (o : Turn) → Harmless (b .store) o → Kept 0 t (taken b t o)
   unfolding taken
@@ -178,7 +184,16 @@ module _ {b : Bench} {hist : Hist} {now : ℕ} {f : ℕ → Link} (inv : Inv b h
 
       no-join : Joined (row (shown a) 0 0) (b .store) (b .threads t)
       no-join = neither (b .store) (b .threads t) (shown a) (λ e. clash (let i = z .others t h .act in cc)) (λ e. clash (let i = z .others t h .act in cc))
+  taken-other t h (Finds r) s = (
+    (λ a. absurd (false≢true (sym (ap updates (z .others t h .act)) ∙ a))),
+    neither (b .store) (b .threads t) _ (λ e. clash (let i = z .others t h .act in cc)) (λ e. clash (let i = z .others t h .act in cc)),
+    record {
+      mine = rw (ne-eqb 0 t (λ i. h (sym i))) (z .mine);
+      others = λ u i. elim (u ==? t) [ yes j ↦ rw (eq-eqb u t j) (record { act = refl; place = resting refl }) | no j ↦ rw (ne-eqb u t j) (z .others u i) ];
+    },
+  )
   taken-other t h Full s = tt
+  taken-other t h NoStore s = tt
 
   steps : (t : ℕ) → Kept 0 t (stepped b t y d)
   unfolding stepped
@@ -205,21 +220,23 @@ module _ {b : Bench} {hist : Hist} {now : ℕ} {f : ℕ → Link} (inv : Inv b h
         others = λ u j. elim (u ==? t) [ yes i ↦ rw (eq-eqb u t i) (record { act = h e; place = first refl }) | no i ↦ rw (ne-eqb u t i) (z .others u j) ];
       }
 
-  -- ---- by the record's action; threads 1 to 3 start lookups only
+  -- ---- by the record's action; threads 1 to 3 start lookups only, and no thread a query
 
-  acts : (n t : ℕ) → (t ≢ 0 → leb 2 n && leb n 5 ≡ false) → Kept n t (acted n b t y d)
-  acts zero t h = steps t
-  acts (suc zero) t h = begins 0 t Lookup (λ _. refl)
-  acts (suc (suc zero)) t h = begins 1 t Insert (λ e. absurd (true≢false (h e)))
-  acts (suc (suc (suc zero))) t h = begins 2 t Remove (λ e. absurd (true≢false (h e)))
-  acts (suc (suc (suc (suc zero)))) t h = begins 3 t Split (λ e. absurd (true≢false (h e)))
-  acts (suc (suc (suc (suc (suc zero))))) t h = begins 4 t Join (λ e. absurd (true≢false (h e)))
-  acts (suc (suc (suc (suc (suc (suc _)))))) t h = tt
+  acts : (n t : ℕ) → eqb n 6 ≡ false → (t ≢ 0 → leb 2 n && leb n 5 ≡ false) → Kept n t (acted n b t y d)
+  acts zero t q h = steps t
+  acts (suc zero) t q h = begins 0 t Lookup (λ _. refl)
+  acts (suc (suc zero)) t q h = begins 1 t Insert (λ e. absurd (true≢false (h e)))
+  acts (suc (suc (suc zero))) t q h = begins 2 t Remove (λ e. absurd (true≢false (h e)))
+  acts (suc (suc (suc (suc zero)))) t q h = begins 3 t Split (λ e. absurd (true≢false (h e)))
+  acts (suc (suc (suc (suc (suc zero))))) t q h = begins 4 t Join (λ e. absurd (true≢false (h e)))
+  acts (suc (suc (suc (suc (suc (suc zero)))))) t q h = absurd (true≢false q)
+  acts (suc (suc (suc (suc (suc (suc (suc _))))))) t q h = tt
 
-  pub one : (x : ℕ) → leb (x / 16) 3 && outside (x / 16) (x % 16) ≡ false → Kept (x % 16) (x / 16) (recordStep b x y d)
+  pub one : (l x : ℕ) → (leb (x / 16) 3 && leb (x % 16) l) && outside (x / 16) (x % 16) ≡ false → Kept (x % 16) (x / 16) (recordStep b l x y d)
   unfolding recordStep
-  one x h = pick (x % 16) (x / 16) _ _ _ (λ _. tt) (λ i. let q = rw (le-leb (x / 16) 3 (ltb-false 3 (x / 16) i)) at h in
-      acts (x % 16) (x / 16) (λ e. rw (lt-ltb 0 (x / 16) (positive (x / 16) e)) at q))
+  one l x h = pick (x % 16) (x / 16) _ _ _ (λ _. tt) (λ i. pick (x % 16) (x / 16) _ _ _ (λ _. tt) (λ j.
+      let (p, q) = both-off (eqb (x % 16) 6) _ (rw (le-leb (x / 16) 3 (ltb-false 3 (x / 16) i), le-leb (x % 16) l (ltb-false l (x % 16) j)) at h) in
+      acts (x % 16) (x / 16) p (λ e. rw (lt-ltb 0 (x / 16) (positive (x / 16) e)) at q)))
     where
       positive : (t : ℕ) → t ≢ 0 → 0 < t
       positive zero e = absurd (e refl)
@@ -238,10 +255,10 @@ module _ (H : Hist) (r : Rec) (rs : List Rec) (b : Bench) (P : Plain) (f : ℕ �
   past (refused _) _ _ ih = tt
   past (carried b' w) (_, z') (i, j, s') ih = (i, j, ih b' (feed r (wasCarried (rowAdded w)) P) z' s')
 
-  choose : (q : Bool) → barred r ≡ q → Onward → Past (ite q (refused 24) (recordStep b (r .first) (r .second) (r .extra))) b (r .first / 16) c' (λ b'. Throughout rs b' c')
+  choose : (q : Bool) → barred r ≡ q → Onward → Past (ite q (refused 24) (recordStep b (r .last) (r .first) (r .second) (r .extra))) b (r .first / 16) c' (λ b'. Throughout rs b' c')
   unfolding ite
   choose true e ih = tt
-  choose false e ih = past (recordStep b (r .first) (r .second) (r .extra)) (next H r rs b P f k z) (one (z .inv) c s (r .second) (r .extra) (r .first) e) ih
+  choose false e ih = past (recordStep b (r .last) (r .first) (r .second) (r .extra)) (next H r rs b P f k z) (one (z .inv) c s (r .second) (r .extra) (r .last) (r .first) e) ih
 
 through : (H : Hist) (rs : List Rec) (b : Bench) (P : Plain) (f : ℕ → Link) (k : ℕ) (c : ℕ → ℕ) → Standing H rs b P f k → Solo b c → Throughout rs b c
 unfolding profileStep

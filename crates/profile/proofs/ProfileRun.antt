@@ -25,7 +25,7 @@ use Rattle.profile.proofs.Said.{rows-say}
 
 -- ---- one record
 
-run-on : (file : List ℕ) (p : Progress) (r : Rec) → p .refusal ≡ 0 → advance file p r ≡ advanceBy file p (r .first / 16) (recordStep (p .bench) (r .first) (r .second) (r .extra))
+run-on : (file : List ℕ) (p : Progress) (r : Rec) → p .refusal ≡ 0 → advance file p r ≡ advanceBy file p (r .first / 16) (recordStep (p .bench) (r .last) (r .first) (r .second) (r .extra))
 unfolding advance ite
 run-on file p r e = rw (eq-eqb (p .refusal) 0 e)
 
@@ -33,7 +33,7 @@ run-off : (file : List ℕ) (p : Progress) (r : Rec) → p .refusal ≢ 0 → ad
 unfolding advance ite
 run-off file p r h = rw (ne-eqb (p .refusal) 0 h)
 
-allowed : (b : Bench) (r : Rec) → barred r ≡ false → profileStep b r ≡ recordStep b (r .first) (r .second) (r .extra)
+allowed : (b : Bench) (r : Rec) → barred r ≡ false → profileStep b r ≡ recordStep b (r .last) (r .first) (r .second) (r .extra)
 unfolding profileStep ite
 allowed b r e = rw e
 
@@ -94,9 +94,9 @@ number : (b : Bench) (r : Rec) → Numbered (profileStep b r)
 unfolding profileStep ite
 number b r = go (barred r)
   where
-    go : (q : Bool) → Numbered (ite q (refused 24) (recordStep b (r .first) (r .second) (r .extra)))
+    go : (q : Bool) → Numbered (ite q (refused 24) (recordStep b (r .last) (r .first) (r .second) (r .extra)))
     go true = λ e. omega arith
-    go false = numbered b (r .first) (r .second) (r .extra)
+    go false = numbered b (r .last) (r .first) (r .second) (r .extra)
 
 list-calm : (file : List ℕ) (rs : List Rec) (p : Progress) (c : ℕ → ℕ) → p .refusal ≡ 0 → Throughout rs (p .bench) c → Calm (all-of file rs p .bench)
 unfolding all-of

@@ -20,8 +20,8 @@ use Rattle.definitions.specs.Profile.{profileStep, profileAfter}
 use Rattle.definitions.specs.declared.Answer.{Answer}
 use Rattle.definitions.specs.declared.Answer.the-variants.{Yes, Lacking}
 use Rattle.definitions.specs.declared.Action.{Action}
-use Rattle.definitions.specs.declared.Action.the-variants.{Lookup, Insert, Remove, Split, Join}
-use Rattle.definitions.specs.declared.Thread.{Thread}
+use Rattle.definitions.specs.declared.Action.the-variants.{Lookup, Insert, Remove, Split, Join, Query}
+use Rattle.definitions.specs.Threads.{Thread}
 use Rattle.answers.proofs.Tools.{_==?_}
 use Rattle.profile.specs.Claim.{counted, Joined, Past, stepsBy, Sound, rowByte, Says}
 use Rattle.profile.proofs.ByRun.{on-step, off-step}
@@ -74,11 +74,12 @@ module _ (v : Bool) (rows more : List ℕ) (n t x s y : ℕ) (h : Told (wide v) 
 -- ---- what is claimed of a record, as its row says it
 
 says-by : (o : Action) (a : Answer) → (o ≡ Join → (a ≡ Yes) ⊎ (a ≡ Lacking)) → (o ≡ Split → (a ≡ Yes) ⊎ (a ≡ Lacking)) → Says (actionNumber o) (answerNumber a)
-says-by Lookup a j s = λ h. absurd (omega arith)
-says-by Insert a j s = λ h. absurd (omega arith)
-says-by Remove a j s = λ h. absurd (omega arith)
-says-by Split a j s = λ _. ⊎-elim (λ e. inl (ap answerNumber e)) (λ e. inr (ap answerNumber e)) (s refl)
-says-by Join a j s = λ _. ⊎-elim (λ e. inl (ap answerNumber e)) (λ e. inr (ap answerNumber e)) (j refl)
+says-by Lookup a j s = λ h _. absurd (omega arith)
+says-by Insert a j s = λ h _. absurd (omega arith)
+says-by Remove a j s = λ h _. absurd (omega arith)
+says-by Split a j s = λ _ _. ⊎-elim (λ e. inl (ap answerNumber e)) (λ e. inr (ap answerNumber e)) (s refl)
+says-by Join a j s = λ _ _. ⊎-elim (λ e. inl (ap answerNumber e)) (λ e. inr (ap answerNumber e)) (j refl)
+says-by Query a j s = λ _ h. absurd (omega arith)
 
 joined-says : (a : Answer) (d c : ℕ) (s : Store) (th : Thread) → Joined (row a d c) s th → Says (actionNumber (th .action)) (answerNumber a)
 joined-says a d c s th (j, k) = says-by (th .action) a (λ e. ⊎-elim inl (λ q. inr (q .0)) (j e)) (λ e. ⊎-elim inl (λ q. inr (q .0)) (k e))

@@ -7,7 +7,7 @@ use borrow.Author.Tests.{eq-eqb, ne-eqb}
 use Rattle.container.specs.Choice.{upd}
 use Rattle.definitions.specs.declared.Link.{Link}
 use Rattle.definitions.specs.declared.Link.the-variants.{Nil, To}
-use Rattle.definitions.specs.declared.Kind.the-variants.{Main}
+use Rattle.definitions.specs.declared.Kind.the-variants.{Main, Range}
 use Rattle.definitions.specs.declared.Stage.the-variants.{Aborted, Done}
 use Rattle.definitions.specs.declared.Spot.{Spot}
 use Rattle.definitions.specs.declared.Spot.the-variants.{Root, Under}
@@ -16,11 +16,13 @@ use Rattle.definitions.specs.Bench.{Store}
 use Rattle.definitions.specs.Effects.{hang}
 use Rattle.answers.proofs.Tools.{_==?_, clash}
 
--- every main but l is done; a join mark is that of a route's own main, or l's on its grandparent g; no main is aborted
+-- every main but l is done; a join mark is that of a route's own main, or l's on its grandparent g; no main is aborted;
+-- there is no range base
 pub record Tidy (n : Nodes) (u : ℕ) (l g : Link) : Type 0 where
   pub mains : (x : ℕ) → n x .kind ≡ Main → (x < u) × ((l ≡ To x) ⊎ (n x .stage ≡ Done))
   pub marks : (r m : ℕ) → n r .mark ≡ To m → (n m .kind ≡ Main) × ((n m .parent ≡ To r) ⊎ ((l ≡ To m) × (g ≡ To r)))
   pub upright : (x : ℕ) → n x .stage ≢ Aborted
+  pub rangeless : (x : ℕ) → n x .kind ≢ Range
 
 -- nothing pending
 abbrev pub Quiet : Store → Type 0
@@ -46,6 +48,7 @@ tidy-alike {n} {n'} {u} {l} {g} a t = record {
   mains = λ x e. let (i, o) = t .mains x (sym (a x .kind) ∙ e) in (i, rw (a x .stage) o);
   marks = λ r m e. let (i, o) = t .marks r m (sym (a r .mark) ∙ e) in (a m .kind ∙ i, rw (a m .parent) o);
   upright = λ x e. t .upright x (sym (a x .stage) ∙ e);
+  rangeless = λ x e. t .rangeless x (sym (a x .kind) ∙ e);
 }
 
 pub alike-upd : (n : Nodes) (i : ℕ) (v : Entry) → Alike v (n i) → (x : ℕ) → Alike (upd n i v x) (n x)
@@ -72,24 +75,25 @@ tidy-hang v c s t = rw (used-hang v c s) (tidy-alike (alike-hang v c s) t)
 
 module _ {n : Nodes} {u : ℕ} {l g : Link} (t : Tidy n u l g) where
   pub tidy-used : (u' : ℕ) → u ≤ u' → Tidy n u' l g
-  tidy-used u' h = record { mains = λ x e. let (i, o) = t .mains x e in (omega arith, o); marks = t .marks; upright = t .upright }
+  tidy-used u' h = record { mains = λ x e. let (i, o) = t .mains x e in (omega arith, o); marks = t .marks; upright = t .upright; rangeless = t .rangeless }
 
   old : (i x : ℕ) → u ≤ i → n x .kind ≡ Main → x ≢ i
   old i x h e z = let (o, _) = t .mains x e in omega arith
 
-  pub tidy-fill : (i : ℕ) (v : Entry) → u ≤ i → v .kind ≢ Main → v .mark ≡ Nil → v .stage ≢ Aborted → Tidy (upd n i v) u l g
-  tidy-fill i v h k m a = record {
+  pub tidy-fill : (i : ℕ) (v : Entry) → u ≤ i → v .kind ≢ Main → v .mark ≡ Nil → v .stage ≢ Aborted → v .kind ≢ Range → Tidy (upd n i v) u l g
+  tidy-fill i v h k m a ra = record {
     mains = λ x. elim (x ==? i) [ yes e ↦ rw (eq-eqb x i e) (λ z. absurd (k z)) | no e ↦ rw (ne-eqb x i e) (t .mains x) ];
     marks = λ r m'. elim (r ==? i) [
       | yes e ↦ rw (eq-eqb r i e) (λ z. absurd (clash (cc)))
       | no e ↦ rw (ne-eqb r i e) (λ z. let o = t .marks r m' z in rw (ne-eqb m' i (old i m' h (o .0))) o)
     ];
     upright = λ x. elim (x ==? i) [ yes e ↦ rw (eq-eqb x i e) a | no e ↦ rw (ne-eqb x i e) (t .upright x) ];
+    rangeless = λ x. elim (x ==? i) [ yes e ↦ rw (eq-eqb x i e) ra | no e ↦ rw (ne-eqb x i e) (t .rangeless x) ];
   }
 
 -- 25: a new main
-pub tidy-main : {n : Nodes} {u : ℕ} → Tidy n u Nil Nil → (v : Entry) → v .mark ≡ Nil → v .stage ≢ Aborted → Tidy (upd n u v) (suc u) (To u) Nil
-tidy-main {n} {u} t v m a = record {
+pub tidy-main : {n : Nodes} {u : ℕ} → Tidy n u Nil Nil → (v : Entry) → v .mark ≡ Nil → v .stage ≢ Aborted → v .kind ≢ Range → Tidy (upd n u v) (suc u) (To u) Nil
+tidy-main {n} {u} t v m a ra = record {
   mains = λ x. elim (x ==? u) [
     | yes e ↦ rw (eq-eqb x u e) (λ _. (omega arith, inl (ap To (sym e))))
     | no e ↦ rw (ne-eqb x u e) (λ z. let (i, o) = t .mains x z in (omega arith, inr (only x o)))
@@ -99,6 +103,7 @@ tidy-main {n} {u} t v m a = record {
     | no e ↦ rw (ne-eqb r u e) (λ z. let o = t .marks r m' z in rw (ne-eqb m' u (old t u m' (omega arith) (o .0))) (o .0, its r m' (o .1)))
   ];
   upright = λ x. elim (x ==? u) [ yes e ↦ rw (eq-eqb x u e) a | no e ↦ rw (ne-eqb x u e) (t .upright x) ];
+  rangeless = λ x. elim (x ==? u) [ yes e ↦ rw (eq-eqb x u e) ra | no e ↦ rw (ne-eqb x u e) (t .rangeless x) ];
 }
   where
     only : (x : ℕ) → (_≡_ {A = Link} Nil (To x)) ⊎ (n x .stage ≡ Done) → n x .stage ≡ Done
@@ -128,6 +133,7 @@ module _ (n : Nodes) (u m : ℕ) (km : n m .kind ≡ Main) (r : ℕ) where
     mains = λ x e. let (a, _, c) = fields k x in let (i, o) = t .mains x (sym a ∙ e) in (i, rw c o);
     marks = λ r' m' e. let (i, o) = f r' m' e in let (a, b, _) = fields k m' in (a ∙ i, rw b o);
     upright = λ x e. t .upright x (sym (fields k x .2) ∙ e);
+    rangeless = λ x e. t .rangeless x (sym (fields k x .0) ∙ e);
   }
 
   -- 30: the parent's
@@ -183,6 +189,7 @@ module _ (n : Nodes) (u m : ℕ) (v : Entry) (a : Staged v (n m)) where
     ];
     marks = λ r m' e. let (i, o) = t .marks r m' (sym (staged r .mark) ∙ e) in (staged m' .kind ∙ i, rw (staged m' .parent) o);
     upright = upright-on (t .upright) h;
+    rangeless = λ x e. t .rangeless x (sym (staged x .kind) ∙ e);
   }
 
   -- 51: it is done
@@ -194,6 +201,7 @@ module _ (n : Nodes) (u m : ℕ) (v : Entry) (a : Staged v (n m)) where
     ];
     marks = λ r m' e. let (i, o) = t .marks r m' (sym (staged r .mark) ∙ e) in (staged m' .kind ∙ i, inl (staged m' .parent ∙ its r m' o));
     upright = upright-on (t .upright) (λ z. clash (cc));
+    rangeless = λ x e. t .rangeless x (sym (staged x .kind) ∙ e);
   }
     where
       other : (x : ℕ) → x ≢ m → (_≡_ {A = Link} (To m) (To x)) ⊎ (n x .stage ≡ Done) → n x .stage ≡ Done

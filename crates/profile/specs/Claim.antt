@@ -11,7 +11,8 @@ use Rattle.container.specs.Choice.{upd}
 use Rattle.container.specs.Container.{size}
 use Rattle.definitions.specs.Nodes.{kidOf, isPreparing}
 use Rattle.definitions.specs.Bench.{Store, Sight, sightOf, Bench, fresh}
-use Rattle.definitions.specs.Places.{Place, nowhere, p1, p2, p3, p15, p16, p20, p21, p22, p23, p24, p25, p30, p31, p32, p33, p34, p35, p36, p37, p38, p40, p45, p46, p47, p48, p49, p50, p51, swap, own, found, united, placeOf, at}
+use Rattle.definitions.specs.Places.{Place, nowhere, p1, p2, p3, p15, p16, p20, p21, p22, p23, p24, p25, p30, p31, p32, p33, p34, p35, p36, p37, p38, p40, p45, p46, p47, p48, p49, p50, p51, p60, p61, p62, p70, p71, p72, p73, p74, p76, p81, p82, swap, own, found, united, opening, next as nextOf, placeOf, at}
+use Rattle.definitions.specs.Frames.{back}
 use Rattle.definitions.specs.Steps.{goes, says, lost, backOut, probe, isNil, names, step}
 use Rattle.definitions.specs.Records.{Row, noRow, row, Result, refused, carried}
 use Rattle.definitions.specs.Schedule.{Rec, countOf, recordAt, recordsOf}
@@ -21,14 +22,15 @@ use Rattle.definitions.specs.Profile.{barred, profileStep, profileAfter, profil
 use Rattle.definitions.specs.declared.Link.{Link}
 use Rattle.definitions.specs.declared.Link.the-variants.{Nil, To}
 use Rattle.definitions.specs.declared.Stage.the-variants.{Aborted}
+use Rattle.definitions.specs.declared.Quarter.{Quarter}
+use Rattle.definitions.specs.declared.Effect.the-variants.{Quiet}
 use Rattle.definitions.specs.declared.Node.{Node}
 use Rattle.definitions.specs.declared.Answer.the-variants.{Yes, Lacking, Lost}
 use Rattle.definitions.specs.declared.Action.{Action}
-use Rattle.definitions.specs.declared.Action.the-variants.{Lookup, Insert, Remove, Split, Join}
+use Rattle.definitions.specs.declared.Action.the-variants.{Lookup, Insert, Remove, Split, Join, Query}
 use Rattle.definitions.specs.declared.Probe.{Probe}
 use Rattle.definitions.specs.declared.Probe.the-variants.{Hit, Next, Miss}
-use Rattle.definitions.specs.declared.Thread.{Thread}
-use Rattle.definitions.specs.declared.Turn.{Turn}
+use Rattle.definitions.specs.Threads.{Thread, Turn}
 
 -- ---- a swap that fails
 
@@ -67,10 +69,11 @@ pub data Comparison : Type 0 where
   some : Bool → Turn → Comparison
 
 -- which comparisons there are, by the place of thread th: at a swap, the value to be replaced is there (10 to 13, 16, 25 to 30, 33, 35, 41 to 44,
--- 46, 47, 49, 50); at 12, 21, 28, 43 and 48, the node that was not on the left is on the right. They fail where it is not
+-- 46, 47, 49, 50); at 12, 21, 28, 43 and 48, the node that was not on the left is on the right. They fail where it is not. Of a query's places, 60
+-- to 82, nothing is said here: no thread comes there (`asides`)
 unfoldable pub compares : Place → Sight → Thread → Comparison
 compares (swap own q) s th = some (missed (probe q (s .nodes (th .base) .parent) (s .nodes) (s .root) (th .base))) (lost th)
-compares p16 s th = some (not (isPreparing (s .nodes (th .main) .stage))) (goes (at p1 th))
+compares p16 s th = some (not (isPreparing (s .nodes (th .main) .stage))) (back Quiet th)
 compares p21 s th = some (not (eqb (s .nodes (th .parent) .right) (th .base))) (says Lost)
 compares p25 s th = some (not (eqb (kidOf (th .left) (s .nodes (th .parent))) (th .base))) (says Lost)
 compares (swap found q) s th = some (missed (probe q (s .nodes (th .found) .parent) (s .nodes) (s .root) (th .found))) (goes (at p38 th))
@@ -101,6 +104,19 @@ compares p38 s th = none
 compares p40 s th = none
 compares p45 s th = none
 compares p51 s th = none
+compares p60 s th = none
+compares p61 s th = none
+compares p62 s th = none
+compares p70 s th = none
+compares p71 s th = none
+compares p72 s th = none
+compares p73 s th = none
+compares p74 s th = none
+compares p76 s th = none
+compares p81 s th = none
+compares p82 s th = none
+compares (swap opening q) s th = none
+compares (swap nextOf q) s th = none
 
 abbrev pub failed : Comparison → Bool
 failed none = false
@@ -114,16 +130,20 @@ abbrev pub TakesOut : Comparison → Turn → Type 0
 TakesOut none o = ⊥
 TakesOut (some f out) o = o ≡ out
 
+-- a query has no step at 10 to 13
+abbrev pub HasStep : Place → Thread → Type 0
+HasStep p th = (q : Quarter) → p ≡ swap own q → th .action ≢ Query
+
 -- failing is exactly the way out that 01 names: at every place, of every store and thread, and not only of those that a run comes to (proofs/Faithful.antt)
 abbrev pub FailsExactly : Type 0
 FailsExactly = (p : Place) (s : Sight) (th : Thread)
-    → (fails p s th ≡ true → TakesOut (compares p s th) (step p s th)) × (TakesOut (compares p s th) (step p s th) → fails p s th ≡ true)
+    → (fails p s th ≡ true → TakesOut (compares p s th) (step p s th)) × (HasStep p th → TakesOut (compares p s th) (step p s th) → fails p s th ≡ true)
 
 -- ---- what is claimed at every moment, and of every record
 
--- where others help a join or kill it (15, 16), and where a join backs out and stands down (36 to 38)
+-- where others help a join or kill it (15, 16), where a join backs out and stands down (36 to 38), and a query's places
 abbrev pub asides : List ℕ
-asides = 15 ∷ 16 ∷ 36 ∷ 37 ∷ 38 ∷ []
+asides = 15 ∷ 16 ∷ 36 ∷ 37 ∷ 38 ∷ 60 ∷ 61 ∷ 62 ∷ 64 ∷ 65 ∷ 66 ∷ 67 ∷ 70 ∷ 71 ∷ 72 ∷ 73 ∷ 74 ∷ 76 ∷ 77 ∷ 78 ∷ 79 ∷ 80 ∷ 81 ∷ 82 ∷ []
 
 abbrev pub among : ℕ → List ℕ → Bool
 among n [] = false
@@ -147,6 +167,7 @@ updates Insert = true
 updates Remove = true
 updates Split = false
 updates Join = false
+updates Query = false
 
 -- "an insert or remove takes at most 68 own steps": n of them, the one just taken among them
 abbrev pub Brief : Thread → ℕ → Type 0
@@ -200,7 +221,7 @@ rowByte file rows i j = getD rows (rowWidth file * i + j) 0
 
 -- a row of a split (4) or join (5) says 1, or 2
 abbrev pub Says : ℕ → ℕ → Type 0
-Says action answer = 4 ≤ action → (answer ≡ 1) ⊎ (answer ≡ 2)
+Says action answer = 4 ≤ action → action ≤ 5 → (answer ≡ 1) ⊎ (answer ≡ 2)
 
 -- what a profile run hands back, of a file and a buffer that are not refused: the report and the rows of a run for which all this holds at every moment and
 -- of every record, and which is Run's up to the first barred record; and what can be read off the rows' own bytes

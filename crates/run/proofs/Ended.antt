@@ -1,41 +1,88 @@
--- Where a run has ended: what the code then holds is what 01 says of the file and the row buffer. Assumes nothing.
-use mathlib.Core.Path.{_≡_, refl, sym, ap, _∙_}
-use mathlib.Core.List.{List, []}
-use Prim.Native.Nat.{ℕ, _*_, _≤_}
+-- Where a run begins and where it has ended: what the code then holds is what 01 says of the file and the row buffer. Assumes nothing.
+use mathlib.Core.Path.{_≡_, refl, sym, ap, _∙_, fun-ext}
+use mathlib.Core.List.{List, [], _∷_}
+use Prim.Native.Nat.{ℕ, zero, suc, _+_, _-_, _≤_, _<_}
 use native.Mathlib.Omega.{arith}
 use borrow.Author.Tests.{eq-eqb, ne-eqb}
-use lib.ListN.{length, replicate, length-replicate}
+use lib.ListN.{length, getD, replicate, length-replicate}
 use Rattle.container.specs.Choice.{ite}
 use Rattle.container.specs.Container.{all}
-use Rattle.buffer.specs.Page.{Page}
+use Rattle.buffer.specs.Page.{Page, putAll}
 use Rattle.buffer.proofs.Laws.{put-fits, putAll-length}
-use Rattle.depths.specs.Rows.{full}
+use Rattle.depths.specs.Rows.{rows, full}
 use Rattle.depths.proofs.Fresh.{blank}
+use Rattle.nodes.specs.Stores.{sharedOf, stores}
+use Rattle.nodes.proofs.Fresh.{unset}
 use Rattle.tree.specs.Below.{setBelow, countBelow}
 use Rattle.tree.proofs.Held.{held-set, held-stored}
-use Rattle.definitions.specs.Nodes.{Shapes}
-use Rattle.definitions.specs.Bench.{Bench}
+use Rattle.steps.specs.declared.Notes.{Notes}
+use Rattle.steps.specs.Decision.{thread}
+use Rattle.definitions.specs.Nodes.{Shapes, Stores, shape, emptyBase}
+use Rattle.definitions.specs.Threads.{Frame, Thread, idle}
+use Rattle.definitions.specs.Bench.{Bench, bench, store}
 use Rattle.definitions.specs.Tree.{heldBelow, treeHeld, treeSet, storedBelow, stored}
 use Rattle.definitions.specs.Versions.{version, rowRoom}
-use Rattle.definitions.specs.Schedule.{countOf, fileRefusal}
-use Rattle.definitions.specs.Run.{Progress, after, ended, reportOf, overlay, runRefusal, runReport, runBuffer}
+use Rattle.definitions.specs.Schedule.{Rec, recordAt, countOf, fileRefusal}
+use Rattle.definitions.specs.Run.{Progress, advance, after, ended, reportOf, overlay, runRefusal, runReport, runBuffer}
 use Rattle.definitions.specs.declared.Report.{Report}
-use Rattle.definitions.specs.declared.Thread.{Thread}
-use Rattle.run.specs.Standing.{Lent, Stands, Carried}
+use Rattle.definitions.specs.declared.Shared.the-variants.{Unset}
+use Rattle.run.specs.Standing.{Lent, Spare, Stands, Carried}
 use Rattle.run.specs.declared.Standing.{Standing}
+use Rattle.run.proofs.Threads.{threadsOf, all-idle}
+use Rattle.run.proofs.Turn.{stand}
 use Rattle.run.proofs.Rows.{rows-fit}
 use Rattle.run.proofs.Room.{has-room}
 
 -- the lent buffer keeps its length
-pub same-room : {n : Shapes} {l : List ℕ} {threads : ℕ → Thread} {s : Standing} {first buffer : List ℕ} (p : Progress) → Stands n l threads s first buffer p → length buffer ≡ length first
+pub same-room : {n : Shapes} {l : List ℕ} {k : Stores} {threads : ℕ → Thread} {s : Standing} {first buffer : List ℕ} (p : Progress) → Stands n l k threads s first buffer p → length buffer ≡ length first
 same-room p h = ap (λ (q : Page). length (q .bytes)) (h .rows) ∙ putAll-length _ (p .rows)
 
 -- rows that fit stand in the buffer
-overlaid : {n : Shapes} {l : List ℕ} {threads : ℕ → Thread} {s : Standing} {first buffer : List ℕ} (p : Progress) → Stands n l threads s first buffer p → length (p .rows) ≤ length first → buffer ≡ overlay (p .rows) first
+overlaid : {n : Shapes} {l : List ℕ} {k : Stores} {threads : ℕ → Thread} {s : Standing} {first buffer : List ℕ} (p : Progress) → Stands n l k threads s first buffer p → length (p .rows) ≤ length first → buffer ≡ overlay (p .rows) first
 overlaid p h f = ap (λ (q : Page). q .bytes) (h .rows ∙ put-fits (p .rows) _ f)
 
+-- ---- before the first record, and after the last
+pub none-yet : (file first : List ℕ) {n : Shapes} {l : List ℕ} {s : Stores} {h : ℕ → Frame} {th : Notes} → n ≡ (λ _. shape emptyBase) → s ≡ (λ _. Unset) → (length l ≡ 16384 → rows l ≡ (λ _ _. 0)) → thread th [] ≡ idle
+    → Stands n l s (threadsOf (replicate 4 th) (replicate 4 0) h) (stand 0 1 0 0 0 0 0) first first (after file 0)
+unfolding after putAll
+none-yet file first {h = h} {th = th} e f b g = record {
+  deep = λ _ _. 0;
+  bench = rw (e, f) (ap (λ (t : ℕ → Thread). bench (store (λ _. emptyBase) 0 1 (λ _. Unset) 0) t) (all-idle h th g));
+  depths = b;
+  refusal = refl;
+  done = refl;
+  finished = refl;
+  rows = refl;
+}
+
+-- a standing does not say which threads it stands over
+pub all-done : (file : List ℕ) (k count : ℕ) {n : Shapes} {l : List ℕ} {s : Stores} {threads : ℕ → Thread} {t : Standing} {first buffer : List ℕ} → after file k ≡ after file count → Stands n l s threads t first buffer (after file k) → Carried file count n l s t first buffer
+all-done file k count {threads = threads} e h = let same : threads ≡ after file count .bench .threads = ap (λ (b : Bench). b .threads) (h .bench) ∙ ap (λ (p : Progress). p .bench .threads) e in rw (same, e) at h
+
+-- a record that is refused ends them
+still : (file : List ℕ) (p : Progress) (r : Rec) → (p .refusal ≡ 0 → ⊥) → advance file p r ≡ p
+unfolding advance ite
+still file p r z = rw (ne-eqb (p .refusal) 0 z)
+
+onward : (file : List ℕ) (m : ℕ) → after file (suc m) ≡ advance file (after file m) (recordAt file m)
+unfolding after
+onward file m = refl
+
+stays : (file : List ℕ) (k j m : ℕ) → m ≡ k + j → (after file k .refusal ≡ 0 → ⊥) → after file m ≡ after file k
+stays file k zero m e z = let same : m ≡ k = omega arith in ap (after file) same
+stays file k (suc j) m e z =
+    let next : m ≡ suc (k + j) = omega arith in
+    ap (after file) next ∙ (onward file (k + j) ∙ (ap (λ (p : Progress). advance file p (recordAt file (k + j))) (stays file k j (k + j) refl z) ∙ still file (after file k) _ z))
+
+ended-early : (file : List ℕ) (k count : ℕ) {n : Shapes} {l : List ℕ} {s : Stores} {threads : ℕ → Thread} {t : Standing} {first buffer : List ℕ} → k ≤ count → (t .refusal ≡ 0 → ⊥) → Stands n l s threads t first buffer (after file k) → after file k ≡ after file count
+ended-early file k count i z h = let sum : count ≡ k + (count - k) = omega arith in sym (stays file k (count - k) count sum (λ e. z (h .refusal ∙ e)))
+
+-- the refused record was the last
+pub stopped : (file : List ℕ) (k count : ℕ) {n : Shapes} {l : List ℕ} {s : Stores} {threads : ℕ → Thread} {t : Standing} {first buffer : List ℕ} → k < count → (t .refusal ≡ 0 → ⊥) → Stands n l s threads t first buffer (after file (k + 1)) → Carried file count n l s t first buffer
+stopped file k count i z h = all-done file (k + 1) count (ended-early file (k + 1) count (omega arith) z h) h
+
 -- ---- the tree
-module _ {n : Shapes} {l : List ℕ} {threads : ℕ → Thread} {s : Standing} {first buffer : List ℕ} {p : Progress} (h : Stands n l threads s first buffer p) where
+module _ {n : Shapes} {l : List ℕ} {k : Stores} {threads : ℕ → Thread} {s : Standing} {first buffer : List ℕ} {p : Progress} (h : Stands n l k threads s first buffer p) where
   pub set-at : setBelow 63 n (s .root) all ≡ treeSet (p .bench)
   unfolding treeHeld
   set-at = sym (held-set 63 (full n (h .deep)) (s .root) all) ∙ ap (λ (b : Bench). heldBelow 63 (b .store .nodes) (b .store .root) all .set) (h .bench)
@@ -52,15 +99,31 @@ pub room-for : (file : List ℕ) (room : ℕ) → runRefusal file room ≡ 0 →
 unfolding runRefusal
 room-for file room = has-room (fileRefusal file) room (rowRoom file (countOf file)) 5 (λ z. omega arith)
 
--- ---- the depths that are lent, before the first record
+-- ---- what is lent, before the first record
+
+-- no store is set, whatever its result would be
+unflagged : (f c c' : ℕ) → sharedOf f c ≡ Unset → sharedOf f c' ≡ Unset
+unflagged zero c c' e = refl
+unflagged (suc f) c c' e = let z : _≡_ {A = ℕ} 0 1 = cc in absurd (omega arith)
+
+pub none-set : (r : List ℕ) → stores (replicate 256 0) r ≡ (λ _. Unset)
+unfolding stores
+none-set r = fun-ext (λ k. unflagged (getD (replicate 256 0) k 0) (getD (replicate 256 0) k 0) (getD r k 0) (ap (λ (s : Stores). s k) unset))
+
 pub lent-none : (file : List ℕ) → version file ≡ 1 → Lent file []
 lent-none file e = record { blank = blank 0; none = λ _. refl; whole = λ n. absurd (n e) }
 
 pub lent-all : (file : List ℕ) → (version file ≡ 1 → ⊥) → Lent file (replicate 16384 0)
 lent-all file n = record { blank = blank 16384; none = λ e. absurd (n e); whole = λ _. length-replicate {A = ℕ} 16384 0 }
 
+pub spare-none : (file : List ℕ) → version file ≡ 1 → Spare file [] [] [] [] []
+spare-none file e = record { none = λ _. record { results = refl; stacks = refl; backups = refl; notes = refl; words = refl }; whole = λ n. absurd (n e) }
+
+pub spare-all : (file : List ℕ) {s b n w : List ℕ} → (version file ≡ 1 → ⊥) → Spare file (replicate 256 0) (s ∷ []) (b ∷ []) (n ∷ []) (w ∷ [])
+spare-all file v = record { none = λ e. absurd (v e); whole = λ _. record { results = length-replicate {A = ℕ} 256 0; stacks = refl; backups = refl; notes = refl; words = refl } }
+
 -- ---- all records carried out
-module _ (file first : List ℕ) {n : Shapes} {l : List ℕ} {s : Standing} {buffer : List ℕ} {count : ℕ} (d : count ≡ countOf file) (h : Carried file count n l s first buffer) where
+module _ (file first : List ℕ) {n : Shapes} {l : List ℕ} {k : Stores} {s : Standing} {buffer : List ℕ} {count : ℕ} (d : count ≡ countOf file) (h : Carried file count n l k s first buffer) where
   pub ended-report : {x y : ℕ} → x ≡ setBelow 63 n (s .root) all → y ≡ countBelow 63 n (s .root) all
       → record { refusal = s .refusal; records = s .done; rows = s .finished; set = x; stored = y; used = s .used } ≡ reportOf (ended file)
   ended-report f g = rw (← d, f, g, set-at h, stored-at h, h .refusal, h .done, h .finished, used-at h)

@@ -1,7 +1,13 @@
 pub mod Rows
 pub mod Room
 pub mod Cases
+pub mod Numbers
 pub mod Finding
+pub mod Ranging
+pub mod Left
+pub mod Threads
 pub mod Turn
+pub mod Queried
+pub mod Wide
 pub mod Reading
 pub mod Ended

@@ -2,26 +2,27 @@
 use mathlib.Core.Path.{_≡_, refl, sym, ap, _∙_}
 use mathlib.Core.Bool.{Bool, true, false}
 use mathlib.Core.List.{List}
-use Prim.Native.Nat.{ℕ, zero, suc, _+_, _*_, _/_, _%_, _≤_, _<_}
+use Prim.Native.Nat.{ℕ, suc, _+_, _-_, _*_, _/_, _%_, _≤_, _<_}
 use native.Mathlib.Omega.{arith}
 use native.Mathlib.Numerals.{add-one}
-use borrow.Author.Tests.{eq-eqb, ne-eqb, lt-ltb}
+use native.Mathlib.Decide.{decLt}
+use borrow.Author.Tests.{eq-eqb, ne-eqb, lt-ltb, le-ltb}
 use lib.Dec.{eqb, ltb}
 use lib.ListN.{length, getD}
 use Rattle.container.specs.Choice.{ite}
-use Rattle.definitions.specs.Versions.{version, width}
+use Rattle.definitions.specs.Versions.{version, width, lastAction}
 use Rattle.definitions.specs.Schedule.{countOf, recordAt}
-use Rattle.definitions.specs.Records.{depthRefusal}
-use Rattle.definitions.specs.declared.Action.{Action}
-use Rattle.definitions.specs.declared.Action.the-variants.{Lookup, Insert, Remove, Split, Join}
 use Rattle.schedule.specs.Proper.{Proper}
 use Rattle.schedule.specs.Reader.{twoFrom, takenFrom}
-use Rattle.schedule.specs.declared.Record.{Record}
 use Rattle.schedule.specs.declared.Record.the-variants.{Of, End}
 use Rattle.schedule.specs.declared.Taken.{Taken}
 use Rattle.schedule.proofs.Laws.{read-next, read-of, no-end}
-use Rattle.machine.specs.Asked.{actionOf, askedBy, asked}
-use Rattle.run.proofs.Turn.{Reads}
+use Rattle.definitions.specs.Records.{depthRefusal}
+use Rattle.definitions.specs.declared.Action.{Action}
+use Rattle.definitions.specs.declared.Action.the-variants.{Lookup, Insert, Remove, Split, Join, Query}
+use Rattle.machine.specs.Asked.{actionOf, extraRefusal, askedBy, asked}
+use Rattle.machine.proofs.Asks.{asked-less, asked-query}
+use Rattle.run.proofs.Turn.{Reads, joint, joint-same}
 
 -- ---- the records of a proper file
 module _ (file : List ℕ) (h : Proper file) (k : ℕ) where
@@ -88,94 +89,105 @@ extra-none : (file : List ℕ) (k : ℕ) → version file ≡ 1 → 0 ≡ record
 unfolding recordAt ite
 extra-none file k z = rw (eq-eqb _ _ z)
 
--- ---- what it asks: a record that is not refused asks the same without its last two bytes
-least : (a : Action) → depthRefusal a 0 ≡ 0
+-- ---- the last action
+last-one : (file : List ℕ) → version file ≡ 1 → 5 ≡ lastAction file
 unfolding ite
-least Lookup = refl
-least Insert = refl
-least Remove = refl
-least Split = refl
-least Join = refl
+last-one file z = rw (eq-eqb _ _ z)
 
-data Small (n : ℕ) : Type 0 where
-  none : n ≡ 0 → Small n
-  more : 1 < n → Small n
-
-unused : (c : Bool) → Small (ite c 0 10)
+last-two : (file : List ℕ) → (version file ≡ 1 → ⊥) → 6 ≡ lastAction file
 unfolding ite
-unused true = none refl
-unused false = more (omega arith)
+last-two file z = rw (ne-eqb _ _ z)
 
-over : (c : Bool) → Small (ite c 14 0)
+-- ---- in version 1 no record starts a query
+no-extra : (a : Action) → depthRefusal a 0 ≡ 0
 unfolding ite
-over true = more (omega arith)
-over false = none refl
+no-extra Lookup = refl
+no-extra Insert = refl
+no-extra Remove = refl
+no-extra Split = refl
+no-extra Join = refl
+no-extra Query = refl
 
-refusal-small : (a : Action) (d : ℕ) → Small (depthRefusal a d)
-refusal-small Lookup d = unused (eqb d 0)
-refusal-small Insert d = over (ltb 9999 d)
-refusal-small Remove d = unused (eqb d 0)
-refusal-small Split d = unused (eqb d 0)
-refusal-small Join d = unused (eqb d 0)
-
-started-so : (m s : ℕ) → Small m → ite (eqb m 0) s m ≤ 1 → s ≡ ite (eqb m 0) s m
-unfolding ite
-started-so m s (none e) l = rw (eq-eqb m 0 e)
-started-so m s (more g) l = let o : m ≤ 1 = rw (ne-eqb m 0 (λ z. omega arith)) at l in absurd (omega arith)
-
-stepped-so : (c : Bool) (s : ℕ) → ite c s 10 ≤ 1 → s ≡ ite c s 10
-unfolding ite
-stepped-so true s l = refl
-stepped-so false s l = absurd (omega arith)
-
-asked-by : (a y e p : ℕ) → askedBy a y e p ≤ 1 → askedBy a y 0 p ≡ askedBy a y e p
-unfolding askedBy ite
-asked-by a y e p = by (eqb a 0) (eqb y 0) (ltb 5 a) (ltb 63 y) (eqb p 0)
+no-query : (a y p : ℕ) → askedBy 5 a y 0 p ≡ 2 → ⊥
+unfolding askedBy extraRefusal ite
+no-query a y p = elim (decLt 5 a) [
+  | yes l ↦ (λ h. over (eqb a 0) (eqb y 0) (eqb p 0) (rw (lt-ltb 5 a l) at h))
+  | no l ↦ (λ h. under (eqb a 0) (eqb y 0) (eqb p 0) (ltb 63 y) (rw (le-ltb 5 a (omega arith), ne-eqb a 6 (λ e. omega arith), no-extra (actionOf a)) at h))
+]
   where
-    by : (z s b o i : Bool)
-        → ite z (ite s (ite (eqb e 0) (ite i 12 0) 10) 10) (ite b 8 (ite o 9 (ite (eqb (depthRefusal (actionOf a) e) 0) (ite i 1 11) (depthRefusal (actionOf a) e)))) ≤ 1
-        → ite z (ite s (ite i 12 0) 10) (ite b 8 (ite o 9 (ite (eqb (depthRefusal (actionOf a) 0) 0) (ite i 1 11) (depthRefusal (actionOf a) 0))))
-        ≡ ite z (ite s (ite (eqb e 0) (ite i 12 0) 10) 10) (ite b 8 (ite o 9 (ite (eqb (depthRefusal (actionOf a) e) 0) (ite i 1 11) (depthRefusal (actionOf a) e))))
-    by true true b o i l = stepped-so (eqb e 0) (ite i 12 0) l
-    by true false b o i l = refl
-    by false s true o i l = refl
-    by false s false true i l = refl
-    by false s false false i l = rw (least (actionOf a)) (started-so (depthRefusal (actionOf a) e) (ite i 1 11) (refusal-small (actionOf a) e) l)
+    over : (z b i : Bool) → _≡_ {A = ℕ} (ite z (ite b (ite i 12 0) 10) 8) 2 → ⊥
+    over true true true h = omega arith
+    over true true false h = omega arith
+    over true false i h = omega arith
+    over false b i h = omega arith
 
-pub asked-less : (x y e p : ℕ) → asked x y e p ≤ 1 → asked x y 0 p ≡ asked x y e p
+    under : (z b i c : Bool) → _≡_ {A = ℕ} (ite z (ite b (ite i 12 0) 10) (ite c 9 (ite i 1 11))) 2 → ⊥
+    under true true true c h = omega arith
+    under true true false c h = omega arith
+    under true false i c h = omega arith
+    under false b i true h = omega arith
+    under false b true false h = omega arith
+    under false b false false h = omega arith
+
+not-two : (x y p : ℕ) → asked 5 x y 0 p ≡ 2 → ⊥
 unfolding asked ite
-asked-less x y e p = by (ltb 3 (x / 16))
+not-two x y p = by (ltb 3 (x / 16))
   where
-    by : (c : Bool) → ite c 7 (askedBy (x % 16) y e p) ≤ 1 → ite c 7 (askedBy (x % 16) y 0 p) ≡ ite c 7 (askedBy (x % 16) y e p)
-    by true l = refl
-    by false l = asked-by (x % 16) y e p l
+    by : (c : Bool) → ite c 7 (askedBy 5 (x % 16) y 0 p) ≡ 2 → ⊥
+    by true h = omega arith
+    by false h = no-query (x % 16) y p h
 
--- ---- a record that is read: what it has, where the next one starts, and what it asks at a place
-abbrev pub Read : List ℕ → ℕ → ℕ → ℕ → ℕ → ℕ → ℕ → Type 0
-Read file k x y e after p = Reads file k x y e × ((after ≡ 3 + width file * (k + 1)) × (asked x y 0 p ≡ asked x y e p))
+pub over-two : (x y p a : ℕ) → (a ≡ 0 → ⊥) → (a ≡ 1 → ⊥) → a ≡ asked 5 x y 0 p → 2 < a
+over-two x y p a z o e = let n : a ≡ 2 → ⊥ = (λ t. not-two x y p (sym e ∙ t)) in omega (arith, n)
+
+-- ---- a record that is read: what it has, where the next one starts, and what it asks at a place; `first` is its first byte, five less where it
+-- starts a query
+abbrev pub Read : List ℕ → ℕ → ℕ → ℕ → ℕ → ℕ → ℕ → ℕ → Type 0
+Read file k x y e first after p = Reads file k x y e × ((after ≡ 3 + width file * (k + 1)) × (asked 5 first y 0 p ≡ joint (asked (lastAction file) x y e p)))
 
 module _ (file : List ℕ) (k from v : ℕ) {t : Taken} {x y z : ℕ} (h : 3 + width file * suc k ≤ length file) (f : from ≡ 3 + width file * k) (w : v ≡ version file) (e : t ≡ takenFrom 1 file from) (s : t .found ≡ Of x y z) where
   start : t ≡ takenFrom 1 file (3 + width file * k)
   start = e ∙ ap (takenFrom 1 file) f
 
-  pub first-two : (x ≡ recordAt file k .first) × (y ≡ recordAt file k .second)
+  first-two : (x ≡ recordAt file k .first) × (y ≡ recordAt file k .second)
   first-two = first-of file k h start s
 
-  pub read-plain : {extra after : ℕ} (p : ℕ) → v ≡ 1 → after ≡ t .at → extra ≡ 0 → Read file k x y extra after p
-  read-plain p i a b =
+  pub read-plain : {extra first after : ℕ} (p : ℕ) → v ≡ 1 → after ≡ t .at → extra ≡ 0 → first ≡ x → Read file k x y extra first after p
+  read-plain p i a b c =
       let one : version file ≡ 1 = sym w ∙ i in
       let whole : t ≡ takenFrom (version file) file (3 + width file * k) = start ∙ ap (λ (u : ℕ). takenFrom u file (3 + width file * k)) (sym one) in
-      ((first-two .0, (first-two .1, b ∙ extra-none file k one)), (rw add-one (a ∙ read-next file k h whole), rw b))
+      ((first-two .0, (first-two .1, b ∙ extra-none file k one)), (rw add-one (a ∙ read-next file k h whole), rw (b, c, ← last-one file one) (joint-same (asked 5 x y 0 p) (not-two x y p))))
 
-  pub deep-reads : {t' : Taken} {m n c : ℕ} → t' ≡ takenFrom v file from → t' .found ≡ Of m n c → Reads file k x y c
-  deep-reads {t'} g i =
-      let whole : t' ≡ takenFrom (version file) file (3 + width file * k) = g ∙ (ap (λ (u : ℕ). takenFrom u file from) w ∙ ap (takenFrom (version file) file) f) in
-      (first-two .0, (first-two .1, read-of file k h whole i .1 .1))
+  -- whole, from version 2 on
+  module _ {t' : Taken} (g : t' ≡ takenFrom v file from) where
+    all-of : t' ≡ takenFrom (version file) file (3 + width file * k)
+    all-of = g ∙ (ap (λ (u : ℕ). takenFrom u file from) w ∙ ap (takenFrom (version file) file) f)
 
-  pub read-deep : {t' : Taken} {m n c extra after wrong : ℕ} (p : ℕ) → t' ≡ takenFrom v file from → t' .found ≡ Of m n c → after ≡ t' .at → extra ≡ c → wrong ≡ asked x y c p → wrong ≤ 1 → Read file k x y extra after p
-  read-deep {t'} p g i a b q l =
-      let whole : t' ≡ takenFrom (version file) file (3 + width file * k) = g ∙ (ap (λ (u : ℕ). takenFrom u file from) w ∙ ap (takenFrom (version file) file) f) in
-      (rw b (deep-reads g i), (rw add-one (a ∙ read-next file k h whole), rw b (asked-less x y _ p (rw q at l))))
+    pub deep-end : t' .found ≡ End → ⊥
+    deep-end i = no-end file k h all-of i
 
-  pub deep-end : {t' : Taken} → t' ≡ takenFrom v file from → t' .found ≡ End → ⊥
-  deep-end {t'} g i = no-end file k h (g ∙ (ap (λ (u : ℕ). takenFrom u file from) w ∙ ap (takenFrom (version file) file) f)) i
+    pub deep-next : t' .at ≡ 3 + width file * (k + 1)
+    deep-next = rw add-one (read-next file k h all-of)
+
+    module _ {m n c : ℕ} (i : t' .found ≡ Of m n c) where
+      pub deep-reads : Reads file k x y c
+      deep-reads = (first-two .0, (first-two .1, read-of file k h all-of i .1 .1))
+
+      module _ {wanted : ℕ} (p : ℕ) (o : v ≡ 1 → ⊥) (q : wanted ≡ asked 6 x y c p) where
+        pub deep-asks : wanted ≡ asked (lastAction file) x y c p
+        deep-asks = q ∙ ap (λ (l : ℕ). asked l x y c p) (last-two file (λ j. o (w ∙ j)))
+
+        -- what it asks where it is refused
+        pub deep-refused : 2 < wanted → wanted ≡ joint (asked (lastAction file) x y c p)
+        deep-refused l = joint-same wanted (λ z. omega arith) ∙ ap joint deep-asks
+
+        module _ {extra first after : ℕ} (a : after ≡ t' .at) (b : extra ≡ c) where
+          pub read-deep : wanted ≤ 2 → (wanted ≡ 2 → ⊥) → first ≡ x → Read file k x y extra first after p
+          read-deep l z f = (rw b deep-reads, (a ∙ deep-next, rw (b, f) (asked-less x y c p (rw q at (small l z)) ∙ (sym q ∙ (joint-same wanted z ∙ ap joint deep-asks)))))
+            where
+              small : wanted ≤ 2 → (wanted ≡ 2 → ⊥) → wanted ≤ 1
+              small l z = omega (arith, z)
+
+          -- of a query's start
+          pub read-query : wanted ≡ 2 → first ≡ x - 5 → Read file k x y extra first after p
+          read-query z f = (rw b deep-reads, (a ∙ deep-next, rw (b, f) (asked-query x y c p (sym q ∙ z) ∙ ap joint (sym z ∙ deep-asks))))

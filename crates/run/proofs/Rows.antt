@@ -9,18 +9,16 @@ use borrow.Author.Tests.{ltb-false}
 use lib.Dec.{eqb}
 use lib.ListN.{length, length-append}
 use Rattle.container.specs.Choice.{ite, upd}
-use Rattle.definitions.specs.Bench.{Bench, begun, idle, sightOf}
+use Rattle.definitions.specs.Threads.{Thread, begun, asking, idle, Turn, Moves, Finishes, Finds, Full, NoStore}
+use Rattle.definitions.specs.Bench.{Bench, sightOf}
 use Rattle.definitions.specs.Places.{placeOf}
 use Rattle.definitions.specs.Steps.{step}
-use Rattle.definitions.specs.Records.{Row, noRow, row, Result, refused, carried, taken, isIdle, stepped, started, acted, recordStep}
+use Rattle.definitions.specs.Records.{Row, noRow, row, Result, refused, carried, taken, isIdle, stepped, started, asked, acted, recordStep}
 use Rattle.definitions.specs.Versions.{version, rowWidth, rowRoom}
 use Rattle.definitions.specs.Schedule.{Rec, recordAt}
 use Rattle.definitions.specs.Run.{Progress, bytesOf, widerRow, rowBytes, rowCount, advanceBy, advance, after}
 use Rattle.definitions.specs.declared.Action.{Action}
 use Rattle.definitions.specs.declared.Action.the-variants.{Lookup, Insert, Remove, Split, Join}
-use Rattle.definitions.specs.declared.Thread.{Thread}
-use Rattle.definitions.specs.declared.Turn.{Turn}
-use Rattle.definitions.specs.declared.Turn.the-variants.{Moves, Finishes, Full}
 
 -- ---- busy threads
 
@@ -67,11 +65,17 @@ module _ (b : Bench) (t y d : ℕ) (h : t < 4) where
   unfolding started busy one
   starts a = pick b _ _ _ (λ _. tt) (λ _. pick b _ _ _ (λ _. pick b _ _ _ (λ i. omega (arith, replaced (b .threads) (begun a y d 1) t h, ap one i)) (λ _. tt)) (λ _. tt))
 
+  opens : Paid b (asked b t y d)
+  unfolding asked busy one
+  opens = pick b _ _ _ (λ _. tt) (λ _. pick b _ _ _ (λ _. tt) (λ _. pick b _ _ _ (λ _. tt) (λ _. pick b _ _ _ (λ i. omega (arith, replaced (b .threads) (asking y d) t h, ap one i)) (λ _. tt))))
+
   takes : (o : Turn) → isIdle (b .threads t) ≡ false → Paid b (taken b t o)
   unfolding taken busy one
   takes (Moves th e) i = omega (arith, replaced (b .threads) th t h, at-most th, ap one i)
   takes (Finishes e a) i = omega (arith, replaced (b .threads) idle t h, ap one i)
+  takes (Finds c) i = omega (arith, replaced (b .threads) idle t h, ap one i)
   takes Full i = tt
+  takes NoStore i = tt
 
   steps : Paid b (stepped b t y d)
   unfolding stepped
@@ -84,11 +88,12 @@ module _ (b : Bench) (t y d : ℕ) (h : t < 4) where
   acts (suc (suc (suc zero))) = starts Remove
   acts (suc (suc (suc (suc zero)))) = starts Split
   acts (suc (suc (suc (suc (suc zero))))) = starts Join
-  acts (suc (suc (suc (suc (suc (suc n)))))) = tt
+  acts (suc (suc (suc (suc (suc (suc zero)))))) = opens
+  acts (suc (suc (suc (suc (suc (suc (suc n))))))) = tt
 
-paid : (b : Bench) (x y d : ℕ) → Paid b (recordStep b x y d)
+paid : (b : Bench) (l x y d : ℕ) → Paid b (recordStep b l x y d)
 unfolding recordStep
-paid b x y d = pick b _ _ _ (λ _. tt) (λ e. acts b (x / 16) y d (omega (arith, ltb-false 3 (x / 16) e)) (x % 16))
+paid b l x y d = pick b _ _ _ (λ _. tt) (λ e. pick b _ _ _ (λ _. tt) (λ _. acts b (x / 16) y d (omega (arith, ltb-false 3 (x / 16) e)) (x % 16)))
 
 -- ---- the bytes of a row, and of several
 row-length : (file : List ℕ) (t : ℕ) (th : Thread) (w : Row) → length (rowBytes file t th w) ≡ rowWidth file * rowCount w
@@ -129,7 +134,7 @@ module _ (file : List ℕ) where
 
   onward : (p : Progress) (k : ℕ) (r : Rec) → Fits file p k → Fits file (advance file p r) (suc k)
   unfolding advance
-  onward p k r f = either p k _ f (advances p k (r .first / 16) f (recordStep (p .bench) (r .first) (r .second) (r .extra)) (paid (p .bench) (r .first) (r .second) (r .extra)))
+  onward p k r f = either p k _ f (advances p k (r .first / 16) f (recordStep (p .bench) (r .last) (r .first) (r .second) (r .extra)) (paid (p .bench) (r .last) (r .first) (r .second) (r .extra)))
 
 none-busy : busies (λ _. idle) ≡ 0
 unfolding busies busy one

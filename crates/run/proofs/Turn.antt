@@ -1,246 +1,373 @@
--- One record more: what the loop holds after it, by what the record asks of its thread; and the end of the records. Assumes nothing.
-use mathlib.Core.Path.{_≡_, refl, sym, ap, subst, _∙_, fun-ext}
-use mathlib.Core.Bool.{Bool, true, false, cond}
+-- One record more: what the loop holds after it, by what the record asks of its thread; and the end of the records. Rests on crate answers,
+-- `reach-frames`: a thread has at most four frames.
+use mathlib.Core.Path.{_≡_, refl, sym, ap, _∙_, subst}
+use mathlib.Core.Bool.{Bool, true, false}
 use mathlib.Core.List.{List, [], _∷_}
-use Prim.Native.Nat.{ℕ, zero, suc, _+_, _-_, _*_, _/_, _%_, _≤_, _<_}
+use mathlib.Core.Logic.{_⊎_, inl, inr, ⊎-elim}
+use Prim.Native.Nat.{ℕ, zero, suc, _+_, _/_, _%_, _≤_, _<_}
 use native.Mathlib.Numerals.{add-one}
 use native.Mathlib.Omega.{arith}
-use borrow.Author.Tests.{eqb-true, eqb-false, eq-eqb, ne-eqb, ltb-false}
+use borrow.Author.Tests.{eq-eqb, ltb-false}
+use types.Run.{OneOf}
+use denote.Enum.Declared.{tagOf}
 use lib.Dec.{eqb, ltb}
-use lib.ListN.{length, getD, set, replicate}
-use lib.Seq.{getD-set-same, getD-set-other, set-set}
+use lib.ListN.{length, getD, set}
+use lib.Seq.{set-set}
 use Rattle.container.specs.Choice.{ite, upd}
 use Rattle.buffer.specs.Page.{page, putAll}
 use Rattle.buffer.proofs.Laws.{putAll-append}
 use Rattle.depths.specs.Rows.{Rows, rows, full}
-use Rattle.effects.specs.Used.{usedAfter, deepened, Applied}
+use Rattle.effects.specs.Used.{usedAfter, shownAfter, deepened, Applied}
+use Rattle.frames.specs.View.{framesOf}
+use Rattle.frames.specs.Turns.{Backs}
+use Rattle.frames.specs.Outcomes.{Opens}
+use Rattle.answers.proofs.Reach.{reach-frames}
+use Rattle.queries.proofs.Fits.{few-fits}
+use Rattle.steps.specs.declared.Notes.{Notes}
+use Rattle.steps.specs.declared.Note.{Note}
+use Rattle.steps.specs.declared.Note.the-variants.{Nothing, Route, Base, Parent, Left, Right, Found, Neighbour, Owned, Helped, Topmost, Grandparent, Other, Opened}
+use Rattle.steps.proofs.Note as note
 use Rattle.steps.specs.declared.Decision.{Decision}
-use Rattle.steps.specs.Decision.{noted, written, turnBy, turnOf}
-use Rattle.machine.specs.Asked.{asked, actionOf, answered}
+use Rattle.steps.specs.Decision.{thread, written, topAfter, Decides}
+use Rattle.machine.specs.Asked.{asked, actionOf, starting, answered}
+use Rattle.machine.specs.Noted.{framesAfter, Noted}
 use Rattle.machine.specs.Enacted.{depthBy, Enacted}
-use Rattle.machine.proofs.Laws.{asked-so}
-use Rattle.definitions.specs.Nodes.{Shapes, shape, emptyBase}
-use Rattle.definitions.specs.Bench.{Bench, bench, store, sight, begun, idle}
-use Rattle.definitions.specs.Answers.{shown, depthIn}
-use Rattle.definitions.specs.Places.{placeOf}
+use Rattle.machine.proofs.Asks.{asked-so, query-action, start-begun}
+use Rattle.machine.proofs.Turns.{outcome, goes-on, finishes, runs-out, goes-back}
+use Rattle.definitions.specs.Nodes.{Shapes, Stores}
+use Rattle.definitions.specs.Threads.{Frame, Thread, newFrame, begun, idle}
+use Rattle.definitions.specs.Bench.{Store, store, Bench, bench, sight}
+use Rattle.definitions.specs.Answers.{shown as shownAs, depthIn}
+use Rattle.definitions.specs.Places.{placeOf, toRoute}
 use Rattle.definitions.specs.Effects.{perform}
 use Rattle.definitions.specs.Steps.{step}
-use Rattle.definitions.specs.Records.{Row, noRow, row, refused, carried, taken, acted, recordStep}
-use Rattle.definitions.specs.Versions.{version}
+use Rattle.definitions.specs.Records.{Row, noRow, row, Result, refused, carried, acted, recordStep}
+use Rattle.definitions.specs.Versions.{version, lastAction}
 use Rattle.definitions.specs.Schedule.{Rec, recordAt}
 use Rattle.definitions.specs.Run.{Progress, rowBytes, rowCount, advanceBy, advance, after}
-use Rattle.definitions.specs.declared.Thread.{Thread}
+use Rattle.definitions.specs.declared.Action.{Action}
 use Rattle.definitions.specs.declared.Effect.{Effect}
-use Rattle.definitions.specs.declared.Answer.{Answer}
-use Rattle.definitions.specs.declared.Turn.{Turn}
-use Rattle.definitions.specs.declared.Turn.the-variants.{Finishes, Full}
-use Rattle.run.specs.Standing.{rowOf, Stands, Carried}
+use Rattle.definitions.specs.declared.Effect.the-variants.{Quiet}
+use Rattle.effects.specs.declared.Write.{Write}
+use Rattle.definitions.specs.declared.Link.the-variants.{To}
+use Rattle.run.specs.Standing.{rowOf, Stands}
+use Rattle.run.specs.Query.{helping}
 use Rattle.run.specs.declared.Standing.{Standing}
 use Rattle.run.proofs.Cases.{row-as}
-use Rattle.run.proofs.Finding.{Finding, finding, found-after}
-
--- ---- the thread table
-
--- its threads, by number
-abbrev pub held : List Thread → ℕ → Thread
-held l t = getD l t idle
-
--- what the code reads within it, whatever it would read past its end
-pub within : (l : List Thread) (t : ℕ) (d : Thread) → t < length l → held l t ≡ getD l t d
-within [] t d h = absurd (omega arith)
-within (x ∷ l) zero d h = refl
-within (x ∷ l) (suc t) d h = within l t d (omega arith)
-
-put : (l : List Thread) (t : ℕ) (v : Thread) → t < length l → held (set l t v) ≡ upd (held l) t v
-put l t v h = fun-ext (λ k. at k (eqb k t) refl)
-  where
-    at : (k : ℕ) (b : Bool) → eqb k t ≡ b → held (set l t v) k ≡ cond b v (held l k)
-    at k true e = rw (eqb-true k t e) (getD-set-same l t v idle h)
-    at k false e = getD-set-other l t k v idle (eqb-false k t e)
-
-idles : (k t : ℕ) → held (replicate k idle) t ≡ idle
-idles zero t = refl
-idles (suc k) zero = refl
-idles (suc k) (suc t) = idles k t
+use Rattle.run.proofs.Numbers.{one-below}
+use Rattle.run.proofs.Finding.{depth-still, opened}
+use Rattle.run.proofs.Threads.{threadsOf, at-own, put, put-notes, frames-count}
 
 -- ---- one record more
 
 -- only a record of one of the four threads is carried out
-named : (b : Bench) (x y e : ℕ) {b' : Bench} {w : Row} → recordStep b x y e ≡ carried b' w → x / 16 ≤ 3
+named : (b : Bench) (a x y e : ℕ) {b' : Bench} {w : Row} → recordStep b a x y e ≡ carried b' w → x / 16 ≤ 3
 unfolding recordStep ite
-named b x y e {b'} {w} = by (ltb 3 (x / 16)) refl
+named b a x y e {b'} {w} = by (ltb 3 (x / 16)) refl
   where
-    by : (c : Bool) → ltb 3 (x / 16) ≡ c → ite c (refused 7) (acted (x % 16) b (x / 16) y e) ≡ carried b' w → x / 16 ≤ 3
+    by : (c : Bool) → ltb 3 (x / 16) ≡ c → ite c (refused 7) (ite (ltb a (x % 16)) (refused 8) (acted (x % 16) b (x / 16) y e)) ≡ carried b' w → x / 16 ≤ 3
     by true f q = let z : _≡_ {A = ℕ} 0 1 = cc in absurd (omega arith)
     by false f q = ltb-false _ _ f
 
--- the thread that the code reads for the first byte x
-abbrev pub seen : List Thread → ℕ → Thread → Thread
+-- the notes that the code reads for the first byte x
+abbrev pub seen : List Notes → ℕ → Notes → Notes
 seen threads x end = getD threads (x / 16 % 4) end
 
-abbrev pub stand : ℕ → ℕ → ℕ → ℕ → ℕ → ℕ → Standing
-stand root used refusal done finished at = record { root = root; used = used; refusal = refusal; done = done; finished = finished; at = at }
+abbrev pub stand : ℕ → ℕ → ℕ → ℕ → ℕ → ℕ → ℕ → Standing
+stand root used shown refusal done finished at = record { root = root; used = used; shown = shown; refusal = refusal; done = done; finished = finished; at = at }
 
-unrefused : (file : List ℕ) (p : Progress) (r : Rec) → p .refusal ≡ 0 → advance file p r ≡ advanceBy file p (r .first / 16) (recordStep (p .bench) (r .first) (r .second) (r .extra))
+unrefused : (file : List ℕ) (p : Progress) (r : Rec) → p .refusal ≡ 0 → advance file p r ≡ advanceBy file p (r .first / 16) (recordStep (p .bench) (r .last) (r .first) (r .second) (r .extra))
 unfolding advance ite
 unrefused file p r z = rw (eq-eqb _ _ z)
+
+-- the notes th at the place p; nothing else is noted, or a new frame, which lies apart
+abbrev pub placed : ℕ → Notes → Notes
+placed p th = record { action = th .action; station = th .station; extra = th .extra; place = p; route = th .route; base = th .base; parent = th .parent; left = th .left; found = th .found; neighbour = th .neighbour; main = th .main; owner = th .owner; grandparent = th .grandparent; other = th .other }
+
+pub nothing-noted : {th : Notes} (d : Decision) → d .note ≡ Nothing → Noted th (placed (d .place) th) (d .note) (d .place) (d .value)
+nothing-noted d e = record { after = λ f fs. rw e }
+
+pub route-noted : {th v : Notes} (d : Decision) → d .note ≡ Route → ((fs : List Frame) → thread v fs ≡ toRoute (d .place) (d .value) (thread th fs)) → Noted th v (d .note) (d .place) (d .value)
+route-noted d e q = record { after = λ f fs. rw e (q fs) }
+
+pub opened-noted : {th : Notes} (d : Decision) → d .note ≡ Opened → Noted th (placed (d .place) th) (d .note) (d .place) (d .value)
+opened-noted d e = record { after = λ f fs. rw e }
+
+-- any note but a new frame leaves the frames
+pub nothing-still : (n : Note) (f : Frame) (fs : List Frame) → n ≡ Nothing → framesAfter n f fs ≡ fs
+nothing-still n f fs e = rw e
+
+pub route-still : (n : Note) (f : Frame) (fs : List Frame) → n ≡ Route → framesAfter n f fs ≡ fs
+route-still n f fs e = rw e
+
+pub frames-still : (n : Note) (f : Frame) (fs : List Frame) → OneOf (2 ∷ 3 ∷ 4 ∷ 5 ∷ 6 ∷ 7 ∷ 8 ∷ 9 ∷ 10 ∷ 11 ∷ 12 ∷ []) (tagOf note.the-type n) → framesAfter n f fs ≡ fs
+frames-still Nothing f fs o = refl
+frames-still Route f fs o = refl
+frames-still Base f fs o = refl
+frames-still Parent f fs o = refl
+frames-still Left f fs o = refl
+frames-still Right f fs o = refl
+frames-still Found f fs o = refl
+frames-still Neighbour f fs o = refl
+frames-still Owned f fs o = refl
+frames-still Helped f fs o = refl
+frames-still Topmost f fs o = refl
+frames-still Grandparent f fs o = refl
+frames-still Other f fs o = refl
+frames-still Opened f fs o = absurd (omega (arith, one-below 13 13 (2 ∷ 3 ∷ 4 ∷ 5 ∷ 6 ∷ 7 ∷ 8 ∷ 9 ∷ 10 ∷ 11 ∷ 12 ∷ []) refl o))
+
+-- what is written below 60 shows no store
+shown-still : (b : Bool) (w : Write) (j : ℕ) → shownAfter j (written b w) ≡ j
+shown-still false w j = refl
+shown-still true Write.Quiet j = refl
+shown-still true (Write.Mark r l) j = refl
+shown-still true (Write.Settle m v) j = refl
+shown-still true (Write.Invalid r) j = refl
+shown-still true (Write.Swing v x) j = refl
+shown-still true (Write.Base v x k p c m) j = refl
+shown-still true (Write.Fork v x l r k y) j = refl
+shown-still true (Write.Commit m x p n g o) j = refl
 
 -- x, y and e are what record k of the file has
 abbrev pub Reads : List ℕ → ℕ → ℕ → ℕ → ℕ → Type 0
 Reads file k x y e = (x ≡ recordAt file k .first) × ((y ≡ recordAt file k .second) × (e ≡ recordAt file k .extra))
 
+last-of : (file : List ℕ) (k : ℕ) → recordAt file k .last ≡ lastAction file
+unfolding recordAt
+last-of file k = refl
+
+last-few : (file : List ℕ) → lastAction file ≤ 6
+unfolding ite
+last-few file = by (eqb (version file) 1)
+  where
+    by : (v : Bool) → ite v 5 6 ≤ 6
+    by true = omega arith
+    by false = omega arith
+
+-- a query's start goes the way of the others
+abbrev pub joint : ℕ → ℕ
+joint zero = 0
+joint (suc zero) = 1
+joint (suc (suc zero)) = 1
+joint (suc (suc (suc m))) = suc (suc (suc m))
+
+joint-step : (m : ℕ) → joint m ≡ 0 → m ≡ 0
+joint-step zero e = refl
+joint-step (suc zero) e = absurd (omega arith)
+joint-step (suc (suc zero)) e = absurd (omega arith)
+joint-step (suc (suc (suc m))) e = absurd (omega arith)
+
+joint-start : (m : ℕ) → joint m ≡ 1 → (m ≡ 1) ⊎ (m ≡ 2)
+joint-start zero e = absurd (omega arith)
+joint-start (suc zero) e = inl refl
+joint-start (suc (suc zero)) e = inr refl
+joint-start (suc (suc (suc m))) e = absurd (omega arith)
+
+joint-over : (m : ℕ) → 2 < joint m → m ≡ joint m
+joint-over zero h = refl
+joint-over (suc zero) h = refl
+joint-over (suc (suc zero)) h = absurd (omega arith)
+joint-over (suc (suc (suc m))) h = refl
+
+pub joint-same : (m : ℕ) → (m ≡ 2 → ⊥) → m ≡ joint m
+joint-same zero h = refl
+joint-same (suc zero) h = refl
+joint-same (suc (suc zero)) h = absurd (h refl)
+joint-same (suc (suc (suc m))) h = refl
+
 -- the loop at record k, which is x, y, e: a is what it asks of its thread. The code reads that as `seen`, where the record names one of
 -- the four, whatever `end` it would read past the table's end
-pub record Asking (file : List ℕ) (k x y e : ℕ) (n : Shapes) (l : List ℕ) (threads : List Thread) (root used finished at : ℕ) (first buffer : List ℕ) (a : ℕ) (end : Thread) : Type 0 where
+pub record Asking (file : List ℕ) (k x y e : ℕ) (n : Shapes) (l : List ℕ) (s : Stores) (threads : List Notes) (counts : List ℕ) (h : ℕ → Frame) (root used shown finished at : ℕ) (first buffer : List ℕ) (a : ℕ) (end : Notes) : Type 0 where
   pub four : length threads ≡ 4
+  pub each : length counts ≡ 4
   pub reads : Reads file k x y e
-  pub stands : Stands n l (held threads) (stand root used 0 k finished at) first buffer (after file k)
-  pub asks : a ≡ asked x y e (seen threads x end .place)
+  pub stands : Stands n l s (threadsOf threads counts h) (stand root used shown 0 k finished at) first buffer (after file k)
+  pub asks : a ≡ joint (asked (lastAction file) x y e (seen threads x end .place))
 
-module _ {file : List ℕ} {k x y e : ℕ} {n : Shapes} {l : List ℕ} {threads : List Thread} {root used finished at : ℕ} {first buffer : List ℕ} {a : ℕ} {end : Thread} (q : Asking file k x y e n l threads root used finished at first buffer a end) where
-  -- the bench that the loop stands for
-  abbrev here : Bench
-  here = bench (store (full n (q .stands .deep)) root used) (held threads)
+module _ {file : List ℕ} {k x y e : ℕ} {n : Shapes} {l : List ℕ} {s : Stores} {threads : List Notes} {counts : List ℕ} {h : ℕ → Frame} {root used shown finished at : ℕ} {first buffer : List ℕ} {a : ℕ} {end : Notes} (q : Asking file k x y e n l s threads counts h root used shown finished at first buffer a end) where
+  -- the thread's number, its frames, and the bench that the loop stands for
+  abbrev pub here : Bench
+  here = bench (store (full n (q .stands .deep)) root used s shown) (threadsOf threads counts h)
 
-  one-on : after file (k + 1) ≡ advanceBy file (after file k) (x / 16) (recordStep (after file k .bench) x y e)
+  abbrev pub own-frames : List Frame
+  own-frames = framesOf h (x / 16 % 4) (getD counts (x / 16 % 4) 0)
+
+  -- its thread
+  pub own : threadsOf threads counts h (x / 16 % 4) ≡ thread (seen threads x end) own-frames
+  own = at-own threads counts h (x / 16 % 4) end (omega (arith, q .four))
+
+  one-on : after file (k + 1) ≡ advanceBy file (after file k) (x / 16) (recordStep (after file k .bench) (lastAction file) x y e)
   unfolding after
-  one-on = rw (add-one, q .reads .0, q .reads .1 .0, q .reads .1 .1) (unrefused file (after file k) (recordAt file k) (sym (q .stands .refusal)))
+  one-on = rw (add-one, q .reads .0, q .reads .1 .0, q .reads .1 .1, ← last-of file k) (unrefused file (after file k) (recordAt file k) (sym (q .stands .refusal)))
 
-  -- it is carried out, and leaves its thread th, the table n', the depths, the root and the numbers used; or it is refused
-  carried-on : {n' : Shapes} {l' : List ℕ} {deep' : Rows} {root' used' finished' at' : ℕ} {buffer' : List ℕ} (th : Thread) (w : Row)
-      → recordStep here x y e ≡ carried (bench (store (full n' deep') root' used') (upd (held threads) (x / 16 % 4) th)) w
+  -- what the code relies on: each thread has at most four frames
+  pub few : (u : ℕ) → getD counts u 0 ≤ 4
+  few u = few-fits file k u h (getD counts u 0) (sym (ap (λ (b : Bench). b .threads u .frames) (q .stands .bench)))
+
+  -- it is carried out: its thread is th then, of the table `threads'`
+  pub carried-on : {n' : Shapes} {l' : List ℕ} {s' : Stores} {threads' : ℕ → Thread} {deep' : Rows} {root' used' shown' finished' at' : ℕ} {buffer' : List ℕ} (th : Thread) (w : Row)
+      → threads' ≡ upd (threadsOf threads counts h) (x / 16 % 4) th
+      → recordStep here (lastAction file) x y e ≡ carried (bench (store (full n' deep') root' used' s' shown') (upd (threadsOf threads counts h) (x / 16 % 4) th)) w
       → (length l' ≡ 16384 → rows l' ≡ deep')
-      → finished' ≡ rowCount w + finished → page buffer' at' ≡ putAll (page buffer at) (rowBytes file (x / 16) (held threads (x / 16 % 4)) w)
-      → Stands n' l' (held (set threads (x / 16 % 4) th)) (stand root' used' 0 (k + 1) finished' at') first buffer' (after file (k + 1))
-  carried-on {n'} {l'} {deep'} th w f g m ro =
+      → finished' ≡ rowCount w + finished → page buffer' at' ≡ putAll (page buffer at) (rowBytes file (x / 16 % 4) (thread (seen threads x end) own-frames) w)
+      → Stands n' l' s' threads' (stand root' used' shown' 0 (k + 1) finished' at') first buffer' (after file (k + 1))
+  carried-on {n'} {l'} {s'} {threads'} {deep'} th w t f g m ro =
       let p : Progress = after file k in
-      let done : recordStep (p .bench) x y e ≡ carried _ w = rw (q .stands .bench) at f in
-      let own : x / 16 % 4 ≡ x / 16 = omega (arith, named (p .bench) x y e done) in
-      let at-own : held threads (x / 16 % 4) ≡ p .bench .threads (x / 16) = ap (held threads) own ∙ ap (λ (b : Bench). b .threads (x / 16)) (q .stands .bench) in
+      let done : recordStep (p .bench) (lastAction file) x y e ≡ carried _ w = rw (q .stands .bench) at f in
+      let mine : x / 16 % 4 ≡ x / 16 = omega (arith, named (p .bench) (lastAction file) x y e done) in
+      let at-mine : thread (seen threads x end) own-frames ≡ p .bench .threads (x / 16) = sym own ∙ (ap (threadsOf threads counts h) mine ∙ ap (λ (b : Bench). b .threads (x / 16)) (q .stands .bench)) in
       rw (one-on, done)
       (record {
         deep = deep';
-        bench = ap (bench (store _ _ _)) (put threads (x / 16 % 4) th (omega (arith, q .four)));
+        bench = ap (bench (store _ _ _ _ _)) t;
         depths = g;
         refusal = refl;
         done = omega (arith, q .stands .done);
         finished = rw (m, q .stands .finished);
-        rows = ro ∙ rw (at-own, q .stands .rows, ← putAll-append);
+        rows = ro ∙ (ap (λ (i : ℕ). putAll (page buffer at) (rowBytes file i (thread (seen threads x end) own-frames) w)) mine ∙ (ap (λ (v : Thread). putAll (page buffer at) (rowBytes file (x / 16) v w)) at-mine ∙ rw (q .stands .rows, ← putAll-append)));
       })
 
-  refused-at : (m : ℕ) → recordStep here x y e ≡ refused m → Stands n l (held threads) (stand root used m k finished at) first buffer (after file (k + 1))
+  -- or it is refused
+  pub refused-at : (m : ℕ) → recordStep here (lastAction file) x y e ≡ refused m → Stands n l s (threadsOf threads counts h) (stand root used shown m k finished at) first buffer (after file (k + 1))
   refused-at m f =
-      let done : recordStep (after file k .bench) x y e ≡ refused m = rw (q .stands .bench) at f in
+      let done : recordStep (after file k .bench) (lastAction file) x y e ≡ refused m = rw (q .stands .bench) at f in
       rw (one-on, done)
       (record { deep = q .stands .deep; bench = q .stands .bench; depths = q .stands .depths; refusal = refl; done = q .stands .done; finished = q .stands .finished; rows = q .stands .rows })
 
+  pub next-bench : {b : Bench} {w : Row} → recordStep here (lastAction file) x y e ≡ carried b w → after file (k + 1) .bench ≡ b
+  next-bench f = ap (λ (p : Progress). p .bench) (one-on ∙ ap (advanceBy file (after file k) (x / 16)) (ap (λ (b : Bench). recordStep b (lastAction file) x y e) (sym (q .stands .bench)) ∙ f))
+
   -- what it asks decides
-  own : held threads (x / 16 % 4) ≡ seen threads x end
-  own = within threads (x / 16 % 4) end (omega (arith, q .four))
+  abbrev pub wants : ℕ
+  wants = asked (lastAction file) x y e (seen threads x end .place)
 
-  asked-on : recordStep here x y e ≡ answered a here (x / 16 % 4) (x % 16) y e
-  asked-on = asked-so _ (x / 16 % 4) x y e (λ small. omega arith) ∙ rw (own, ← q .asks)
+  pub asked-on : {m : ℕ} → wants ≡ m → recordStep here (lastAction file) x y e ≡ answered m here (x / 16 % 4) (x % 16) y e
+  asked-on f = asked-so here (x / 16 % 4) (lastAction file) x y e (last-few file) (λ small. omega arith)
+      ∙ ap (λ (m : ℕ). answered m here (x / 16 % 4) (x % 16) y e) (ap (λ (t : Thread). asked (lastAction file) x y e (t .place)) own ∙ f)
 
-  -- a start
-  pub start-on : {v : Thread} → a ≡ 1 → v ≡ begun (actionOf (x % 16)) y e 1 → Stands n l (held (set threads (x / 16 % 4) v)) (stand root used 0 (k + 1) finished at) first buffer (after file (k + 1))
+  pub wants-step : a ≡ 0 → wants ≡ 0
+  wants-step z = joint-step wants (sym (q .asks) ∙ z)
+
+  -- a start is a query's by its action
+  pub wants-start : a ≡ 1 → (x % 16 ≡ 6 → ⊥) → wants ≡ 1
+  wants-start z o = ⊎-elim (λ f. f) (λ f. absurd (o (query-action (lastAction file) x y e (seen threads x end .place) f))) (joint-start wants (sym (q .asks) ∙ z))
+
+  pub wants-query : a ≡ 1 → x % 16 ≡ 6 → wants ≡ 2
+  unfolding starting ite
+  wants-query z o = ⊎-elim (λ f. absurd (clash (rw (eq-eqb (x % 16) 6 o) at (start-begun (lastAction file) x y e (seen threads x end .place) f)))) (λ f. f) (joint-start wants (sym (q .asks) ∙ z))
+    where
+      clash : {b c : Action} → begun b y e 60 ≡ begun c y e 1 → ⊥
+      clash f = let z : _≡_ {A = ℕ} 60 1 = ap (λ (t : Thread). t .place) f in omega arith
+
+  -- the table with the notes v for its thread, and c frames, or as many as before
+  pub table-with : {h' : ℕ → Frame} (v : Notes) (c : ℕ) → ((u j : ℕ) → j ≤ 4 → (u ≡ x / 16 % 4 → ⊥) → framesOf h' u j ≡ framesOf h u j)
+      → threadsOf (set threads (x / 16 % 4) v) (set counts (x / 16 % 4) c) h' ≡ upd (threadsOf threads counts h) (x / 16 % 4) (thread v (framesOf h' (x / 16 % 4) c))
+  table-with {h'} v c o = put threads counts h h' (x / 16 % 4) v (omega (arith, q .four)) few o c (omega (arith, q .each))
+
+  pub table-noted : {h' : ℕ → Frame} (v : Notes) → ((u j : ℕ) → j ≤ 4 → (u ≡ x / 16 % 4 → ⊥) → framesOf h' u j ≡ framesOf h u j)
+      → threadsOf (set threads (x / 16 % 4) v) counts h' ≡ upd (threadsOf threads counts h) (x / 16 % 4) (thread v (framesOf h' (x / 16 % 4) (getD counts (x / 16 % 4) 0)))
+  table-noted {h'} v o = put-notes threads counts h h' (x / 16 % 4) v (omega (arith, q .four)) few o
+
+  -- a start that is no query's
+  pub start-on : {v : Notes} → a ≡ 1 → (x % 16 ≡ 6 → ⊥) → thread v [] ≡ starting (x % 16) y e
+      → Stands n l s (threadsOf (set threads (x / 16 % 4) v) (set counts (x / 16 % 4) 0) h) (stand root used shown 0 (k + 1) finished at) first buffer (after file (k + 1))
   unfolding putAll
-  start-on {v} z f = carried-on v noRow (rw z at asked-on ∙ rw f) (q .stands .depths) (omega arith) refl
+  start-on {v} z o f =
+      let begins : thread v [] ≡ begun (actionOf (x % 16)) y e 1 = f ∙ start-begun (lastAction file) x y e (seen threads x end .place) (wants-start z o) in
+      carried-on (thread v []) noRow (table-with v 0 (λ _ _ _ _. refl)) (asked-on (wants-start z o) ∙ rw begins) (q .stands .depths) (omega arith) refl
 
   -- a refusal
-  refused-by : (m : ℕ) → (m ≡ 0 → ⊥) → (m ≡ 1 → ⊥) → (b : Bench) (t c : ℕ) → answered m b t c y e ≡ refused m
-  refused-by zero z o b t c = absurd (z refl)
-  refused-by (suc zero) z o b t c = absurd (o refl)
-  refused-by (suc (suc m)) z o b t c = refl
+  refused-by : (m : ℕ) → 2 < m → (b : Bench) (t c : ℕ) → answered m b t c y e ≡ refused m
+  refused-by zero z b t c = absurd (omega arith)
+  refused-by (suc zero) z b t c = absurd (omega arith)
+  refused-by (suc (suc zero)) z b t c = absurd (omega arith)
+  refused-by (suc (suc (suc m))) z b t c = refl
 
-  pub refused-on : (a ≡ 0 → ⊥) → (a ≡ 1 → ⊥) → Stands n l (held threads) (stand root used a k finished at) first buffer (after file (k + 1))
-  refused-on z o = refused-at a (asked-on ∙ refused-by a z o _ _ _)
+  pub refused-on : 2 < a → Stands n l s (threadsOf threads counts h) (stand root used shown a k finished at) first buffer (after file (k + 1))
+  refused-on z = refused-at a (asked-on (joint-over wants (omega (arith, q .asks)) ∙ sym (q .asks)) ∙ refused-by a z _ _ _)
 
-  -- a step, which decides d
-  module _ (z : a ≡ 0) (d : Decision) (i : turnOf (seen threads x end) d ≡ step (placeOf (seen threads x end .place)) (sight n root used) (seen threads x end)) where
-    turn-by : {m : ℕ} → d .what ≡ m → turnOf (seen threads x end) d ≡ turnBy m (noted (d .note) (d .place) (d .value) (seen threads x end)) (written (d .writes) (d .effect)) (d .answer)
-    turn-by f = ap (λ (m : ℕ). turnBy m (noted (d .note) (d .place) (d .value) (seen threads x end)) (written (d .writes) (d .effect)) (d .answer)) f
+  -- a step below 60, which decides d
+  module _ (z : a ≡ 0) (d : Decision) (low : seen threads x end .place < 60) (i : Decides (seen threads x end) d (step (placeOf (seen threads x end .place)) (sight n root used s shown))) where
+    abbrev effect : Effect
+    effect = written (d .writes) (d .effect)
 
-    taken-on : {v : Turn} → turnOf (seen threads x end) d ≡ v → recordStep here x y e ≡ taken here (x / 16 % 4) v
-    taken-on f = rw z at asked-on ∙ rw (own, ← i, f)
+    steps-on : {r : Result} → outcome here (x / 16 % 4) (seen threads x end) own-frames d own i ≡ r → recordStep here (lastAction file) x y e ≡ r
+    steps-on f = asked-on (wants-step z) ∙ f
+
+    -- the frame that it puts on top, where it does
+    abbrev top : Frame
+    top = topAfter (step (placeOf (seen threads x end .place)) (sight n root used s shown) (thread (seen threads x end) own-frames))
 
     -- numbers have run out
-    full-by : (m : ℕ) (v : Thread) (f : Effect) (b : Answer) → 1 < m → turnBy m v f b ≡ Full
-    full-by zero v f b h = absurd (omega arith)
-    full-by (suc zero) v f b h = absurd (omega arith)
-    full-by (suc (suc m)) v f b h = refl
+    pub full-on : d .what ≡ 2 → Stands n l s (threadsOf threads counts h) (stand root used shown 13 k finished at) first buffer (after file (k + 1))
+    full-on o = refused-at 13 (steps-on (runs-out here (x / 16 % 4) (seen threads x end) own-frames d own i o))
 
-    pub full-on : 1 < d .what → Stands n l (held threads) (stand root used 13 k finished at) first buffer (after file (k + 1))
-    unfolding taken
-    full-on h = refused-at 13 (taken-on (full-by (d .what) _ _ _ h))
+    -- where it opens a frame there is room: its thread has one more after it
+    pub opens-one : d .what ≡ 0 → d .note ≡ Opened → after file (k + 1) .bench .threads (x / 16 % 4) .frames ≡ top ∷ own-frames
+    opens-one o f = ap (λ (w : Bench). w .threads (x / 16 % 4) .frames) (next-bench (steps-on (goes-on here (x / 16 % 4) (seen threads x end) own-frames d own i o (opened-noted d f)))) ∙ rw (eq-eqb (x / 16 % 4) (x / 16 % 4) refl, f)
+
+    pub opens-few : d .what ≡ 0 → d .note ≡ Opened → getD counts (x / 16 % 4) 0 < 4
+    opens-few o f =
+        let t : ℕ = x / 16 % 4 in
+        omega (arith, subst (λ (fs : List Frame). length fs ≤ 4) (opens-one o f) (reach-frames file (k + 1) t), frames-count h t (getD counts t 0))
 
     -- it goes on or finishes; what it writes leaves n', root', used' and the depths l'
-    module _ {n' : Shapes} (l' : List ℕ) {root' used' : ℕ} (w : Applied n root used (written (d .writes) (d .effect)) n' root') (g : length l' ≡ 16384 → rows l' ≡ deepened (written (d .writes) (d .effect)) n (q .stands .deep)) (u : used' ≡ usedAfter used (written (d .writes) (d .effect))) where
-      stored-on : store (full n' (deepened (written (d .writes) (d .effect)) n (q .stands .deep))) root' used' ≡ perform (written (d .writes) (d .effect)) (store (full n (q .stands .deep)) root used)
-      stored-on = rw u (w .stored (q .stands .deep))
+    module _ {n' : Shapes} (l' : List ℕ) {root' used' : ℕ} (w : Applied n root used s shown effect n' root' s) (g : length l' ≡ 16384 → rows l' ≡ deepened effect n (q .stands .deep)) (u : used' ≡ usedAfter used effect) where
+      stored-on : store (full n' (deepened effect n (q .stands .deep))) root' used' s shown ≡ perform effect (here .store)
+      stored-on = ap (λ (j : ℕ). store (full n' (deepened effect n (q .stands .deep))) root' used' s j) (sym (shown-still (d .writes) (d .effect) shown)) ∙ rw u (w .stored (q .stands .deep))
 
-      pub noted-on : {v : Thread} → d .what ≡ 0 → v ≡ noted (d .note) (d .place) (d .value) (seen threads x end) → Stands n' l' (held (set threads (x / 16 % 4) v)) (stand root' used' 0 (k + 1) finished at) first buffer (after file (k + 1))
-      unfolding taken putAll
-      noted-on {v} o f = carried-on v noRow (taken-on (turn-by o) ∙ rw (← stored-on, f)) g (omega arith) refl
+      -- it notes v, and its frames stay
+      pub noted-on : {v : Notes} → d .what ≡ 0 → Noted (seen threads x end) v (d .note) (d .place) (d .value) → framesAfter (d .note) top own-frames ≡ own-frames
+          → Stands n' l' s (threadsOf (set threads (x / 16 % 4) v) counts h) (stand root' used' shown 0 (k + 1) finished at) first buffer (after file (k + 1))
+      unfolding putAll
+      noted-on {v} o f j = carried-on (thread v own-frames) noRow (table-noted v (λ _ _ _ _. refl))
+          (steps-on (goes-on here (x / 16 % 4) (seen threads x end) own-frames d own i o f ∙ rw (← stored-on, j))) g (omega arith) refl
 
       -- in two stores: the place, then the note
-      pub noted-twice : (v : Thread) {t : Thread} → d .what ≡ 0 → t ≡ noted (d .note) (d .place) (d .value) (seen threads x end) → Stands n' l' (held (set (set threads (x / 16 % 4) v) (x / 16 % 4) t)) (stand root' used' 0 (k + 1) finished at) first buffer (after file (k + 1))
-      noted-twice v o f = rw set-set (noted-on o f)
+      pub noted-twice : (v : Notes) {t : Notes} → d .what ≡ 0 → Noted (seen threads x end) t (d .note) (d .place) (d .value) → framesAfter (d .note) top own-frames ≡ own-frames
+          → Stands n' l' s (threadsOf (set (set threads (x / 16 % 4) v) (x / 16 % 4) t) counts h) (stand root' used' shown 0 (k + 1) finished at) first buffer (after file (k + 1))
+      noted-twice v o f j = rw set-set (noted-on o f j)
+
+      -- with a new frame, for the range base that it has reached: nothing is written, so the base is as it was
+      base-still : d .what ≡ 0 → d .note ≡ Opened → helping (n' (seen threads x end .base)) ≡ top
+      base-still o f =
+          let m : ℕ = seen threads x end .base in
+          let c : (effect ≡ Quiet) × (top ≡ helping (n m)) = opened (sight n root used s shown) (seen threads x end) low d i own-frames o f in
+          let kept : store (full n' (deepened effect n (q .stands .deep))) root' used' s shown ≡ here .store = stored-on ∙ ap (λ (v : Effect). perform v (here .store)) (c .0) in
+          ap (λ (t : Store). newFrame (t .nodes m .lower) (t .nodes m .upper) (To (t .nodes m .store))) kept ∙ sym (c .1)
+
+      pub opened-on : {v : Notes} {h' : ℕ → Frame} → d .what ≡ 0 → d .note ≡ Opened → Noted (seen threads x end) v (d .note) (d .place) (d .value)
+          → Opens h h' (x / 16 % 4) (getD counts (x / 16 % 4) 0) (helping (n' (seen threads x end .base)))
+          → Stands n' l' s (threadsOf (set threads (x / 16 % 4) v) (set counts (x / 16 % 4) (getD counts (x / 16 % 4) 0 + 1)) h') (stand root' used' shown 0 (k + 1) finished at) first buffer (after file (k + 1))
+      unfolding putAll
+      opened-on {v} {h'} o f j p =
+          let more : framesOf h' (x / 16 % 4) (getD counts (x / 16 % 4) 0 + 1) ≡ framesAfter (d .note) top own-frames = rw (f, add-one) (p .frames ∙ ap (λ (c : Frame). c ∷ own-frames) (base-still o f)) in
+          carried-on _ noRow (table-with v (getD counts (x / 16 % 4) 0 + 1) (p .others))
+          (steps-on (goes-on here (x / 16 % 4) (seen threads x end) own-frames d own i o j ∙ rw (← stored-on, ← more))) g (omega arith) refl
+
+      -- back, where its frames lead
+      pub back-on : {v : Notes} {h' : ℕ → Frame} {p : ℕ} → 2 < d .what → Noted (seen threads x end) v Nothing p 0 → Backs h h' (x / 16 % 4) (getD counts (x / 16 % 4) 0) p
+          → Stands n' l' s (threadsOf (set threads (x / 16 % 4) v) counts h') (stand root' used' shown 0 (k + 1) finished at) first buffer (after file (k + 1))
+      unfolding putAll
+      back-on {v} {h'} o f b = carried-on (thread v (framesOf h' (x / 16 % 4) (getD counts (x / 16 % 4) 0))) noRow (table-noted v (b .others))
+          (steps-on (goes-back here (x / 16 % 4) (seen threads x end) own-frames d own i o f (b .turn effect (thread (seen threads x end) own-frames)) ∙ rw (← stored-on))) g (omega arith) refl
 
       -- with a row: from version 2 on the depths are lent whole, and the depth is read in them after what is written
-      finds : d .what ≡ 1 → Finding (Finishes (written (d .writes) (d .effect)) (d .answer))
-      finds o = subst (λ (t : Turn). Finding t) (sym i ∙ turn-by o) (finding _ _ (placeOf (seen threads x end .place)))
-
-      pub said-on : {v : Thread} {finished' at' : ℕ} {buffer' : List ℕ} (m : ℕ) → d .what ≡ 1 → v ≡ idle → finished' ≡ 1 + finished → m ≡ version file → ((version file ≡ 1 → ⊥) → length l' ≡ 16384)
-          → page buffer' at' ≡ putAll (page buffer at) (rowOf m (x / 16) (seen threads x end) (d .answer) (depthBy (d .answer) (rows l') (seen threads x end .station)))
-          → Stands n' l' (held (set threads (x / 16 % 4) v)) (stand root' used' 0 (k + 1) finished' at') first buffer' (after file (k + 1))
-      unfolding taken
+      pub said-on : {v : Notes} {finished' at' : ℕ} {buffer' : List ℕ} (m : ℕ) → d .what ≡ 1 → thread v [] ≡ idle → finished' ≡ 1 + finished → m ≡ version file → ((version file ≡ 1 → ⊥) → length l' ≡ 16384)
+          → page buffer' at' ≡ putAll (page buffer at) (rowOf m (x / 16 % 4) (seen threads x end) (d .answer) (depthBy (d .answer) (rows l') (seen threads x end .station)))
+          → Stands n' l' s (threadsOf (set threads (x / 16 % 4) v) (set counts (x / 16 % 4) 0) h) (stand root' used' shown 0 (k + 1) finished' at') first buffer' (after file (k + 1))
       said-on {v} m o f j vs len ro =
           let deep : Rows = q .stands .deep in
           let found : (version file ≡ 1 → ⊥) → depthBy (d .answer) (rows l') (seen threads x end .station) ≡ depthIn (d .answer) (full n deep) (seen threads x end .station) =
-          λ z. ap (λ (r : Rows). depthBy (d .answer) r (seen threads x end .station)) (g (len z)) ∙ found-after (d .answer) (written (d .writes) (d .effect)) n deep (seen threads x end .station) (finds o) in
-          carried-on v (row (shown (d .answer)) (depthIn (d .answer) (full n deep) (seen threads x end .station)) 0) (taken-on (turn-by o) ∙ rw (← stored-on, f, own)) g j
-          (ro ∙ (ap (putAll (page buffer at)) (row-as file m (x / 16) (seen threads x end) (d .answer) _ _ vs found) ∙ rw own))
+          λ z. ap (λ (r : Rows). depthBy (d .answer) r (seen threads x end .station)) (g (len z)) ∙ depth-still (sight n root used s shown) (seen threads x end) low d i own-frames n deep (seen threads x end .station) o in
+          carried-on (thread v []) (row (shownAs (d .answer)) (depthIn (d .answer) (full n deep) (seen threads x end .station)) 0) (table-with v 0 (λ _ _ _ _. refl))
+          (steps-on (finishes here (x / 16 % 4) (seen threads x end) own-frames d own i o ∙ rw (← stored-on, f))) g j
+          (ro ∙ ap (putAll (page buffer at)) (row-as file m (x / 16 % 4) (seen threads x end) own-frames (d .answer) _ _ vs found))
+
+-- a thread without frames goes back to 1
+pub back-none : (h : ℕ → Frame) (t d : ℕ) → d ≡ 0 → Backs h h t d 1
+back-none h t d z = record { turn = λ e th. rw z; others = λ _ _ _ _. refl }
 
 -- the depths after a step, where they are lent
-pub deeper : {n n' : Shapes} {l l' : List ℕ} {threads : ℕ → Thread} {s : Standing} {first buffer : List ℕ} {p : Progress} {e : Effect} {root used r : ℕ} (h : Stands n l threads s first buffer p) → Enacted n l root used e n' l' r → length l' ≡ length l → length l' ≡ 16384 → rows l' ≡ deepened e n (h .deep)
+pub deeper : {n n' : Shapes} {l l' : List ℕ} {s s' : Stores} {threads : ℕ → Thread} {t : Standing} {first buffer : List ℕ} {p : Progress} {e : Effect} {root used shown r : ℕ} (h : Stands n l s threads t first buffer p) → Enacted n l root used s shown e n' l' r s' → length l' ≡ length l → length l' ≡ 16384 → rows l' ≡ deepened e n (h .deep)
 deeper {n} {l = l} {l' = l'} {e = e} h o same z = let w : length l ≡ 16384 = sym same ∙ z in o .depths .rows w ∙ ap (deepened e n) (h .depths w)
-
--- ---- all records
-pub none-yet : (file first : List ℕ) {n : Shapes} {l : List ℕ} {th : Thread} → n ≡ (λ _. shape emptyBase) → (length l ≡ 16384 → rows l ≡ (λ _ _. 0)) → th ≡ idle
-    → Stands n l (held (replicate 4 th)) (stand 0 1 0 0 0 0) first first (after file 0)
-unfolding after putAll
-none-yet file first e b g = record {
-  deep = λ _ _. 0;
-  bench = rw (e, g) (ap (λ (f : ℕ → Thread). bench (store (λ _. emptyBase) 0 1) f) (fun-ext (idles 4)));
-  depths = b;
-  refusal = refl;
-  done = refl;
-  finished = refl;
-  rows = refl;
-}
-
--- a standing does not say which threads it stands over
-pub all-done : (file : List ℕ) (k count : ℕ) {n : Shapes} {l : List ℕ} {threads : ℕ → Thread} {s : Standing} {first buffer : List ℕ} → after file k ≡ after file count → Stands n l threads s first buffer (after file k) → Carried file count n l s first buffer
-all-done file k count {n} {l} {threads} e h = let same : threads ≡ after file count .bench .threads = ap (λ (b : Bench). b .threads) (h .bench) ∙ ap (λ (p : Progress). p .bench .threads) e in rw (same, e) at h
-
--- a record that is refused ends them
-still : (file : List ℕ) (p : Progress) (r : Rec) → (p .refusal ≡ 0 → ⊥) → advance file p r ≡ p
-unfolding advance ite
-still file p r z = rw (ne-eqb (p .refusal) 0 z)
-
-onward : (file : List ℕ) (m : ℕ) → after file (suc m) ≡ advance file (after file m) (recordAt file m)
-unfolding after
-onward file m = refl
-
-stays : (file : List ℕ) (k j m : ℕ) → m ≡ k + j → (after file k .refusal ≡ 0 → ⊥) → after file m ≡ after file k
-stays file k zero m e z = let same : m ≡ k = omega arith in ap (after file) same
-stays file k (suc j) m e z =
-    let next : m ≡ suc (k + j) = omega arith in
-    ap (after file) next ∙ (onward file (k + j) ∙ (ap (λ (p : Progress). advance file p (recordAt file (k + j))) (stays file k j (k + j) refl z) ∙ still file (after file k) _ z))
-
-ended-early : (file : List ℕ) (k count : ℕ) {n : Shapes} {l : List ℕ} {threads : ℕ → Thread} {s : Standing} {first buffer : List ℕ} → k ≤ count → (s .refusal ≡ 0 → ⊥) → Stands n l threads s first buffer (after file k) → after file k ≡ after file count
-ended-early file k count i z h = let sum : count ≡ k + (count - k) = omega arith in sym (stays file k (count - k) count sum (λ e. z (h .refusal ∙ e)))
-
--- the refused record was the last
-pub stopped : (file : List ℕ) (k count : ℕ) {n : Shapes} {l : List ℕ} {threads : ℕ → Thread} {s : Standing} {first buffer : List ℕ} → k < count → (s .refusal ≡ 0 → ⊥) → Stands n l threads s first buffer (after file (k + 1)) → Carried file count n l s first buffer
-stopped file k count i z h = all-done file (k + 1) count (ended-early file (k + 1) count (omega arith) z h) h

@@ -1,19 +1,21 @@
--- How the code holds a run in progress: the bench by its node table, its root, the numbers used and its threads, the depths where they
--- are lent; the rows in a page of the lent buffer.
+-- How the code holds a run in progress: the bench by its node table, its root, the numbers used, its stores and its threads, the depths where
+-- they are lent; the rows in a page of the lent buffer.
 use Prim.Native.Nat.{ℕ}
 use mathlib.Core.Path.{_≡_}
 use mathlib.Core.List.{List, [], _∷_}
 use lib.ListN.{length}
 use Rattle.buffer.specs.Page.{page, putAll}
 use Rattle.depths.specs.Rows.{Rows, rows, full}
-use Rattle.definitions.specs.Nodes.{Shapes}
+use Rattle.definitions.specs.Nodes.{Shapes, Stores}
+use Rattle.definitions.specs.Threads.{Thread}
 use Rattle.definitions.specs.Bench.{bench, store}
 use Rattle.definitions.specs.Answers.{shown}
 use Rattle.definitions.specs.Records.{row}
 use Rattle.definitions.specs.Versions.{version}
 use Rattle.definitions.specs.Run.{Progress, rowBytes, after}
 use Rattle.definitions.specs.declared.Answer.{Answer}
-use Rattle.definitions.specs.declared.Thread.{Thread}
+use Rattle.steps.specs.declared.Notes.{Notes}
+use Rattle.steps.specs.Decision.{thread}
 use Rattle.run.specs.declared.Standing.{Standing}
 
 -- the depths that the run of a file is lent, 0 at first: none in version 1, else all of them
@@ -22,25 +24,38 @@ pub record Lent (file l : List ℕ) : Type 0 where
   pub none : version file ≡ 1 → length l ≡ 0
   pub whole : (version file ≡ 1 → ⊥) → length l ≡ 16384
 
+-- n results, and as many arrays of each kind as j
+pub record Sizes (n j : ℕ) (r : List ℕ) (s b m w : List (List ℕ)) : Type 0 where
+  pub results : length r ≡ n
+  pub stacks : length s ≡ j
+  pub backups : length b ≡ j
+  pub notes : length m ≡ j
+  pub words : length w ≡ j
+
+-- the memory for queries that it is lent: the stores' results, and the arrays that hold frames, each alone in a list. None in version 1
+pub record Spare (file results : List ℕ) (stacks backups notes words : List (List ℕ)) : Type 0 where
+  pub none : version file ≡ 1 → Sizes 0 0 results stacks backups notes words
+  pub whole : (version file ≡ 1 → ⊥) → Sizes 256 1 results stacks backups notes words
+
 -- ---- a row
 
 -- its bytes in a file of version v: of a file, they depend on its version alone
-abbrev pub rowOf : ℕ → ℕ → Thread → Answer → ℕ → List ℕ
-rowOf v t th a d = rowBytes (v ∷ []) t th (row (shown a) d 0)
+abbrev pub rowOf : ℕ → ℕ → Notes → Answer → ℕ → List ℕ
+rowOf v t th a d = rowBytes (v ∷ []) t (thread th []) (row (shown a) d 0)
 
 -- ---- a run
 
--- the standing s over the nodes t, the lent depths l and the threads, with the rows written into `buffer`, is the progress p whose rows
--- began in `blank`; `deep` are the bench's depths
-pub record Stands (t : Shapes) (l : List ℕ) (threads : ℕ → Thread) (s : Standing) (blank buffer : List ℕ) (p : Progress) : Type 0 where
+-- the standing s over the nodes t, the lent depths l, the stores k and the threads, with the rows written into `buffer`, is the progress p
+-- whose rows began in `blank`; `deep` are the bench's depths
+pub record Stands (t : Shapes) (l : List ℕ) (k : Stores) (threads : ℕ → Thread) (s : Standing) (blank buffer : List ℕ) (p : Progress) : Type 0 where
   pub deep : Rows
-  pub bench : bench (store (full t deep) (s .root) (s .used)) threads ≡ p .bench
+  pub bench : bench (store (full t deep) (s .root) (s .used) k (s .shown)) threads ≡ p .bench
   pub depths : length l ≡ 16384 → rows l ≡ deep
   pub refusal : s .refusal ≡ p .refusal
   pub done : s .done ≡ p .done
   pub finished : s .finished ≡ p .finished
   pub rows : page buffer (s .at) ≡ putAll (page blank 0) (p .rows)
 
--- the first k records of the file have been carried out; the threads are then those of the definition
-abbrev pub Carried : List ℕ → ℕ → Shapes → List ℕ → Standing → List ℕ → List ℕ → Type 0
-Carried file k t l s blank buffer = Stands t l (after file k .bench .threads) s blank buffer (after file k)
+-- the first n records of the file have been carried out; the threads are then those of the definition
+abbrev pub Carried : List ℕ → ℕ → Shapes → List ℕ → Stores → Standing → List ℕ → List ℕ → Type 0
+Carried file n t l k s blank buffer = Stands t l k (after file n .bench .threads) s blank buffer (after file n)

@@ -6,29 +6,34 @@ ghost use lib.Dec.{eqb};
 ghost use lib.ListN.{length};
 ghost use Rattle.container.specs.Choice.{ite};
 ghost use Rattle.nodes.specs.Cells.{table};
+ghost use Rattle.nodes.specs.Stores.{stores};
 ghost use Rattle.depths.specs.Rows.{rows as depthRows};
 ghost use Rattle.machine.specs.Enacted.{depthBy};
 ghost use Rattle.schedule.specs.Proper.{Proper};
 ghost use Rattle.buffer.specs.Page.{page, putAll};
 ghost use Rattle.definitions.specs.Nodes.{shape, emptyBase};
+ghost use Rattle.definitions.specs.declared.Shared.the-variants.{Unset};
 ghost use Rattle.definitions.specs.Answers.{answerNumber};
 ghost use Rattle.definitions.specs.Records.{actionNumber};
 ghost use Rattle.definitions.specs.Schedule.{countOf};
 ghost use Rattle.definitions.specs.Versions.{version, by, width};
 ghost use Rattle.definitions.specs.Run.{ended, reportOf, overlay, widerRow, runRefusal, runReport, runBuffer};
-ghost use Rattle.run.specs.Standing.{Lent, rowOf, Carried};
+ghost use Rattle.run.specs.Standing.{Lent, Spare, rowOf, Carried};
 use definitions::Action;
 use definitions::Answer;
 use definitions::Report;
-use definitions::Thread;
 use schedule::Record;
 use steps::Note;
+use steps::Notes;
 use steps::search;
+
+pub mod query; // a step at a place from 60 on, and the row of a query
 
 // Where a run stands, its threads apart. `at` is where the next row goes.
 pub struct Standing {
     pub root: u8,
     pub used: u16,
+    pub shown: u16,
     pub refusal: u8,
     pub done: usize,
     pub finished: usize,
@@ -45,6 +50,7 @@ pub fn action_number(a: Action) -> u8
         Action::Remove => 3,
         Action::Split => 4,
         Action::Join => 5,
+        Action::Query => 6,
     }
 }
 
@@ -80,7 +86,7 @@ pub fn put_row(
     at: usize,
     v: u8,
     t: u8,
-    th: Thread,
+    th: Notes,
     answer: Answer,
     depths: &[u16],
 ) -> usize
@@ -99,22 +105,32 @@ pub fn put_row(
 
 // All records of a file that is not refused, from a fresh bench; the first one refused ends them. A thread's record changes where it
 // lies; what decides a step gets a copy, made once the place is known, so that only the notes it reads are loaded. The first two bytes
-// of a record are read as in version 1; a version that has more reads it again, whole, so that version 1 pays nothing for it.
+// of a record are read as in version 1; a version that has more reads it again, whole, so that version 1 pays nothing for it. `frames`
+// has how many frames each thread has; the arrays that hold them may hold anything at first. Version 1 has no frame and no result of a
+// store, so it is lent no memory for them.
 pub fn carry_out(
-    cells: &mut [u8; 4096],
+    cells: &mut [u8; 5120],
     sets: &mut [u64; 256],
     depths: &mut [u16],
+    flags: &mut [u8; 256],
+    results: &mut [u64],
+    stacks: &mut [[u8; 1408]],
+    backups: &mut [[u8; 1408]],
+    notes: &mut [[u8; 128]],
+    words: &mut [[u64; 64]],
     schedule: &[u8],
     rows: &mut [u8],
 ) -> Standing
-    requires { ⌜ Proper (now schedule) × ((table (now cells) (now sets) ≡ (λ _. shape emptyBase)) × Lent (now schedule) (now depths)) ⌝ }
-    ensures { λ r. ⌜ Carried (now (schedule .entry)) (countOf (now (schedule .entry))) (table (now (cells .exit)) (now (sets .exit))) (now (depths .exit)) r (now (rows .entry)) (now (rows .exit)) ⌝ }
+    requires { ⌜ Proper (now schedule) × ((table (now cells) (now sets) ≡ (λ _. shape emptyBase)) × ((stores (now flags) (now results) ≡ (λ _. Unset)) × (Lent (now schedule) (now depths) × Spare (now schedule) (now results) (now stacks) (now backups) (now notes) (now words)))) ⌝ }
+    ensures { λ r. ⌜ Carried (now (schedule .entry)) (countOf (now (schedule .entry))) (table (now (cells .exit)) (now (sets .exit))) (now (depths .exit)) (stores (now (flags .exit)) (now (results .exit))) r (now (rows .entry)) (now (rows .exit)) ⌝ }
 {
     let v = schedule::version_of(schedule);
-    let idle = definitions::idle_thread();
+    let idle = machine::idle_notes();
     let mut threads = [idle; 4];
+    let mut frames = [0usize; 4];
     let mut root = 0u8;
     let mut used = 1u16;
+    let mut shown = 0u16;
     let mut finished = 0usize;
     let mut at = 0usize;
     let mut from = 3usize;
@@ -128,6 +144,7 @@ pub fn carry_out(
             return Standing {
                 root: root,
                 used: used,
+                shown: shown,
                 refusal: 0,
                 done: k,
                 finished: finished,
@@ -138,6 +155,7 @@ pub fn carry_out(
         let t = (x / 16 % 4) as usize;
         let place = threads[t].place;
         let mut extra = 0u16;
+        let mut first = x;
         if v != 1 {
             let whole = schedule::read(schedule, from, v);
             let wide = whole.found;
@@ -145,6 +163,7 @@ pub fn carry_out(
                 return Standing {
                     root: root,
                     used: used,
+                    shown: shown,
                     refusal: 0,
                     done: k,
                     finished: finished,
@@ -153,40 +172,94 @@ pub fn carry_out(
             };
             extra = e;
             after = whole.at;
-            let wrong = machine::ask(x, y, extra, place);
-            if 1 < wrong {
+            let wanted = machine::ask(6, x, y, extra, place);
+            if 2 < wanted {
                 return Standing {
                     root: root,
                     used: used,
-                    refusal: wrong,
+                    shown: shown,
+                    refusal: wanted,
                     done: k,
                     finished: finished,
                     at: at,
                 };
             }
+            // a query's start goes on as a lookup's
+            if wanted == 2 {
+                first = x - 5;
+            }
         }
-        let asked = machine::ask(x, y, 0, place);
+        let asked = machine::ask(5, first, y, 0, place);
         match asked {
-            // a step: 1 and 2, 3, 10 to 13, or 15 to 51 decide
+            // a step: 1 and 2, 3, 10 to 13, or 15 to 51 decide; from 60 on it is a query's
             0 => {
                 let d = if place < 3 {
                     let th = threads[t];
-                    search::find(cells, sets, root, used, th)
+                    search::find(cells, sets, flags, results, root, used, shown, th)
                 } else if place < 10 {
                     let th = threads[t];
-                    search::examine(cells, sets, root, used, th)
+                    search::examine(cells, sets, flags, results, root, used, shown, th)
                 } else if place < 14 {
                     let th = threads[t];
-                    steps::decide_swap(cells, sets, root, used, th)
+                    steps::decide_swap(cells, sets, flags, results, root, used, shown, th)
+                } else if place < 60 {
+                    let th = threads[t];
+                    steps::decide_join(cells, sets, flags, results, root, used, shown, th)
                 } else {
                     let th = threads[t];
-                    steps::decide_join(cells, sets, root, used, th)
+                    let depth = frames[t];
+                    let left = query::turn(
+                        cells,
+                        sets,
+                        depths,
+                        flags,
+                        results,
+                        root,
+                        used,
+                        shown,
+                        &mut stacks[0],
+                        &mut backups[0],
+                        &mut notes[0],
+                        &mut words[0],
+                        t,
+                        depth,
+                        th,
+                    );
+                    let what = left.what;
+                    if 1 < what {
+                        return Standing {
+                            root: root,
+                            used: used,
+                            shown: shown,
+                            refusal: what,
+                            done: k,
+                            finished: finished,
+                            at: at,
+                        };
+                    }
+                    root = left.root;
+                    used = left.used;
+                    shown = left.shown;
+                    if what == 0 {
+                        threads[t].place = left.place;
+                        threads[t].base = left.base;
+                        frames[t] = left.frames;
+                    } else {
+                        at = query::put_found(rows, at, v, t as u8, th, left.set);
+                        finished += 1;
+                        threads[t] = idle;
+                        frames[t] = 0;
+                    }
+                    from = after;
+                    k = next;
+                    continue;
                 };
                 let what = d.what;
-                if 1 < what {
+                if what == 2 {
                     return Standing {
                         root: root,
                         used: used,
+                        shown: shown,
                         refusal: 13,
                         done: k,
                         finished: finished,
@@ -206,30 +279,80 @@ pub fn carry_out(
                             threads[t].place = d.place;
                             threads[t].route = d.value;
                         }
+                        // a range base is in the way: its query is helped in a frame of its own
+                        Note::Opened => {
+                            let th = threads[t];
+                            let depth = frames[t];
+                            query::help(
+                                cells,
+                                sets,
+                                &mut stacks[0],
+                                &mut backups[0],
+                                &mut notes[0],
+                                &mut words[0],
+                                t,
+                                depth,
+                                th,
+                            );
+                            threads[t].place = d.place;
+                            frames[t] = depth + 1;
+                        }
                         _ => {
                             let th = threads[t];
                             let noted = machine::note(th, d.place, note, d.value);
                             threads[t] = noted;
                         }
                     }
-                } else {
+                } else if what == 1 {
                     let th = threads[t];
                     let answer = d.answer;
-                    at = put_row(rows, at, v, x / 16, th, answer, depths);
+                    at = put_row(rows, at, v, t as u8, th, answer, depths);
                     finished = finished + 1;
                     threads[t] = idle;
+                    frames[t] = 0;
+                } else {
+                    // back: where its frames lead
+                    let depth = frames[t];
+                    if depth == 0 {
+                        threads[t].place = 1;
+                    } else {
+                        let back = frames::leave(
+                            &mut stacks[0],
+                            &backups[0],
+                            &mut notes[0],
+                            &mut words[0],
+                            t,
+                            depth,
+                        );
+                        threads[t].place = back;
+                    }
                 }
             }
-            // a start
+            // a start; a query's has a frame
             1 => {
                 let begun = machine::begin(x % 16, y, extra);
                 threads[t] = begun;
+                if x % 16 == 6 {
+                    query::start(
+                        &mut stacks[0],
+                        &mut backups[0],
+                        &mut notes[0],
+                        &mut words[0],
+                        t,
+                        y,
+                        extra,
+                    );
+                    frames[t] = 1;
+                } else {
+                    frames[t] = 0;
+                }
             }
             // a refusal
             _ => {
                 return Standing {
                     root: root,
                     used: used,
+                    shown: shown,
                     refusal: asked,
                     done: k,
                     finished: finished,
@@ -243,6 +366,7 @@ pub fn carry_out(
     Standing {
         root: root,
         used: used,
+        shown: shown,
         refusal: 0,
         done: k,
         finished: finished,
@@ -274,14 +398,36 @@ pub fn refusal_of(schedule: &[u8], room: usize) -> u64
     wrong
 }
 
-// Run of a file that is not refused, over the depths that are lent.
-fn report(depths: &mut [u16], schedule: &[u8], rows: &mut [u8]) -> Report
-    requires { ⌜ Proper (now schedule) × (Lent (now schedule) (now depths) × (by (now schedule) 2 7 * countOf (now schedule) ≤ length (now rows))) ⌝ }
+// Run of a file that is not refused, over the memory that is lent.
+fn report(
+    depths: &mut [u16],
+    results: &mut [u64],
+    stacks: &mut [[u8; 1408]],
+    backups: &mut [[u8; 1408]],
+    notes: &mut [[u8; 128]],
+    words: &mut [[u64; 64]],
+    schedule: &[u8],
+    rows: &mut [u8],
+) -> Report
+    requires { ⌜ Proper (now schedule) × (Lent (now schedule) (now depths) × (Spare (now schedule) (now results) (now stacks) (now backups) (now notes) (now words) × (by (now schedule) 2 7 * countOf (now schedule) ≤ length (now rows)))) ⌝ }
     ensures { λ r. ⌜ (r ≡ reportOf (ended (now (schedule .entry)))) × (now (rows .exit) ≡ overlay (ended (now (schedule .entry)) .rows) (now (rows .entry))) ⌝ }
 {
-    let mut cells = [0u8; 4096];
+    let mut cells = [0u8; 5120];
     let mut sets = [0u64; 256];
-    let p = carry_out(&mut cells, &mut sets, depths, schedule, rows);
+    let mut flags = [0u8; 256];
+    let p = carry_out(
+        &mut cells,
+        &mut sets,
+        depths,
+        &mut flags,
+        results,
+        stacks,
+        backups,
+        notes,
+        words,
+        schedule,
+        rows,
+    );
     let set = tree::set_below(&cells, &sets, p.root, 18446744073709551615, 63);
     let stored = tree::stored_below(&cells, &sets, p.root, 18446744073709551615, 63);
     Report {
@@ -294,7 +440,7 @@ fn report(depths: &mut [u16], schedule: &[u8], rows: &mut [u8]) -> Report
     }
 }
 
-// Run: the report, and the rows in the buffer. Version 1 has no use for depths.
+// Run: the report, and the rows in the buffer. Version 1 has no use for depths, nor for a query's memory.
 pub fn run(schedule: &[u8], rows: &mut [u8]) -> Report
     ensures { λ r. ⌜ (r ≡ runReport (now (schedule .entry)) (length (now (rows .entry)))) × (now (rows .exit) ≡ runBuffer (now (schedule .entry)) (now (rows .entry))) ⌝ }
 {
@@ -302,11 +448,39 @@ pub fn run(schedule: &[u8], rows: &mut [u8]) -> Report
     let bad = refusal_of(schedule, room);
     if bad == 0 {
         if schedule[0] == 1 {
-            let mut none = [0u16; 1];
-            return report(&mut none[..0], schedule, rows);
+            let mut depths = [0u16; 0];
+            let mut results = [0u64; 0];
+            let mut stacks = [[0u8; 1408]; 0];
+            let mut backups = [[0u8; 1408]; 0];
+            let mut notes = [[0u8; 128]; 0];
+            let mut words = [[0u64; 64]; 0];
+            return report(
+                &mut depths[..],
+                &mut results[..],
+                &mut stacks[..],
+                &mut backups[..],
+                &mut notes[..],
+                &mut words[..],
+                schedule,
+                rows,
+            );
         }
         let mut depths = [0u16; 16384];
-        return report(&mut depths[..], schedule, rows);
+        let mut results = [0u64; 256];
+        let mut stacks = [[0u8; 1408]; 1];
+        let mut backups = [[0u8; 1408]; 1];
+        let mut notes = [[0u8; 128]; 1];
+        let mut words = [[0u64; 64]; 1];
+        return report(
+            &mut depths[..],
+            &mut results[..],
+            &mut stacks[..],
+            &mut backups[..],
+            &mut notes[..],
+            &mut words[..],
+            schedule,
+            rows,
+        );
     }
     Report {
         refusal: bad,

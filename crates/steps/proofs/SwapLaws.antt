@@ -1,6 +1,7 @@
 -- The cases of the four-step swap and its three kinds, each with the code's own facts as premises. Assumes nothing.
 use mathlib.Core.Path.{_≡_, refl, sym, ap, _∙_}
 use mathlib.Core.Bool.{Bool, true, false, not}
+use mathlib.Core.List.{List}
 use Prim.Native.Nat.{ℕ, zero, suc, _+_, _<_, _≤_}
 use native.Mathlib.Omega.{arith}
 use borrow.Author.Tests.{eq-eqb, ne-eqb, le-leb, lt-leb}
@@ -11,25 +12,27 @@ use Rattle.definitions.specs.declared.Link.the-variants.{Nil, To}
 use Rattle.definitions.specs.declared.Kind.the-variants.{Normal, Neighbour}
 use Rattle.definitions.specs.declared.Node.{Node}
 use Rattle.definitions.specs.declared.Action.{Action}
-use Rattle.definitions.specs.declared.Action.the-variants.{Lookup, Insert, Remove, Split, Join}
+use Rattle.definitions.specs.declared.Action.the-variants.{Lookup, Insert, Remove, Split, Join, Query}
 use Rattle.definitions.specs.declared.Quarter.{Quarter}
 use Rattle.definitions.specs.declared.Quarter.the-variants.{ReadLeft, SwapLeft, ReadRight, SwapRight}
 use Rattle.definitions.specs.declared.Spot.{Spot}
 use Rattle.definitions.specs.declared.Spot.the-variants.{Root, Under}
 use Rattle.definitions.specs.declared.Probe.{Probe}
 use Rattle.definitions.specs.declared.Probe.the-variants.{Hit, Next, Miss}
-use Rattle.definitions.specs.declared.Thread.{Thread}
 use Rattle.definitions.specs.declared.Content.the-variants.{Of, With, Without}
 use Rattle.definitions.specs.declared.Effect.the-variants.{Swing, Base, Fork}
 use Rattle.definitions.specs.declared.Answer.{Answer}
 use Rattle.definitions.specs.declared.Answer.the-variants.{Yes}
-use Rattle.definitions.specs.declared.Turn.{Turn}
-use Rattle.definitions.specs.declared.Turn.the-variants.{Moves, Finishes, Full}
-use Rattle.definitions.specs.Nodes.{Shapes}
+use Rattle.definitions.specs.Nodes.{Shapes, Stores}
+use Rattle.definitions.specs.Threads.{Frame, Turn, Moves, Finishes, Full}
 use Rattle.definitions.specs.Bench.{sight}
 use Rattle.definitions.specs.Places.{quarterOf, quarterNumber, swap, own, found, united, to, toNeighbour}
 use Rattle.definitions.specs.Answers.{said}
 use Rattle.definitions.specs.Steps.{goes, room, probe, replaced, replacedAs, lost, ownBy, foundBy, unitedBy, step}
+use Rattle.steps.specs.declared.Notes.{Notes}
+use Rattle.steps.specs.declared.Decision.{Decision}
+use Rattle.steps.specs.Decision.{thread, Decides}
+use Rattle.steps.proofs.DecideLaws.{onward}
 
 -- ---- a step by its number
 pub quarter-last : (k : ℕ) → (k ≡ 0 → ⊥) → (k ≡ 1 → ⊥) → (k ≡ 2 → ⊥) → SwapRight ≡ quarterOf k
@@ -112,86 +115,89 @@ unfolding ite
 no-room k u o h = rw (lt-leb _ _ h)
 
 -- ---- the comparison of an update's or a split's swap succeeded: m whether the station is held, c the new container
-module _ (v : Spot) (b : Node) (u : ℕ) (th : Thread) where
-  as-replaced : {a : Action} → th .action ≡ a → replacedAs a v b u th ≡ replaced v b u th
+module _ (v : Spot) (b : Node) (u : ℕ) (th : Notes) where
+  as-replaced : (fs : List Frame) {a : Action} → th .action ≡ a → replacedAs a v b u (thread th fs) ≡ replaced v b u (thread th fs)
   unfolding replaced
-  as-replaced e = ap (λ (y : Action). replacedAs y v b u th) (sym e)
+  as-replaced fs e = ap (λ (y : Action). replacedAs y v b u (thread th fs)) (sym e)
 
-  pub replace-lookup : {r : Turn} → th .action ≡ Lookup → r ≡ Full → r ≡ replaced v b u th
-  replace-lookup e q = q ∙ as-replaced e
+  pub replace-lookup : {r : Decision} → th .action ≡ Lookup → Decides th r (λ h. Full) → Decides th r (replaced v b u)
+  replace-lookup e q = onward q (λ fs. as-replaced fs e)
 
-  pub replace-join : {r : Turn} → th .action ≡ Join → r ≡ Full → r ≡ replaced v b u th
-  replace-join e q = q ∙ as-replaced e
+  pub replace-join : {r : Decision} → th .action ≡ Join → Decides th r (λ h. Full) → Decides th r (replaced v b u)
+  replace-join e q = onward q (λ fs. as-replaced fs e)
 
-  pub insert-full : {r : Turn} → th .action ≡ Insert → 255 < u → r ≡ Full → r ≡ replaced v b u th
-  insert-full e h q = q ∙ (no-room 1 u _ (omega arith) ∙ as-replaced e)
+  pub replace-query : {r : Decision} → th .action ≡ Query → Decides th r (λ h. Full) → Decides th r (replaced v b u)
+  replace-query e q = onward q (λ fs. as-replaced fs e)
 
-  pub remove-full : {r : Turn} → th .action ≡ Remove → 255 < u → r ≡ Full → r ≡ replaced v b u th
-  remove-full e h q = q ∙ (no-room 1 u _ (omega arith) ∙ as-replaced e)
+  pub insert-full : {r : Decision} → th .action ≡ Insert → 255 < u → Decides th r (λ h. Full) → Decides th r (replaced v b u)
+  insert-full e h q = onward q (λ fs. no-room 1 u _ (omega arith) ∙ as-replaced fs e)
 
-  pub split-full : {r : Turn} → th .action ≡ Split → 253 < u → r ≡ Full → r ≡ replaced v b u th
-  split-full e h q = q ∙ (no-room 3 u _ (omega arith) ∙ as-replaced e)
+  pub remove-full : {r : Decision} → th .action ≡ Remove → 255 < u → Decides th r (λ h. Full) → Decides th r (replaced v b u)
+  remove-full e h q = onward q (λ fs. no-room 1 u _ (omega arith) ∙ as-replaced fs e)
 
-  pub inserted : {m : Bool} {y : Answer} {r : Turn} → th .action ≡ Insert → u ≤ 255 → m ≡ has (b .container) (th .station) → y ≡ said (not m) → r ≡ Finishes (Base v u Normal (b .parent) (With (th .base) (th .station) (th .extra)) 0) y → r ≡ replaced v b u th
-  inserted e h i y q = q ∙ (rw (y, i) (has-room 1 u _ (omega arith) ∙ as-replaced e))
+  pub split-full : {r : Decision} → th .action ≡ Split → 253 < u → Decides th r (λ h. Full) → Decides th r (replaced v b u)
+  split-full e h q = onward q (λ fs. no-room 3 u _ (omega arith) ∙ as-replaced fs e)
 
-  pub removed : {m : Bool} {y : Answer} {r : Turn} → th .action ≡ Remove → u ≤ 255 → m ≡ has (b .container) (th .station) → y ≡ said m → r ≡ Finishes (Base v u Normal (b .parent) (Without (th .base) (th .station)) 0) y → r ≡ replaced v b u th
-  removed e h i y q = q ∙ (rw (y, i) (has-room 1 u _ (omega arith) ∙ as-replaced e))
+  pub inserted : {m : Bool} {y : Answer} {r : Decision} → th .action ≡ Insert → u ≤ 255 → m ≡ has (b .container) (th .station) → y ≡ said (not m) → Decides th r (λ h. Finishes (Base v u Normal (b .parent) (With (th .base) (th .station) (th .extra)) 0) y) → Decides th r (replaced v b u)
+  inserted e h i y q = onward q (λ fs. rw (y, i) (has-room 1 u _ (omega arith) ∙ as-replaced fs e))
 
-  pub parted : {k : ℕ} {r : Turn} → th .action ≡ Split → u ≤ 253 → k ≡ splitKey (b .container) → r ≡ Finishes (Fork v u (u + 1) (u + 2) k (th .base)) Yes → r ≡ replaced v b u th
-  parted e h k q = q ∙ (rw k (has-room 3 u _ (omega arith) ∙ as-replaced e))
+  pub removed : {m : Bool} {y : Answer} {r : Decision} → th .action ≡ Remove → u ≤ 255 → m ≡ has (b .container) (th .station) → y ≡ said m → Decides th r (λ h. Finishes (Base v u Normal (b .parent) (Without (th .base) (th .station)) 0) y) → Decides th r (replaced v b u)
+  removed e h i y q = onward q (λ fs. rw (y, i) (has-room 1 u _ (omega arith) ∙ as-replaced fs e))
+
+  pub parted : {k : ℕ} {r : Decision} → th .action ≡ Split → u ≤ 253 → k ≡ splitKey (b .container) → Decides th r (λ h. Finishes (Fork v u (u + 1) (u + 2) k (th .base)) Yes) → Decides th r (replaced v b u)
+  parted e h k q = onward q (λ fs. rw k (has-room 3 u _ (omega arith) ∙ as-replaced fs e))
 
 -- ---- 10 to 13: b is the thread's base, w what is seen
-module _ (ns : Shapes) (root u : ℕ) (th : Thread) (q : Quarter) {b : Node} {w : Probe} (e : b ≡ ns (th .base)) (s : w ≡ probe q (b .parent) ns root (th .base)) where
-  as-own : {a : Probe} → w ≡ a → ownBy a b u th ≡ step (swap own q) (sight ns root u) th
+module _ (ns : Shapes) (root u : ℕ) (ks : Stores) (sh : ℕ) (th : Notes) (q : Quarter) {b : Node} {w : Probe} (e : b ≡ ns (th .base)) (s : w ≡ probe q (b .parent) ns root (th .base)) where
+  as-own : (fs : List Frame) {a : Probe} → w ≡ a → ownBy a b u (thread th fs) ≡ step (swap own q) (sight ns root u ks sh) (thread th fs)
   unfolding step
-  as-own d = rw (← d, s, e)
+  as-own fs d = rw (← d, s, e)
 
-  pub own-hit : {v : Spot} {r : Turn} → w ≡ Hit v → r ≡ replaced v b u th → r ≡ step (swap own q) (sight ns root u) th
-  own-hit d i = i ∙ as-own d
+  pub own-hit : {v : Spot} {r : Decision} → w ≡ Hit v → Decides th r (replaced v b u) → Decides th r (step (swap own q) (sight ns root u ks sh))
+  own-hit d i = onward i (λ fs. as-own fs d)
 
-  pub own-next : {k : Quarter} {p : ℕ} {r : Turn} → w ≡ Next k → p ≡ 10 + quarterNumber k → r ≡ goes (to p th) → r ≡ step (swap own q) (sight ns root u) th
-  own-next d i j = j ∙ (rw i (as-own d))
+  pub own-next : {k : Quarter} {p : ℕ} {r : Decision} → w ≡ Next k → p ≡ 10 + quarterNumber k → Decides th r (λ h. goes (to p h)) → Decides th r (step (swap own q) (sight ns root u ks sh))
+  own-next d i j = onward j (λ fs. rw i (as-own fs d))
 
-  pub own-miss : {r : Turn} → w ≡ Miss → r ≡ lost th → r ≡ step (swap own q) (sight ns root u) th
-  own-miss d i = i ∙ as-own d
+  pub own-miss : {r : Decision} → w ≡ Miss → Decides th r lost → Decides th r (step (swap own q) (sight ns root u ks sh))
+  own-miss d i = onward i (λ fs. as-own fs d)
 
 -- ---- 26 to 29: b is the base found
-module _ (ns : Shapes) (root u : ℕ) (th : Thread) (q : Quarter) {b : Node} {w : Probe} (e : b ≡ ns (th .found)) (s : w ≡ probe q (b .parent) ns root (th .found)) where
-  as-found : {a : Probe} → w ≡ a → foundBy a b u th ≡ step (swap found q) (sight ns root u) th
+module _ (ns : Shapes) (root u : ℕ) (ks : Stores) (sh : ℕ) (th : Notes) (q : Quarter) {b : Node} {w : Probe} (e : b ≡ ns (th .found)) (s : w ≡ probe q (b .parent) ns root (th .found)) where
+  as-found : (fs : List Frame) {a : Probe} → w ≡ a → foundBy a b u (thread th fs) ≡ step (swap found q) (sight ns root u ks sh) (thread th fs)
   unfolding step
-  as-found d = rw (← d, s, e)
+  as-found fs d = rw (← d, s, e)
 
-  pub found-full : {v : Spot} {r : Turn} → w ≡ Hit v → 255 < u → r ≡ Full → r ≡ step (swap found q) (sight ns root u) th
-  found-full d h i = i ∙ (no-room 1 u _ (omega arith) ∙ as-found d)
+  pub found-full : {v : Spot} {r : Decision} → w ≡ Hit v → 255 < u → Decides th r (λ h. Full) → Decides th r (step (swap found q) (sight ns root u ks sh))
+  found-full d h i = onward i (λ fs. no-room 1 u _ (omega arith) ∙ as-found fs d)
 
-  pub found-hit : {v : Spot} {r : Turn} → w ≡ Hit v → u ≤ 255 → r ≡ Moves (toNeighbour 30 u th) (Base v u Neighbour (b .parent) (Of (th .found)) (th .main)) → r ≡ step (swap found q) (sight ns root u) th
-  found-hit d h i = i ∙ (has-room 1 u _ (omega arith) ∙ as-found d)
+  pub found-hit : {v : Spot} {r : Decision} → w ≡ Hit v → u ≤ 255 → Decides th r (λ h. Moves (toNeighbour 30 u h) (Base v u Neighbour (b .parent) (Of (th .found)) (th .main))) → Decides th r (step (swap found q) (sight ns root u ks sh))
+  found-hit d h i = onward i (λ fs. has-room 1 u _ (omega arith) ∙ as-found fs d)
 
-  pub found-next : {k : Quarter} {p : ℕ} {r : Turn} → w ≡ Next k → p ≡ 26 + quarterNumber k → r ≡ goes (to p th) → r ≡ step (swap found q) (sight ns root u) th
-  found-next d i j = j ∙ (rw i (as-found d))
+  pub found-next : {k : Quarter} {p : ℕ} {r : Decision} → w ≡ Next k → p ≡ 26 + quarterNumber k → Decides th r (λ h. goes (to p h)) → Decides th r (step (swap found q) (sight ns root u ks sh))
+  found-next d i j = onward j (λ fs. rw i (as-found fs d))
 
-  pub found-miss : {r : Turn} → w ≡ Miss → r ≡ goes (to 38 th) → r ≡ step (swap found q) (sight ns root u) th
-  found-miss d i = i ∙ as-found d
+  pub found-miss : {r : Decision} → w ≡ Miss → Decides th r (λ h. goes (to 38 h)) → Decides th r (step (swap found q) (sight ns root u ks sh))
+  found-miss d i = onward i (λ fs. as-found fs d)
 
 -- ---- 41 to 44: m is the main, b its neighbour
-module _ (ns : Shapes) (root u : ℕ) (th : Thread) (q : Quarter) {m b : Node} {w : Probe} (f : m ≡ ns (th .main)) (e : b ≡ ns (m .neighbour)) (s : w ≡ probe q (b .parent) ns root (m .neighbour)) where
-  as-united : {a : Probe} → w ≡ a → unitedBy a m th ≡ step (swap united q) (sight ns root u) th
+module _ (ns : Shapes) (root u : ℕ) (ks : Stores) (sh : ℕ) (th : Notes) (q : Quarter) {m b : Node} {w : Probe} (f : m ≡ ns (th .main)) (e : b ≡ ns (m .neighbour)) (s : w ≡ probe q (b .parent) ns root (m .neighbour)) where
+  as-united : (fs : List Frame) {a : Probe} → w ≡ a → unitedBy a m (thread th fs) ≡ step (swap united q) (sight ns root u ks sh) (thread th fs)
   unfolding step
-  as-united d = rw (← d, s, e, f)
+  as-united fs d = rw (← d, s, e, f)
 
-  pub united-hit : {v : Spot} {r : Turn} → w ≡ Hit v → r ≡ Moves (to 45 th) (Swing v (m .union)) → r ≡ step (swap united q) (sight ns root u) th
-  united-hit d i = i ∙ as-united d
+  pub united-hit : {v : Spot} {r : Decision} → w ≡ Hit v → Decides th r (λ h. Moves (to 45 h) (Swing v (m .union))) → Decides th r (step (swap united q) (sight ns root u ks sh))
+  united-hit d i = onward i (λ fs. as-united fs d)
 
-  pub united-next : {k : Quarter} {p : ℕ} {r : Turn} → w ≡ Next k → p ≡ 41 + quarterNumber k → r ≡ goes (to p th) → r ≡ step (swap united q) (sight ns root u) th
-  united-next d i j = j ∙ (rw i (as-united d))
+  pub united-next : {k : Quarter} {p : ℕ} {r : Decision} → w ≡ Next k → p ≡ 41 + quarterNumber k → Decides th r (λ h. goes (to p h)) → Decides th r (step (swap united q) (sight ns root u ks sh))
+  united-next d i j = onward j (λ fs. rw i (as-united fs d))
 
-  pub united-miss : {r : Turn} → w ≡ Miss → r ≡ goes (to 45 th) → r ≡ step (swap united q) (sight ns root u) th
-  united-miss d i = i ∙ as-united d
+  pub united-miss : {r : Decision} → w ≡ Miss → Decides th r (λ h. goes (to 45 h)) → Decides th r (step (swap united q) (sight ns root u ks sh))
+  united-miss d i = onward i (λ fs. as-united fs d)
 
 pub ruleset look-cases = (root-hit, root-miss, root-left, root-read, root-right, left-seen, left-unseen, left-hit, left-miss, right-seen, right-unseen, right-hit, right-miss)
 
-pub ruleset replace-cases = (replace-lookup, replace-join, insert-full, remove-full, split-full, inserted, removed, parted)
+pub ruleset replace-cases = (replace-lookup, replace-join, replace-query, insert-full, remove-full, split-full, inserted, removed, parted)
 
 pub ruleset own-cases = (own-hit, own-next, own-miss)
 

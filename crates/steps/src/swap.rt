@@ -2,24 +2,25 @@
 ghost use mathlib.Core.Path.{_≡_};
 ghost use Prim.Native.Nat.{_+_, _<_};
 ghost use Rattle.nodes.specs.Cells.{table};
+ghost use Rattle.nodes.specs.Stores.{stores};
 ghost use Rattle.definitions.specs.Bench.{sight};
 ghost use Rattle.definitions.specs.Places.{quarterOf, quarterNumber, swap, own, found, united};
 ghost use Rattle.definitions.specs.Steps.{probe, replaced, step};
-ghost use Rattle.steps.specs.Decision.{turnOf};
+ghost use Rattle.steps.specs.Decision.{Decides};
 use super::Decision;
-use super::notes;
+use super::Notes;
 use super::search;
+use super::turns;
 use definitions::Action;
 use definitions::Answer;
 use definitions::Content;
-use definitions::Effect;
 use definitions::Kind;
 use definitions::Link;
 use definitions::Node;
 use definitions::Probe;
 use definitions::Quarter;
 use definitions::Spot;
-use definitions::Thread;
+use effects::Write;
 
 // The step by its number from 0.
 pub fn quarter(k: u8) -> Quarter
@@ -35,7 +36,7 @@ pub fn quarter(k: u8) -> Quarter
 
 // The place of a step, counted from the first.
 pub fn place_of(first: u8, q: Quarter) -> u8
-    requires { ⌜ first < 64 ⌝ }
+    requires { ⌜ first < 128 ⌝ }
     ensures { λ r. ⌜ r ≡ first + quarterNumber q ⌝ }
 {
     match q {
@@ -48,7 +49,7 @@ pub fn place_of(first: u8, q: Quarter) -> u8
 
 // One of the four steps for the base x: where it hangs, the next step, or failure.
 pub fn look(
-    cells: &[u8; 4096],
+    cells: &[u8; 5120],
     sets: &[u64; 256],
     root: u8,
     parent: Link,
@@ -107,22 +108,22 @@ pub fn look(
 }
 
 // The comparison of an update's or a split's swap succeeded.
-pub fn replace(spot: Spot, b: Node, used: u16, th: Thread) -> Decision
-    ensures { λ r. ⌜ turnOf th r ≡ replaced spot b used th ⌝ }
+pub fn replace(spot: Spot, b: Node, used: u16, th: Notes) -> Decision
+    ensures { λ r. ⌜ Decides th r (replaced spot b used) ⌝ }
 {
     let action = th.action;
     let parent = b.parent;
     match action {
-        Action::Lookup => notes::full(th),
+        Action::Lookup => turns::full(th),
         Action::Insert => {
             if 255 < used {
-                return notes::full(th);
+                return turns::full(th);
             }
             let held = container::contains(b.container, th.station);
-            let answer = notes::yes_or_no(!held);
-            notes::say_writing(
+            let answer = turns::yes_or_no(!held);
+            turns::say_writing(
                 th,
-                Effect::Base {
+                Write::Base {
                     spot: spot,
                     at: used as u8,
                     kind: Kind::Normal,
@@ -135,13 +136,13 @@ pub fn replace(spot: Spot, b: Node, used: u16, th: Thread) -> Decision
         }
         Action::Remove => {
             if 255 < used {
-                return notes::full(th);
+                return turns::full(th);
             }
             let held = container::contains(b.container, th.station);
-            let answer = notes::yes_or_no(held);
-            notes::say_writing(
+            let answer = turns::yes_or_no(held);
+            turns::say_writing(
                 th,
-                Effect::Base {
+                Write::Base {
                     spot: spot,
                     at: used as u8,
                     kind: Kind::Normal,
@@ -154,13 +155,13 @@ pub fn replace(spot: Spot, b: Node, used: u16, th: Thread) -> Decision
         }
         Action::Split => {
             if 253 < used {
-                return notes::full(th);
+                return turns::full(th);
             }
             let at = used as u8;
             let key = container::split_key(b.container);
-            notes::say_writing(
+            turns::say_writing(
                 th,
-                Effect::Fork {
+                Write::Fork {
                     spot: spot,
                     at: at,
                     left: at + 1,
@@ -171,20 +172,24 @@ pub fn replace(spot: Spot, b: Node, used: u16, th: Thread) -> Decision
                 Answer::Yes,
             )
         }
-        Action::Join => notes::full(th),
+        Action::Join => turns::full(th),
+        Action::Query => turns::full(th),
     }
 }
 
 // 10 to 13: the thread's own base.
 pub fn own(
-    cells: &[u8; 4096],
+    cells: &[u8; 5120],
     sets: &[u64; 256],
+    flags: &[u8; 256],
+    results: &[u64],
     root: u8,
     used: u16,
-    th: Thread,
+    shown: u16,
+    th: Notes,
     q: Quarter,
 ) -> Decision
-    ensures { λ r. ⌜ turnOf th r ≡ step (swap own q) (sight (table (now (cells .entry)) (now (sets .entry))) root used) th ⌝ }
+    ensures { λ r. ⌜ Decides th r (step (swap own q) (sight (table (now (cells .entry)) (now (sets .entry))) root used (stores (now (flags .entry)) (now (results .entry))) shown)) ⌝ }
 {
     let b = nodes::node_at(cells, sets, th.base);
     let parent = b.parent;
@@ -193,7 +198,7 @@ pub fn own(
         Probe::Hit(spot) => replace(spot, b, used, th),
         Probe::Next(r) => {
             let place = place_of(10, r);
-            notes::go(th, place)
+            turns::go(th, place)
         }
         Probe::Miss => search::lose(th),
     }
@@ -201,14 +206,17 @@ pub fn own(
 
 // 26 to 29: the base found, for a new neighbour.
 pub fn found(
-    cells: &[u8; 4096],
+    cells: &[u8; 5120],
     sets: &[u64; 256],
+    flags: &[u8; 256],
+    results: &[u64],
     root: u8,
     used: u16,
-    th: Thread,
+    shown: u16,
+    th: Notes,
     q: Quarter,
 ) -> Decision
-    ensures { λ r. ⌜ turnOf th r ≡ step (swap found q) (sight (table (now (cells .entry)) (now (sets .entry))) root used) th ⌝ }
+    ensures { λ r. ⌜ Decides th r (step (swap found q) (sight (table (now (cells .entry)) (now (sets .entry))) root used (stores (now (flags .entry)) (now (results .entry))) shown)) ⌝ }
 {
     let b = nodes::node_at(cells, sets, th.found);
     let parent = b.parent;
@@ -216,14 +224,14 @@ pub fn found(
     match seen {
         Probe::Hit(spot) => {
             if 255 < used {
-                return notes::full(th);
+                return turns::full(th);
             }
             let at = used as u8;
-            notes::take_neighbour(
+            turns::take_neighbour(
                 th,
                 30,
                 at,
-                Effect::Base {
+                Write::Base {
                     spot: spot,
                     at: at,
                     kind: Kind::Neighbour,
@@ -235,22 +243,25 @@ pub fn found(
         }
         Probe::Next(r) => {
             let place = place_of(26, r);
-            notes::go(th, place)
+            turns::go(th, place)
         }
-        Probe::Miss => { notes::go(th, 38) }
+        Probe::Miss => { turns::go(th, 38) }
     }
 }
 
 // 41 to 44: the neighbour, for the union node.
 pub fn united(
-    cells: &[u8; 4096],
+    cells: &[u8; 5120],
     sets: &[u64; 256],
+    flags: &[u8; 256],
+    results: &[u64],
     root: u8,
     used: u16,
-    th: Thread,
+    shown: u16,
+    th: Notes,
     q: Quarter,
 ) -> Decision
-    ensures { λ r. ⌜ turnOf th r ≡ step (swap united q) (sight (table (now (cells .entry)) (now (sets .entry))) root used) th ⌝ }
+    ensures { λ r. ⌜ Decides th r (step (swap united q) (sight (table (now (cells .entry)) (now (sets .entry))) root used (stores (now (flags .entry)) (now (results .entry))) shown)) ⌝ }
 {
     let m = nodes::node_at(cells, sets, th.main);
     let b = nodes::node_at(cells, sets, m.neighbour);
@@ -258,10 +269,10 @@ pub fn united(
     let seen = look(cells, sets, root, parent, m.neighbour, q);
     match seen {
         Probe::Hit(spot) => {
-            notes::go_writing(
+            turns::go_writing(
                 th,
                 45,
-                Effect::Swing {
+                Write::Swing {
                     spot: spot,
                     to: m.union,
                 },
@@ -269,8 +280,8 @@ pub fn united(
         }
         Probe::Next(r) => {
             let place = place_of(41, r);
-            notes::go(th, place)
+            turns::go(th, place)
         }
-        Probe::Miss => { notes::go(th, 45) }
+        Probe::Miss => { turns::go(th, 45) }
     }
 }

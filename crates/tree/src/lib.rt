@@ -5,7 +5,7 @@ ghost use Rattle.depths.specs.Rows.{rows, full};
 ghost use Rattle.tree.specs.Below.{setBelow, countBelow, depthUnder};
 
 // The stations below node x, whose range is given.
-pub fn set_below(cells: &[u8; 4096], sets: &[u64; 256], x: u8, range: u64, levels: u8) -> u64
+pub fn set_below(cells: &[u8; 5120], sets: &[u64; 256], x: u8, range: u64, levels: u8) -> u64
     ensures { λ r. ⌜ r ≡ setBelow levels (table (now (cells .entry)) (now (sets .entry))) x range ⌝ }
 {
     let n = nodes::node_at(cells, sets, x);
@@ -24,7 +24,7 @@ pub fn set_below(cells: &[u8; 4096], sets: &[u64; 256], x: u8, range: u64, level
 }
 
 // How many stations are below node x, whose range is given: in each base's container, inside the base's range.
-pub fn stored_below(cells: &[u8; 4096], sets: &[u64; 256], x: u8, range: u64, levels: u8) -> u64
+pub fn stored_below(cells: &[u8; 5120], sets: &[u64; 256], x: u8, range: u64, levels: u8) -> u64
     ensures { λ r. ⌜ r ≡ countBelow levels (table (now (cells .entry)) (now (sets .entry))) x range ⌝ }
 {
     let n = nodes::node_at(cells, sets, x);
@@ -45,7 +45,7 @@ pub fn stored_below(cells: &[u8; 4096], sets: &[u64; 256], x: u8, range: u64, le
 
 // The depth of station s where it leads to from node x, with at most so many steps down.
 pub fn depth_under(
-    cells: &[u8; 4096],
+    cells: &[u8; 5120],
     sets: &[u64; 256],
     depths: &[u16],
     x: u8,

@@ -16,3 +16,7 @@ pub mod From0061
 pub mod From0067
 pub mod From0073
 pub mod From0079
+pub mod From0085
+pub mod From0091
+pub mod From0097
+pub mod From0103

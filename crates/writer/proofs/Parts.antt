@@ -23,6 +23,7 @@ use Rattle.writer.specs.Part.{part}
 module _ (p file : List ℕ) (k : ℕ) (head : getD p 0 0 ≡ getD file 0 0) (rest : (i : ℕ) → 3 ≤ i → i < 3 + width file * k → getD p i 0 ≡ getD file i 0) where
   abbrev bytes : List ℕ → Bool → ℕ → Rec
   bytes l v i = record {
+    last = ite v 5 6;
     first = getD l (3 + ite v 2 4 * i) 0;
     second = getD l (4 + ite v 2 4 * i) 0;
     extra = ite v 0 (getD l (5 + ite v 2 4 * i) 0 * 256 + getD l (6 + ite v 2 4 * i) 0);
@@ -44,7 +45,7 @@ module _ (p file : List ℕ) (k : ℕ) (head : getD p 0 0 ≡ getD file 0 0) (re
 
   advance-same : (q : Progress) (r : Rec) → advance p q r ≡ advance file q r
   unfolding advance
-  advance-same q r = ap (λ o. ite (eqb (q .refusal) 0) o q) (by-same q (r .first / 16) (recordStep (q .bench) (r .first) (r .second) (r .extra)))
+  advance-same q r = ap (λ o. ite (eqb (q .refusal) 0) o q) (by-same q (r .first / 16) (recordStep (q .bench) (r .last) (r .first) (r .second) (r .extra)))
 
   pub after-same : (j : ℕ) → j ≤ k → after p j ≡ after file j
   unfolding after

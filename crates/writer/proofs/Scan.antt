@@ -1,12 +1,12 @@
 -- Which records are barred, as the scan finds it, and the bytes that are copied. Assumes nothing.
-use mathlib.Core.Path.{_≡_, sym, ap, _∙_}
-use mathlib.Core.Bool.{Bool, true, false, _&&_}
+use mathlib.Core.Path.{_≡_, refl, sym, ap, _∙_}
+use mathlib.Core.Bool.{Bool, true, false, not, _&&_}
 use mathlib.Core.List.{List}
 use Prim.Native.Nat.{ℕ, _+_, _*_, _/_, _%_, _≤_, _<_}
 use native.Mathlib.Numerals.{add-one}
 use native.Mathlib.Omega.{arith}
-use borrow.Author.Tests.{eq-eqb, ne-eqb, lt-ltb, le-leb, lt-leb}
-use lib.Dec.{eqb, leb}
+use borrow.Author.Tests.{eq-eqb, ne-eqb, le-leb, lt-leb}
+use lib.Dec.{eqb, ltb, leb}
 use lib.ListN.{length, getD, take, set, length-set}
 use lib.Seq.{length-take-le, take-suc, take-suc-set}
 use Rattle.container.specs.Choice.{ite}
@@ -16,29 +16,59 @@ use Rattle.definitions.specs.Profile.{outside, barred}
 use Rattle.profile.specs.Cut.{Cut}
 use Rattle.schedule.specs.Proper.{Proper}
 
--- ---- the first byte of a record: thread t, action a
+-- ---- the first byte of a record: thread t, action a; version v
 
-module _ (t a : ℕ) where
-  pub bars-own : t ≡ 0 → false ≡ leb t 3 && outside t a
-  bars-own e = rw e
+and-off : (x y : Bool) → y ≡ false → x && y ≡ false
+and-off true y e = e
+and-off false y e = refl
 
-  pub bars-high : 3 < t → false ≡ leb t 3 && outside t a
+and-on : (x : Bool) → x && true ≡ x
+and-on true = refl
+and-on false = refl
+
+module _ (v t a : ℕ) where
+  abbrev barring : Bool
+  barring = (leb t 3 && leb a (ite (eqb v 1) 5 6)) && outside t a
+
+  pub bars-low : a < 2 → false ≡ barring
+  bars-low h = sym (and-off (leb t 3 && leb a (ite (eqb v 1) 5 6)) _ (rw (ne-eqb a 6 (λ e. omega arith), lt-leb 2 a h) (and-off (ltb 0 t) false refl)))
+
+  pub bars-high : 3 < t → false ≡ barring
   bars-high h = rw (lt-leb t 3 h)
 
-  module _ (n : t ≡ 0 → ⊥) (h : t ≤ 3) where
-    thread : (b : Bool) → leb 2 a && leb a 5 ≡ b → b ≡ leb t 3 && outside t a
-    thread b e = rw (le-leb t 3 h, lt-ltb 0 t (omega arith), e)
+  module _ (h : t ≤ 3) where
+    -- the last action by the version
+    by-last : (b : Bool) → ((c : Bool) → b ≡ leb a (ite c 5 6) && outside t a) → b ≡ barring
+    by-last b f = rw (le-leb t 3 h) (f (eqb v 1))
 
-    pub bars-low : a < 2 → false ≡ leb t 3 && outside t a
-    bars-low l = thread false (rw (lt-leb 2 a l))
+    pub bars-query : a ≡ 6 → not (eqb v 1) ≡ barring
+    unfolding ite
+    bars-query e = rw (le-leb t 3 h, e) (by (eqb v 1))
+      where
+        by : (c : Bool) → not c ≡ leb 6 (ite c 5 6) && outside t 6
+        by true = refl
+        by false = refl
 
-    pub bars-over : 2 ≤ a → 5 < a → false ≡ leb t 3 && outside t a
-    bars-over l m = thread false (rw (le-leb 2 a l, lt-leb a 5 m))
+    pub bars-over : (a ≡ 6 → ⊥) → 5 < a → false ≡ barring
+    unfolding ite
+    bars-over n m = by-last false by
+      where
+        by : (c : Bool) → false ≡ leb a (ite c 5 6) && outside t a
+        by true = rw (lt-leb a 5 m)
+        by false = rw (lt-leb a 6 (omega arith))
 
-    pub bars-yes : 2 ≤ a → a ≤ 5 → true ≡ leb t 3 && outside t a
-    bars-yes l m = thread true (rw (le-leb 2 a l, le-leb a 5 m))
+    pub bars-rest : 2 ≤ a → a ≤ 5 → ltb 0 t ≡ barring
+    unfolding ite
+    bars-rest l m = by-last (ltb 0 t) by
+      where
+        writes : ltb 0 t ≡ outside t a
+        writes = rw (ne-eqb a 6 (λ e. omega arith), le-leb 2 a l, le-leb a 5 m) (sym (and-on (ltb 0 t)))
 
-pub ruleset bars-cases = (bars-own, bars-high, bars-low, bars-over, bars-yes)
+        by : (c : Bool) → ltb 0 t ≡ leb a (ite c 5 6) && outside t a
+        by true = writes ∙ ap (λ x. x && outside t a) (sym (le-leb a 5 m))
+        by false = writes ∙ ap (λ x. x && outside t a) (sym (le-leb a 6 (omega arith)))
+
+pub ruleset bars-cases = (bars-low, bars-high, bars-query, bars-over, bars-rest)
 
 -- ---- where a record starts
 
@@ -71,7 +101,7 @@ cut-of file e c = rw (← e) c
 
 -- ---- record k, by the byte that it starts with
 
-pub bars-at : (file : List ℕ) (v k : ℕ) {at : ℕ} {b : Bool} → v ≡ version file → at ≡ 3 + ite (eqb v 1) 2 4 * k → b ≡ leb (getD file at 0 / 16) 3 && outside (getD file at 0 / 16) (getD file at 0 % 16) → barred (recordAt file k) ≡ b
+pub bars-at : (file : List ℕ) (v k : ℕ) {at : ℕ} {b : Bool} → v ≡ version file → at ≡ 3 + ite (eqb v 1) 2 4 * k → b ≡ (leb (getD file at 0 / 16) 3 && leb (getD file at 0 % 16) (ite (eqb v 1) 5 6)) && outside (getD file at 0 / 16) (getD file at 0 % 16) → barred (recordAt file k) ≡ b
 unfolding recordAt
 bars-at file v k e f g = sym (g ∙ rw (f, e))
 

@@ -13,25 +13,26 @@ ghost use Rattle.profile.specs.Cut.{Cut};
 ghost use Rattle.writer.specs.Part.{halt};
 use definitions::Report;
 
-// Whether a record with the first byte x is barred: an insert, a remove, a split or a join of threads 1 to 3.
-fn is_barred(x: u8) -> bool
-    ensures { λ r. ⌜ r ≡ leb (x / 16) 3 && outside (x / 16) (x % 16) ⌝ }
+// Whether a record with the first byte x is barred in a file of version v: an insert, a remove, a split or a join of threads
+// 1 to 3, or a range query, which version 1 has not.
+fn is_barred(v: u8, x: u8) -> bool
+    ensures { λ r. ⌜ r ≡ (leb (x / 16) 3 && leb (x % 16) (ite (eqb v 1) 5 6)) && outside (x / 16) (x % 16) ⌝ }
 {
-    let t = x / 16;
-    if t == 0 {
-        return false;
-    }
-    if 3 < t {
-        return false;
-    }
     let a = x % 16;
     if a < 2 {
         return false;
     }
+    let t = x / 16;
+    if 3 < t {
+        return false;
+    }
+    if a == 6 {
+        return v != 1;
+    }
     if 5 < a {
         return false;
     }
-    true
+    0 < t
 }
 
 // Where record k starts in a file of version v.
@@ -51,7 +52,7 @@ fn first_barred(s: &[u8], v: u8, count: usize) -> usize
     while k < count {
         let at = start_of(v, k);
         let x = s[at];
-        let bars = is_barred(x);
+        let bars = is_barred(v, x);
         if bars {
             return k;
         }

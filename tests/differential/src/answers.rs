@@ -1,20 +1,27 @@
 //! The paper's answers rule, checked of the reference: the plain table of depths against rows and tree at every
-//! moment, for both versions (version 1 puts depth 0); the stored rule: the stored count is the number of stations in
+//! moment, for both versions (version 1 puts depth 0), and against the set of a range query at one moment of its span;
+//! the stored rule: the stored count is the number of stations in
 //! the plain table; and the reasons rule: what splits and joins answer is held to the places and to whether they made
 //! their change.
 
+use crate::ranges::Ranges;
 use crate::ways::Ways;
-use reference::{sizes, Bench, Row, Rows, INSERT, JOIN, LOOKUP, REMOVE, SPLIT, STEP, THREADS};
+use reference::{
+    sizes, Bench, Row, Rows, INSERT, JOIN, LOOKUP, RANGE, REMOVE, SPLIT, STEP, THREADS,
+};
 
 /// What the plain table knows of a thread's open operation.
 #[derive(Clone, Default)]
 struct Open {
     action: u8,
     station: u8,
-    depth: u16,
+    /// An insert's depth, a query's upper end.
+    extra: u16,
     stepped: bool,
-    /// What the table said of the station at the moments of its span.
+    /// What the table said of a lookup's station at the moments of its span.
     seen: Vec<Option<u16>>,
+    /// The stations in, cut to a query's ends, at the moments of its span.
+    sets: Vec<u64>,
     /// A split's swap has succeeded, or the stage of a join's main has become a node number.
     made: bool,
 }
@@ -56,16 +63,16 @@ impl Plain {
     fn accept(
         &mut self,
         record: Record,
-        row: Option<(Row, u16)>,
+        row: Option<(Row, u16, u64)>,
         seen: Seen,
-        ways: &mut Ways,
+        (ways, ranges): (&mut Ways, &mut Ranges),
     ) -> Result<(), String> {
         let thread = record.thread();
         if record.action() != STEP {
             self.open[thread] = Some(Open {
                 action: record.action(),
                 station: record.second,
-                depth: record.extra,
+                extra: record.extra,
                 ..Open::default()
             });
             return Ok(());
@@ -77,7 +84,7 @@ impl Plain {
             JOIN => (seen.place, seen.next) == (35, 40),
             _ => false,
         };
-        let Some(([by, action, station, answer], depth)) = row else {
+        let Some(([by, action, station, answer], depth, set)) = row else {
             return Ok(());
         };
         if (usize::from(by), action, station) != (thread, open.action, open.station) {
@@ -85,7 +92,7 @@ impl Plain {
         }
         let was = self.table[usize::from(station)];
         match action {
-            INSERT => self.table[usize::from(station)] = Some(open.depth),
+            INSERT => self.table[usize::from(station)] = Some(open.extra),
             REMOVE => self.table[usize::from(station)] = None,
             _ => {}
         }
@@ -100,11 +107,13 @@ impl Plain {
             (LOOKUP, 0) => depth == 0 && open.seen.contains(&None),
             (SPLIT | JOIN, 1) => depth == 0 && open.made,
             (SPLIT | JOIN, _) => depth == 0 && !open.made && is_reason(action, answer, seen.place),
+            (RANGE, 0 | 1) => depth == 0 && (answer == 1) == (set != 0) && open.sets.contains(&set),
             _ => false,
-        };
+        } && (action == RANGE || set == 0);
         match (action, answer) {
             (LOOKUP, 1) => ways.found(depth, self.table[usize::from(station)]),
-            (INSERT, _) => ways.inserted(was, open.depth),
+            (INSERT, _) => ways.inserted(was, open.extra),
+            (RANGE, _) => ranges.answered(set, &open.sets),
             _ => {}
         }
         holds
@@ -112,16 +121,22 @@ impl Plain {
             .ok_or_else(|| format!("the answer of {row:?} breaks the rule"))
     }
 
-    /// Notes for every lookup under way what is said of its station now.
+    /// Notes for every lookup and every query under way what is said of its stations now.
     fn moment(&mut self) {
         let table = &self.table;
-        let lookups = self.open.iter_mut().flatten();
-        for open in lookups.filter(|open| open.stepped && open.action == LOOKUP) {
-            let now = table[usize::from(open.station)];
-            if open.seen.last() != Some(&now) {
-                open.seen.push(now);
+        for open in self.open.iter_mut().flatten().filter(|open| open.stepped) {
+            if open.action == LOOKUP {
+                note(&mut open.seen, table[usize::from(open.station)]);
+            } else if open.action == RANGE {
+                let stations = u16::from(open.station)..=open.extra;
+                let inside = stations.filter(|&station| table[usize::from(station)].is_some());
+                note(&mut open.sets, inside.fold(0, |set, station| set | 1 << station));
             }
         }
+    }
+
+    fn action(&self, thread: usize) -> u8 {
+        self.open.get(thread).and_then(Option::as_ref).map_or(STEP, |open| open.action)
     }
 
     fn depths(&self) -> usize {
@@ -129,6 +144,12 @@ impl Plain {
         depths.sort_unstable();
         depths.dedup();
         depths.len()
+    }
+}
+
+fn note<T: PartialEq>(seen: &mut Vec<T>, now: T) {
+    if seen.last() != Some(&now) {
+        seen.push(now);
     }
 }
 
@@ -145,7 +166,7 @@ fn is_reason(action: u8, answer: u8, place: u8) -> bool {
 }
 
 /// Checks a schedule's records, whatever its header.
-pub fn check(file: &[u8], ways: &mut Ways) -> Result<(), String> {
+pub fn check(file: &[u8], ways: &mut Ways, ranges: &mut Ranges) -> Result<(), String> {
     let version = file.first().copied().unwrap_or(1);
     ways.header(file);
     let mut bench = Bench::<Rows>::new();
@@ -163,17 +184,26 @@ pub fn check(file: &[u8], ways: &mut Ways) -> Result<(), String> {
         let thread = record.thread().min(THREADS - 1);
         let (place, used, lost) = (bench.place(thread), bench.used(), bench.lost());
         ways.places(&bench);
-        let result = bench.record(record.first, record.second, record.extra);
+        ranges.before(&bench, record, plain.action(record.thread()));
+        let result = if version != 2 && record.thread() < THREADS && record.action() > JOIN {
+            Err(8)
+        } else {
+            bench.record(record.first, record.second, record.extra)
+        };
         match result {
             Ok(row) => {
-                let row = row.map(|row| (row, bench.depth(row)));
+                let row = row.map(|row| (row, bench.depth(row), bench.found(row)));
+                ranges.after(&bench, row.map(|(.., set)| set));
+                if record.action() == RANGE {
+                    ranges.asks(record.second, record.extra);
+                }
                 let seen = Seen {
                     place,
                     next: bench.place(thread),
                     used: bench.used() - used,
                 };
                 plain
-                    .accept(record, row, seen, ways)
+                    .accept(record, row, seen, (ways, ranges))
                     .map_err(|why| format!("record {index}: {why}"))?;
                 plain.moment();
                 if seen.used == 3 || (place, seen.next) == (35, 40) {

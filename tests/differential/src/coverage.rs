@@ -2,11 +2,14 @@
 //! refusal; what must be reached.
 
 use reference::{
-    Counter, ACTIONS, ANSWERS, CHECKS, INSERT, JOIN, PLACES, PLACE_LIMIT, REMOVE, SPLIT,
+    Counter, ACTIONS, ANSWERS, CHECKS, INSERT, JOIN, PLACES, PLACE_LIMIT, RANGE, RANGE_PLACES, REMOVE, SPLIT,
 };
 
-/// The swaps that need new node numbers and can be short of them.
+/// The swaps that need new node numbers and can be short of them; those of version 2, and those that can be short of
+/// stores.
 const FULL_PLACES: [u8; 7] = [10, 11, 13, 25, 27, 29, 35];
+const RANGE_FULL_PLACES: [u8; 5] = [64, 65, 67, 78, 80];
+const NO_STORE_PLACES: [u8; 3] = [64, 65, 67];
 
 /// The answers of splits and joins and the places that they can come from. A split never says 5 or 6, which come
 /// from places of joins alone, neither says 0, and nothing stops joins (7).
@@ -23,7 +26,7 @@ const REASONS: [(u8, u8, &[u8]); 10] = [
     (JOIN, 6, &[38]),
 ];
 
-/// Who checks a base, and where: every case must come up for each.
+/// Who checks a base, and where: every case must come up for each; the last one, a range base, in version 2.
 const CHECKED: [(u8, u8); 5] = [(INSERT, 3), (REMOVE, 3), (SPLIT, 3), (JOIN, 3), (JOIN, 24)];
 
 /// Turns from place to place that matter by themselves: kills, help, lost swaps, aborted joins.
@@ -56,10 +59,11 @@ const TURNS: [(u8, u8, &str); 24] = [
 ];
 
 /// The refusals of Run and, with the text buffer, of List.
-const REFUSALS: std::ops::RangeInclusive<u8> = 1..=14;
+const REFUSALS: std::ops::RangeInclusive<u8> = 1..=16;
 
-/// Refusals that a version's files cannot get: depths come with version 2, and a file of version 2 has no other.
-const NEVER: [&[u8]; 2] = [&[14], &[2]];
+/// Refusals that a version's files cannot get: depths and queries come with version 2, and a file of version 2 has no
+/// other.
+const NEVER: [&[u8]; 2] = [&[14, 15, 16], &[2]];
 
 /// Prints the table of version 1 (0) or 2 (1); hands back what was never reached.
 pub fn report(index: usize, counter: &Counter) -> Vec<String> {
@@ -72,7 +76,9 @@ pub fn report(index: usize, counter: &Counter) -> Vec<String> {
     };
     println!("version {}", index + 1);
     println!("place      reached  led to (0: finished)");
-    for place in PLACES {
+    let deep = index == 1;
+    let ranges = if deep { &RANGE_PLACES[..] } else { &[] };
+    for place in PLACES.into_iter().chain(ranges.iter().copied()) {
         let turns: Vec<String> = (0..PLACE_LIMIT as u8)
             .filter(|&next| counter.turn(place, next) > 0)
             .map(|next| format!("{next}: {}", counter.turn(place, next)))
@@ -85,6 +91,7 @@ pub fn report(index: usize, counter: &Counter) -> Vec<String> {
         let name = ACTIONS[usize::from(action)];
         let counts: Vec<String> = CHECKS
             .iter()
+            .take(if deep { CHECKS.len() } else { CHECKS.len() - 1 })
             .enumerate()
             .map(|(case, word)| {
                 let count = counter.checks_at(action, case, place);
@@ -95,7 +102,7 @@ pub fn report(index: usize, counter: &Counter) -> Vec<String> {
         println!("{name:>7} {place:2} {}", counts.join(", "));
     }
     println!("answer     reached");
-    for (action, name) in (1..).zip(&ACTIONS[1..]) {
+    for (action, name) in (1..).zip(&ACTIONS[1..]).filter(|&(action, _)| deep || action < RANGE) {
         let counts: Vec<String> = (0..ANSWERS as u8)
             .filter(|&answer| counter.answers(action, answer) > 0)
             .map(|answer| format!("{answer}: {}", counter.answers(action, answer)))
@@ -118,11 +125,15 @@ pub fn report(index: usize, counter: &Counter) -> Vec<String> {
             need(counter.refusals(number), format!("refusal {number}"))
         );
     }
-    for place in FULL_PLACES {
-        let what = format!("refusal 13 at place {place}");
+    let numbers = FULL_PLACES.into_iter().map(|place| (13, place));
+    let ranges = RANGE_FULL_PLACES.into_iter().map(|place| (13, place));
+    let stores = NO_STORE_PLACES.into_iter().map(|place| (16, place));
+    let more = ranges.chain(stores).filter(|_| deep);
+    for (number, place) in numbers.chain(more) {
+        let what = format!("refusal {number} at place {place}");
         println!(
             "{what}: {}",
-            need(counter.refusals_at(13, place), what.clone())
+            need(counter.refusals_at(number, place), what.clone())
         );
     }
     for (place, next, meaning) in TURNS {

@@ -1,18 +1,20 @@
 //! Compares the library with the reference and prints what was covered.
 //!
 //! `differential [--files N] [--records N] [--seed S] [--first] [--trace] [--write PATH]`: pairs of files to merge, N
-//! of them at random, and histories; then files for the one-writer run, N / 4 of them at random; then the systematic files of
-//! both versions, then random ones until there are N files and N records carried out. `--first` ends at the first difference and looks for nothing else: no rule is
-//! checked of the reference. `--trace` names each file before it is run; `--write` puts them all into one file, each
-//! after its length in four bytes, the low one first.
+//! of them at random, and histories; then files for the one-writer run, N / 4 of them at random; then the systematic
+//! files of both versions, then random ones until there are N files and N records carried out; and the answers rule of
+//! the library alone. `--first` ends at the first difference and looks for nothing else: no rule is checked of the
+//! reference. `--trace` names each file before it is run; `--write` puts them all into one file, each after its length in
+//! four bytes, the low one first. `differential --outside CASE` says what one case of `outside` comes to.
 
 use differential::compare::Comparer;
 use differential::histories::Histories;
 use differential::merges::Merger;
 use differential::profiles::Profiles;
+use differential::ranges::Ranges;
 use differential::rng::Rng;
 use differential::ways::Ways;
-use differential::{answers, coverage, random, systematic};
+use differential::{answers, coverage, outside, random, systematic};
 use std::fs::File;
 use std::io::{BufWriter, Write};
 use std::path::Path;
@@ -29,6 +31,7 @@ struct Options {
     first: bool,
     trace: bool,
     write: Option<String>,
+    outside: Option<String>,
 }
 
 fn options() -> Result<Options, String> {
@@ -39,11 +42,16 @@ fn options() -> Result<Options, String> {
         first: false,
         trace: false,
         write: None,
+        outside: None,
     };
     let mut words = std::env::args().skip(1);
     while let Some(word) = words.next() {
         if word == "--write" {
             options.write = Some(words.next().ok_or("--write needs a path")?);
+            continue;
+        }
+        if word == "--outside" {
+            options.outside = Some(words.next().ok_or("--outside needs a case")?);
             continue;
         }
         let mut number = || {
@@ -66,6 +74,7 @@ struct Session {
     comparer: Comparer,
     ways: Ways,
     profiles: Profiles,
+    ranges: Ranges,
     histories: Histories,
     rng: Rng,
     first: bool,
@@ -84,7 +93,7 @@ impl Session {
         let mut rule = Ok(());
         if !self.first {
             self.histories.run_of(file, &mut self.rng);
-            rule = answers::check(file, &mut self.ways);
+            rule = answers::check(file, &mut self.ways, &mut self.ranges);
         }
         let compared = rule.and_then(|()| self.comparer.file(file, &mut self.rng));
         self.end(name, file, compared);
@@ -158,10 +167,18 @@ fn main() -> ExitCode {
             return ExitCode::from(2);
         }
     };
+    if let Some(case) = &options.outside {
+        match outside::case(case) {
+            Ok(verdict) => println!("{verdict}"),
+            Err(why) => println!("FAILED: {why}"),
+        }
+        return ExitCode::SUCCESS;
+    }
     let mut session = Session {
         comparer: Comparer::new(random::LONGEST_FILE),
         ways: Ways::default(),
         profiles: Profiles::default(),
+        ranges: Ranges::default(),
         histories: Histories::new(),
         rng: Rng::new(!options.seed),
         first: options.first,
@@ -229,6 +246,15 @@ fn main() -> ExitCode {
         files += 1;
     }
     session.tell_histories();
+    if !options.first {
+        match outside::case("answers") {
+            Ok(verdict) => println!("from outside, {verdict}"),
+            Err(why) => {
+                session.failed += 1;
+                println!("FAILED: from outside, {why}");
+            }
+        }
+    }
     let mut missing = session.ways.report();
     for (index, counter) in session.comparer.counters.iter().enumerate() {
         missing.extend(coverage::report(index, counter));
@@ -236,14 +262,16 @@ fn main() -> ExitCode {
     missing.extend(session.profiles.report(&session.comparer.one_writer));
     missing.extend(merger.missing());
     missing.extend(session.histories.report());
-    for what in &missing {
-        println!("FAILED: {what} was never reached");
+    let mut wrong: Vec<String> = missing.iter().map(|what| format!("{what} was never reached")).collect();
+    wrong.extend(session.ranges.report());
+    for what in &wrong {
+        println!("FAILED: {what}");
     }
     println!(
         "seed {}: {systematic} systematic and {files} random files, {} records",
         options.seed, session.comparer.records
     );
-    let mut failed = session.failed + (missing.len() + session.histories.failures.len()) as u64;
+    let mut failed = session.failed + (wrong.len() + session.histories.failures.len()) as u64;
     if systematic == 0 || files == 0 {
         println!("FAILED: there were no files of one kind");
         failed += 1;

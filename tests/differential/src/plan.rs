@@ -1,10 +1,13 @@
 //! A schedule under construction, of either version, carried out on a reference bench as it grows.
 
-use reference::{sizes, Bench, Rows, CAPACITY, DEEPEST, INSERT, MAX_RECORDS, STEP};
+use reference::{
+    sizes, Bench, Rows, CAPACITY, DEEPEST, INSERT, JOIN, MAX_RECORDS, RANGE, STEP, STORES,
+};
 
-/// No operation alone takes more steps than this: 63 routes down and up, and the places around them.
-const LONGEST_ALONE: usize = 400;
+/// No operation alone takes more steps than this: a query over 63 bases, with what it helps on its way.
+const LONGEST_ALONE: usize = 2000;
 
+#[derive(Clone)]
 pub struct Plan {
     version: u8,
     records: Vec<u8>,
@@ -41,6 +44,16 @@ impl Plan {
         self.place(thread) == 0
     }
 
+    /// The frames of a thread.
+    pub fn frames(&self, thread: u8) -> usize {
+        self.bench.frames(thread.into()).len()
+    }
+
+    /// Stores left.
+    pub fn stores_left(&self) -> usize {
+        STORES - self.bench.shown()
+    }
+
     /// Node numbers left.
     pub fn left(&self) -> usize {
         CAPACITY - self.bench.used()
@@ -57,7 +70,8 @@ impl Plan {
             self.records.extend(extra.to_be_bytes());
         }
         if !self.refused {
-            self.refused = self.bench.record(first, second, extra).is_err();
+            let too_high = self.version != 2 && first & 15 > JOIN;
+            self.refused = too_high || self.bench.record(first, second, extra).is_err();
         }
     }
 
@@ -73,6 +87,11 @@ impl Plan {
             _ => self.inserts.wrapping_mul(7919) % (DEEPEST + 1),
         };
         self.record(16 * thread + action, station, depth);
+    }
+
+    /// The start of a range query.
+    pub fn ask(&mut self, thread: u8, lower: u8, upper: u8) {
+        self.record(16 * thread + RANGE, lower, upper.into());
     }
 
     pub fn step(&mut self, thread: u8) {
@@ -108,6 +127,14 @@ impl Plan {
     pub fn alone(&mut self, thread: u8, action: u8, station: u8) {
         if !self.is_over() && self.is_idle(thread) {
             self.start(thread, action, station);
+            self.finish(thread);
+        }
+    }
+
+    /// A range query of an idle thread with nobody in between.
+    pub fn query(&mut self, thread: u8, lower: u8, upper: u8) {
+        if !self.is_over() && self.is_idle(thread) {
+            self.ask(thread, lower, upper);
             self.finish(thread);
         }
     }

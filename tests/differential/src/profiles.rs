@@ -6,8 +6,8 @@ use crate::random;
 use crate::rng::Rng;
 use crate::systematic::{faulty_files, grow_by};
 use reference::{
-    run, run_one_writer, sizes, Bench, Counter, OneWrites, RunReport, Rows, Silent, ACTIONS, DEEPEST, INSERT, JOIN,
-    LOOKUP, MAX_RECORDS, PLACES, REMOVE, SPLIT, STATIONS, STEP, THREADS,
+    run, run_one_writer, sizes, Bench, Counter, Depths, NoDepths, OneWrites, RunReport, Rows, Silent, ACTIONS, DEEPEST,
+    INSERT, JOIN, LOOKUP, MAX_RECORDS, PLACES, RANGE, REMOVE, SPLIT, STATIONS, STEP, THREADS,
 };
 use std::collections::BTreeMap;
 
@@ -24,7 +24,8 @@ const STEPS_NEAR: usize = 60;
 const NEVER: [u8; 5] = [15, 16, 36, 37, 38];
 
 /// Faults of one record: the first number refuses it, whatever the second says.
-const PAIRS: [(u8, u8); 6] = [(7, BARRED), (8, BARRED), (BARRED, 9), (BARRED, 11), (BARRED, 10), (BARRED, 14)];
+const PAIRS: [(u8, u8); 7] =
+    [(7, BARRED), (8, BARRED), (BARRED, 9), (BARRED, 11), (BARRED, 10), (BARRED, 14), (BARRED, 15)];
 
 /// The pairs that need the last two bytes of a record, which version 1 has not.
 const DEEP_PAIRS: usize = 4;
@@ -60,12 +61,13 @@ impl Profiles {
             for shape in 0..6 {
                 let plan = small(version, shape);
                 emit("one writer", plan.file());
+                let barred = barred(version);
                 for at in 0..=plan.count() {
-                    let (thread, action) = (1 + at as u8 % 3, INSERT + (at / 3) as u8 % 4);
+                    let (thread, action) = barred[at % barred.len()];
                     let intruder = Intruder {
                         first: 16 * thread + action,
                         second: 9,
-                        extra: 0,
+                        extra: if action == RANGE { 20 } else { 0 },
                     };
                     emit("one writer, barred", with(&plan.file(), at, intruder));
                 }
@@ -93,12 +95,13 @@ impl Profiles {
         let first = match rng.below(8) {
             0 => rng.byte(),
             1 => 16 * rng.below(4) as u8 + LOOKUP,
+            2 => 16 * rng.below(4) as u8 + RANGE,
             _ => 16 * (1 + rng.below(3) as u8) + INSERT + rng.below(4) as u8,
         };
         let intruder = Intruder {
             first,
             second: rng.pick(&[0, 9, 63, 64, 255]),
-            extra: rng.pick(&[0, 0, 0, 1, 9999, 10000, 65535]),
+            extra: rng.pick(&[0, 0, 0, 1, 20, 9999, 10000, 65535]),
         };
         ("one writer, intruder", with(&file, rng.below(count + 1), intruder))
     }
@@ -110,8 +113,16 @@ impl Profiles {
         if (1..=5).contains(&report.refusal) {
             return Ok(());
         }
+        if file[0] == 1 {
+            self.promised::<NoDepths>(file, &report)
+        } else {
+            self.promised::<Rows>(file, &report)
+        }
+    }
+
+    fn promised<D: Depths>(&mut self, file: &[u8], report: &RunReport) -> Result<(), String> {
         let version = file[0];
-        let mut bench = Bench::<Rows>::new();
+        let mut bench = Bench::<D>::new();
         // the action and the own steps of each thread's operation
         let mut open = [(STEP, 0); THREADS];
         let count = (file.len() - 3) / sizes(version)[0];
@@ -181,11 +192,12 @@ impl Profiles {
         let start = action != STEP;
         let faults = [
             (7, thread >= THREADS),
-            (8, action > JOIN),
-            (BARRED, thread > 0 && action > LOOKUP),
+            (8, action > if version == 1 { JOIN } else { RANGE }),
+            (BARRED, thread > 0 && action > LOOKUP || action == RANGE),
             (9, start && record.second >= STATIONS),
             (14, action == INSERT && record.extra > DEEPEST),
-            (10, start && action != INSERT && record.extra > 0),
+            (15, action == RANGE && (record.extra >= STATIONS.into() || record.extra < record.second.into())),
+            (10, start && !matches!(action, INSERT | RANGE) && record.extra > 0),
             (11, start && busy && thread < THREADS),
         ];
         for (fault, _) in faults.into_iter().filter(|&(fault, has)| has && fault != number) {
@@ -210,9 +222,7 @@ impl Profiles {
         for version in [1, 2] {
             let pairs = PAIRS.iter().take(if version == 1 { DEEP_PAIRS } else { PAIRS.len() });
             let mut whats: Vec<String> = pairs.map(|&(first, second)| pair(first, second)).collect();
-            for thread in 1..THREADS as u8 {
-                whats.extend((INSERT..=JOIN).map(|action| who(thread, action)));
-            }
+            whats.extend(barred(version).into_iter().map(|(thread, action)| who(thread, action)));
             whats.extend(WHERE.map(String::from));
             for what in whats {
                 let what = format!("version {version}, one writer: {what}");
@@ -267,6 +277,18 @@ fn who(thread: u8, action: u8) -> String {
     format!("{} barred on thread {thread}", ACTIONS[usize::from(action)])
 }
 
+/// Every thread with every action that is barred for it: in version 2 queries for all of them.
+fn barred(version: u8) -> Vec<(u8, u8)> {
+    let mut all = Vec::new();
+    for action in INSERT..=JOIN {
+        all.extend((1..THREADS as u8).map(|thread| (thread, action)));
+    }
+    if version == 2 {
+        all.extend((0..THREADS as u8).map(|thread| (thread, RANGE)));
+    }
+    all
+}
+
 /// What a run gives, and the whole of its row buffer, which is just long enough.
 fn ran(file: &[u8], run: fn(&[u8], &mut [u8]) -> RunReport) -> (RunReport, Vec<u8>) {
     let mut rows = vec![0xA5; sizes(file.first().copied().unwrap_or(1))[2] * MAX_RECORDS];
@@ -299,7 +321,7 @@ fn faulty() -> Vec<Intruder> {
     for first in 0..=255 {
         // all threads up to 4 and the last one, all actions up to 7 and the last one
         if matches!(first >> 4, 0..=4 | 15) && matches!(first & 15, 0..=7 | 15) {
-            for (second, extra) in [(0, 0), (9, 0), (64, 0), (63, 1), (63, 10000), (255, 65535)] {
+            for (second, extra) in [(0, 0), (9, 0), (9, 20), (64, 0), (63, 1), (63, 10000), (255, 65535)] {
                 all.push(Intruder { first, second, extra });
             }
         }

@@ -3,19 +3,24 @@
 use crate::plan::Plan;
 use crate::rng::Rng;
 use crate::systematic;
-use reference::{sizes, INSERT, LOOKUP, MAX_OPERATIONS, MAX_RECORDS, SPLIT};
+use reference::{sizes, INSERT, LOOKUP, MAX_OPERATIONS, MAX_RECORDS, RANGE, SPLIT, THREADS};
 
 /// The longest file that is made: the most records that a header can state, and a few bytes.
 pub const LONGEST_FILE: usize = 3 + 4 * 65535 + 8;
 
-/// How often each action from lookup to join is started.
-const MIXES: [[usize; 5]; 5] = [
-    [1, 1, 1, 1, 1],
-    [1, 6, 2, 6, 8],
-    [1, 2, 1, 8, 14],
-    [4, 8, 8, 1, 1],
-    [96, 1, 1, 1, 1],
+/// How often each action from lookup to range query is started; the last three are for version 2.
+const MIXES: [[usize; 6]; 8] = [
+    [1, 1, 1, 1, 1, 0],
+    [1, 6, 2, 6, 8, 0],
+    [1, 2, 1, 8, 14, 0],
+    [4, 8, 8, 1, 1, 0],
+    [96, 1, 1, 1, 1, 0],
+    [1, 3, 2, 4, 4, 6],
+    [0, 2, 2, 6, 12, 8],
+    [2, 3, 3, 1, 1, 2],
 ];
+/// Those without queries.
+const OLD_MIXES: usize = 5;
 
 /// Who has the next turn.
 #[derive(Clone, Copy)]
@@ -46,7 +51,24 @@ pub fn steady(rng: &mut Rng, version: u8, count: usize, one_writer: bool) -> Vec
         mix: MIXES[0],
         stations: !0,
         spare: 16,
+        spare_stores: THREADS,
         one_writer,
+    };
+    turns(&mut plan, rng, &style, count);
+    plan.file()
+}
+
+/// The same of version 2 with queries while stores last, a third of the operations.
+pub fn steady_ranges(rng: &mut Rng, count: usize) -> Vec<u8> {
+    let mut plan = Plan::new(2);
+    let style = Style {
+        order: Order::Burst,
+        threads: 4,
+        mix: [2, 2, 2, 2, 2, 5],
+        stations: !0,
+        spare: 16,
+        spare_stores: THREADS,
+        one_writer: false,
     };
     turns(&mut plan, rng, &style, count);
     plan.file()
@@ -84,17 +106,19 @@ fn length(rng: &mut Rng) -> usize {
 struct Style {
     order: Order,
     threads: usize,
-    mix: [usize; 5],
+    mix: [usize; 6],
     /// A mask of the stations to work on.
     stations: u64,
     /// Only lookups are started once fewer node numbers are left.
     spare: usize,
-    /// Only thread 0 starts anything else.
+    /// No queries are started once fewer stores are left.
+    spare_stores: usize,
+    /// Only thread 0 starts anything but lookups, and none queries.
     one_writer: bool,
 }
 
 impl Style {
-    fn random(rng: &mut Rng) -> Self {
+    fn random(rng: &mut Rng, version: u8) -> Self {
         let stations = match rng.below(4) {
             0 => !0,
             1 => 0b111 << rng.below(62),
@@ -104,22 +128,40 @@ impl Style {
         Style {
             order: rng.pick(&[Order::Uniform, Order::Burst, Order::Stalls, Order::Stalls]),
             threads: rng.pick(&[1, 2, 3, 4, 4, 4]),
-            mix: rng.pick(&MIXES),
+            mix: rng.pick(if version == 2 { &MIXES } else { &MIXES[..OLD_MIXES] }),
             stations,
             spare: rng.pick(&[0, 16, 16, 100, 200]),
+            spare_stores: rng.pick(&[0, 4, 4, 30]),
             one_writer: false,
         }
     }
 
     fn start(&self, plan: &mut Plan, rng: &mut Rng, thread: u8) {
-        let action = if plan.left() < self.spare || self.one_writer && thread > 0 {
+        let mut action = if plan.left() < self.spare || self.one_writer && thread > 0 {
             LOOKUP
         } else {
             1 + rng.weighted(&self.mix) as u8
         };
+        if action == RANGE && (self.one_writer || plan.stores_left() < self.spare_stores) {
+            action = LOOKUP;
+        }
+        let station = self.station(rng);
+        if action == RANGE {
+            let upper = match rng.below(8) {
+                0 => 63,
+                1 => station,
+                2 => station + rng.below(64 - usize::from(station)) as u8,
+                _ => self.station(rng),
+            };
+            return plan.ask(thread, station.min(upper), station.max(upper));
+        }
+        plan.start(thread, action, station);
+    }
+
+    fn station(&self, rng: &mut Rng) -> u8 {
         let skipped = rng.below(self.stations.count_ones() as usize);
         let rest = (0..skipped).fold(self.stations, |rest, _| rest & (rest - 1));
-        plan.start(thread, action, rest.trailing_zeros() as u8);
+        rest.trailing_zeros() as u8
     }
 }
 
@@ -167,7 +209,7 @@ fn mixed(rng: &mut Rng, version: u8, most: usize) -> Vec<u8> {
         systematic::grow(&mut plan, rng.below(16));
     }
     let count = (plan.count() + length(rng)).min(most);
-    let style = Style::random(rng);
+    let style = Style::random(rng, version);
     turns(&mut plan, rng, &style, count);
     if rng.once_in(8) {
         let (first, second, extra) = fault(rng);
@@ -182,14 +224,14 @@ fn mixed(rng: &mut Rng, version: u8, most: usize) -> Vec<u8> {
 /// A record that is likely to be refused.
 fn fault(rng: &mut Rng) -> (u8, u8, u16) {
     let thread = 16 * rng.below(4) as u8;
-    let extra = rng.pick(&[0, 0, 0, 1, 256, 9999, 10000, 65535]);
+    let extra = rng.pick(&[0, 0, 0, 1, 63, 64, 256, 9999, 10000, 65535]);
     match rng.below(6) {
         0 => (64 + rng.byte() % 192, rng.byte(), extra),
         1 => (thread + 6 + rng.below(10) as u8, rng.byte(), extra),
-        2 => (thread + 1 + rng.below(5) as u8, 64 + rng.byte() % 192, extra),
+        2 => (thread + 1 + rng.below(6) as u8, 64 + rng.byte() % 192, extra),
         3 => (thread, rng.byte(), extra),
-        4 => (thread + rng.below(6) as u8, 0, extra),
-        _ => (thread + rng.below(6) as u8, 0, 0),
+        4 => (thread + rng.below(7) as u8, rng.pick(&[0, 0, 0, 64]), extra),
+        _ => (thread + rng.below(7) as u8, 0, 0),
     }
 }
 
@@ -200,6 +242,8 @@ fn wild(rng: &mut Rng, version: u8) -> Vec<u8> {
         let thread = rng.below(4) as u8;
         if rng.once_in(12) {
             plan.record(rng.byte(), rng.byte(), rng.word() as u16);
+        } else if plan.is_idle(thread) && version == 2 && rng.once_in(5) {
+            plan.ask(thread, rng.byte() % 34, 30 + rng.byte() % 36);
         } else if plan.is_idle(thread) {
             plan.start(thread, 1 + rng.below(5) as u8, rng.byte() % 66);
         } else {
@@ -241,10 +285,11 @@ fn short_of_numbers(rng: &mut Rng, version: u8) -> Vec<u8> {
     while plan.left() > left && !plan.is_over() {
         plan.alone(3, INSERT, rng.pick(&[3, 9, 20, 40]));
     }
+    let mixes = [MIXES[0], MIXES[1], MIXES[2], MIXES[5]];
     let style = Style {
-        mix: rng.pick(&MIXES[..3]),
+        mix: rng.pick(if version == 2 { &mixes } else { &mixes[..3] }),
         spare: 0,
-        ..Style::random(rng)
+        ..Style::random(rng, version)
     };
     let count = plan.count() + rng.below(400);
     turns(&mut plan, rng, &style, count);
@@ -253,7 +298,8 @@ fn short_of_numbers(rng: &mut Rng, version: u8) -> Vec<u8> {
 
 /// A file in which thread 0 alone writes, while others look up.
 pub fn one_writer(rng: &mut Rng) -> Vec<u8> {
-    let mut plan = Plan::new(rng.pick(&[1, 2]));
+    let version = rng.pick(&[1, 2]);
+    let mut plan = Plan::new(version);
     match rng.weighted(&[30, 60, 9, 1]) {
         0 => {}
         1 => systematic::grow_by(&mut plan, 0, rng.below(16)),
@@ -273,7 +319,7 @@ pub fn one_writer(rng: &mut Rng) -> Vec<u8> {
     }
     let style = Style {
         one_writer: true,
-        ..Style::random(rng)
+        ..Style::random(rng, version)
     };
     let count = plan.count() + length(rng);
     turns(&mut plan, rng, &style, count);
@@ -292,7 +338,7 @@ fn deep(rng: &mut Rng, version: u8) -> Vec<u8> {
     }
     let style = Style {
         spare: 3,
-        ..Style::random(rng)
+        ..Style::random(rng, version)
     };
     let count = plan.count() + rng.below(200);
     turns(&mut plan, rng, &style, count);

@@ -2,16 +2,17 @@
 //! places while another thread works, late helpers and killers, node numbers run out, faulty headers.
 
 use crate::plan::Plan;
-use reference::{sizes, INSERT, JOIN, LOOKUP, MAX_RECORDS, REMOVE, SPLIT};
+use crate::range_files;
+use reference::{sizes, INSERT, JOIN, LOOKUP, MAX_RECORDS, RANGE, REMOVE, SPLIT};
 use std::ops::RangeInclusive;
 
 /// The stations and splits that a tree is made of.
-struct Shape {
+pub struct Shape {
     stations: &'static [u8],
     splits: &'static [u8],
 }
 
-const SHAPES: [Shape; 6] = [
+pub const SHAPES: [Shape; 6] = [
     Shape {
         stations: &[3, 9],
         splits: &[],
@@ -39,7 +40,7 @@ const SHAPES: [Shape; 6] = [
 ];
 
 /// Stations in different bases of the larger shapes.
-const STATIONS: [u8; 4] = [3, 9, 20, 40];
+pub const STATIONS: [u8; 4] = [3, 9, 20, 40];
 const ACTIONS: [u8; 5] = [LOOKUP, INSERT, REMOVE, SPLIT, JOIN];
 
 const PREPARING: RangeInclusive<u8> = 26..=35;
@@ -62,7 +63,7 @@ pub fn grow_by(plan: &mut Plan, thread: u8, shape: usize) {
 }
 
 /// A tree with a join of thread 0 stopped at `place`, if it gets there.
-fn stopped_join(version: u8, shape: usize, station: u8, place: u8) -> Option<Plan> {
+pub fn stopped_join(version: u8, shape: usize, station: u8, place: u8) -> Option<Plan> {
     let mut plan = Plan::new(version);
     grow(&mut plan, shape);
     plan.start(0, JOIN, station);
@@ -85,6 +86,9 @@ pub fn each(version: u8, emit: &mut impl FnMut(&'static str, Vec<u8>)) {
     }
     for file in faulty_files(version) {
         emit("fault", file);
+    }
+    if version == 2 {
+        range_files::each(emit);
     }
 }
 
@@ -275,10 +279,14 @@ pub fn faulty_files(version: u8) -> Vec<Vec<u8>> {
 /// Records with a fault or several, and those just inside the bounds: whether the thread is busy, and the record.
 fn faults() -> Vec<(bool, u8, u8, u16)> {
     let mut all = Vec::new();
-    for first in [0x00, 0x01, 0x02, 0x03, 0x04, 0x05, 0x06, 0x0F, 0x30, 0x32, 0x35, 0x36, 0x3F] {
+    for first in [0x00, 0x01, 0x02, 0x03, 0x04, 0x05, 0x06, 0x07, 0x0F, 0x30, 0x32, 0x35, 0x36, 0x37, 0x3F] {
         for second in [0, 1, 5, 63, 64, 255] {
             for extra in [0, 1, 256, 9999, 10000, 65535] {
                 all.extend([false, true].map(|busy| (busy, first, second, extra)));
+            }
+            let upper_ends = [4, 5, 62, 63, 64, 256 + 63].into_iter().filter(|_| first & 15 == RANGE);
+            for upper in upper_ends {
+                all.extend([false, true].map(|busy| (busy, first, second, upper)));
             }
         }
     }

@@ -1,15 +1,15 @@
-//! What depths bring: ways that version 2 files must reach besides those of `coverage`; and the places at which
-//! comparisons fail where several threads write, as they must not where one does (`profiles`).
+//! What version 2 brings: ways that its files must reach besides those of `coverage` and `ranges`; and the places at
+//! which comparisons fail where several threads write, as they must not where one does (`profiles`).
 
 use crate::answers::Record;
-use reference::{Bench, Rows, ACTIONS, DEEPEST, INSERT, JOIN, STEP, THREADS};
+use reference::{Bench, Rows, ACTIONS, DEEPEST, INSERT, JOIN, RANGE, STATIONS, STEP, THREADS};
 use std::collections::BTreeMap;
 
 /// The places at which a comparison can fail where several threads write.
 const LOST: [u8; 21] = [10, 11, 12, 13, 16, 21, 25, 27, 28, 29, 30, 33, 35, 42, 43, 44, 46, 47, 48, 49, 50];
 
 /// Faults of one record by their numbers, the first of which refuses it.
-const PAIRS: [(u8, u8); 13] = [
+const PAIRS: [(u8, u8); 16] = [
     (7, 8),
     (7, 9),
     (7, 14),
@@ -21,11 +21,14 @@ const PAIRS: [(u8, u8); 13] = [
     (9, 10),
     (9, 11),
     (14, 11),
+    (7, 15),
+    (9, 15),
+    (15, 11),
     (10, 11),
     (10, 12),
 ];
 
-const OTHERS: [&str; 22] = [
+const OTHERS: [&str; 25] = [
     "an insert puts a station in at depth 0",
     "an insert puts a station in at depth 9999",
     "an insert replaces another depth",
@@ -48,6 +51,9 @@ const OTHERS: [&str; 22] = [
     "version 1 with the length of version 2",
     "version 3 is refused",
     "version 0 is refused",
+    "an upper end of 64 is refused",
+    "an upper end one below the station is refused",
+    "an upper end whose last byte alone is fine is refused",
 ];
 
 #[derive(Default)]
@@ -153,10 +159,11 @@ impl Ways {
         let start = action != STEP;
         let faults = [
             (7, record.thread() >= THREADS),
-            (8, action > JOIN),
+            (8, action > RANGE),
             (9, start && record.second > 63),
             (14, action == INSERT && record.extra > DEEPEST),
-            (10, if start { action != INSERT && record.extra > 0 } else { record.second > 0 || record.extra > 0 }),
+            (15, action == RANGE && (record.extra >= STATIONS.into() || record.extra < record.second.into())),
+            (10, if start { unused_by(action) && record.extra > 0 } else { record.second > 0 || record.extra > 0 }),
             (11, start && busy && record.thread() < THREADS),
             (12, !start && !busy),
         ];
@@ -176,12 +183,21 @@ impl Ways {
         if number == 14 && record.extra == DEEPEST + 1 {
             self.reach(OTHERS[17]);
         }
+        if number == 15 && record.extra == STATIONS.into() {
+            self.reach(OTHERS[22]);
+        }
+        if number == 15 && record.extra.checked_add(1) == Some(record.second.into()) {
+            self.reach(OTHERS[23]);
+        }
+        if number == 15 && (u16::from(record.second)..u16::from(STATIONS)).contains(&(record.extra % 256)) {
+            self.reach(OTHERS[24]);
+        }
     }
 
     /// Prints what was reached; hands back what was not.
     pub fn report(&self) -> Vec<String> {
         let pairs = PAIRS.into_iter().map(|(first, second)| pair(first, second));
-        let actions = (1..=JOIN).filter(|&action| action != INSERT).map(unused);
+        let actions = (1..=JOIN).filter(|&action| unused_by(action)).map(unused);
         let others = OTHERS.into_iter().map(String::from);
         let mut missing = Vec::new();
         println!("depths                                                      reached");
@@ -197,6 +213,11 @@ impl Ways {
         missing.extend(never.map(|place| format!("a comparison that fails at place {place}")));
         missing
     }
+}
+
+/// Whether the last two bytes of a start of this action must be 0.
+fn unused_by(action: u8) -> bool {
+    !matches!(action, STEP | INSERT | RANGE)
 }
 
 fn pair(first: u8, second: u8) -> String {

@@ -1,2 +1,2 @@
 # src/bench.rs: 24 comes before 8.
-s/if action > JOIN {/if action > JOIN \&\& !W::bars(number, action) {/
+s/if action > D::LAST {/if action > D::LAST \&\& !W::bars(number, action) {/

@@ -1,2 +1,2 @@
 # src/bench.rs: looks at a busy thread before unused bytes.
-s/if action != INSERT && extra != 0 {/if action != INSERT \&\& extra != 0 \&\& place == 0 {/
+s/} else if extra != 0 {/} else if extra != 0 \&\& place == 0 {/

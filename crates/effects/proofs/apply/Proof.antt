@@ -7,32 +7,32 @@ use Rattle.effects.proofs.apply.Tie as tie
 enum-told : tie.Need-enum-told
 enum-told c = search needs
 
-enum-known-e : tie.Need-enum-known-e
-enum-known-e c = search needs
+enum-known-w : tie.Need-enum-known-w
+enum-known-w c = search needs
 
 set-mark-requires : tie.Need-set-mark-requires
 set-mark-requires c κs = search needs
 
-enum-known-e-2 : tie.Need-enum-known-e-2
-enum-known-e-2 c = search needs
+enum-known-w-2 : tie.Need-enum-known-w-2
+enum-known-w-2 c = search needs
 
 set-stage-requires : tie.Need-set-stage-requires
 set-stage-requires c κs = search needs
 
-enum-known-e-3 : tie.Need-enum-known-e-3
-enum-known-e-3 c = search needs
+enum-known-w-3 : tie.Need-enum-known-w-3
+enum-known-w-3 c = search needs
 
 set-valid-requires : tie.Need-set-valid-requires
 set-valid-requires c κs = search needs
 
-enum-known-e-4 : tie.Need-enum-known-e-4
-enum-known-e-4 c = search needs
+enum-known-w-4 : tie.Need-enum-known-w-4
+enum-known-w-4 c = search needs
 
 hang-at-requires : tie.Need-hang-at-requires
 hang-at-requires c κs = search needs
 
-enum-known-e-5 : tie.Need-enum-known-e-5
-enum-known-e-5 c = search needs
+enum-known-w-5 : tie.Need-enum-known-w-5
+enum-known-w-5 c = search needs
 
 set-of-requires : tie.Need-set-of-requires
 set-of-requires c κs = search needs
@@ -43,8 +43,8 @@ put-base-requires c κs = search needs
 hang-at-requires-2 : tie.Need-hang-at-requires-2
 hang-at-requires-2 c κs = search needs
 
-enum-known-e-6 : tie.Need-enum-known-e-6
-enum-known-e-6 c = search needs
+enum-known-w-6 : tie.Need-enum-known-w-6
+enum-known-w-6 c = search needs
 
 node-at-requires : tie.Need-node-at-requires
 node-at-requires c κs = search needs
@@ -55,8 +55,8 @@ put-fork-requires c κs = search needs
 hang-at-requires-3 : tie.Need-hang-at-requires-3
 hang-at-requires-3 c κs = search needs
 
-enum-known-e-7 : tie.Need-enum-known-e-7
-enum-known-e-7 c = search needs
+enum-known-w-7 : tie.Need-enum-known-w-7
+enum-known-w-7 c = search needs
 
 node-at-requires-2 : tie.Need-node-at-requires-2
 node-at-requires-2 c κs = search needs
@@ -92,33 +92,33 @@ returns-6 : tie.Need-returns-6
 returns-6 c = search apply-cases
 
 returns-7 : tie.Need-returns-7
-returns-7 c = apply-fork _ _ _ _ _ _ _ _ _ (c .before .before .before .before .before .before .before .before .before .before .e6 .given .1) (c .before .before .before .before .before .before .node-at .ensures) (c .before .before .before .put-fork .ensures) (c .hang-at3 .ensures)
+returns-7 c = λ k j. apply-fork _ _ _ k j _ _ _ _ _ _ (c .before .before .before .before .before .before .before .before .before .before .w6 .given .1) (c .before .before .before .before .before .before .node-at .ensures) (c .before .before .before .put-fork .ensures) (c .hang-at3 .ensures)
 
 returns-8 : tie.Need-returns-8
-returns-8 c = apply-commit _ _ _ _ _ _ _ _ _ (c .before .before .before .before .before .before .before .before .before .before .before .before .before .before .e7 .given .1) (c .before .before .before .before .before .before .before .before .before .before .node-at2 .ensures) (c .before .before .before .before .before .before .before .node-at3 .ensures) (c .before .before .before .before .before .before .united .ensures) (c .before .before .before .put-base2 .ensures) (c .commit .ensures)
+returns-8 c = λ k j. apply-commit _ _ _ k j _ _ _ _ _ _ (c .before .before .before .before .before .before .before .before .before .before .before .before .before .before .w7 .given .1) (c .before .before .before .before .before .before .before .before .before .before .node-at2 .ensures) (c .before .before .before .before .before .before .before .node-at3 .ensures) (c .before .before .before .before .before .before .united .ensures) (c .before .before .before .put-base2 .ensures) (c .commit .ensures)
 
 pub apply-spec : {M : Type 1} → statement M
 apply-spec =
     tie.close
     (tie.spec
     enum-told
-    enum-known-e
+    enum-known-w
     set-mark-requires
-    enum-known-e-2
+    enum-known-w-2
     set-stage-requires
-    enum-known-e-3
+    enum-known-w-3
     set-valid-requires
-    enum-known-e-4
+    enum-known-w-4
     hang-at-requires
-    enum-known-e-5
+    enum-known-w-5
     set-of-requires
     put-base-requires
     hang-at-requires-2
-    enum-known-e-6
+    enum-known-w-6
     node-at-requires
     put-fork-requires
     hang-at-requires-3
-    enum-known-e-7
+    enum-known-w-7
     node-at-requires-2
     node-at-requires-3
     united-requires

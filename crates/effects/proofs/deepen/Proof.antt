@@ -19,14 +19,14 @@ enum-told-4 c = search needs
 enum-told-5 : tie.Need-enum-told-5
 enum-told-5 c = search needs
 
-enum-known-e : tie.Need-enum-known-e
-enum-known-e c = search needs
+enum-known-w : tie.Need-enum-known-w
+enum-known-w c = search needs
 
 lay-requires : tie.Need-lay-requires
 lay-requires c κs = search needs
 
-enum-known-e-2 : tie.Need-enum-known-e-2
-enum-known-e-2 c = search needs
+enum-known-w-2 : tie.Need-enum-known-w-2
+enum-known-w-2 c = search needs
 
 copy-requires : tie.Need-copy-requires
 copy-requires c κs = search needs
@@ -37,8 +37,8 @@ copy-requires-2 c κs = search needs
 copy-requires-3 : tie.Need-copy-requires-3
 copy-requires-3 c κs = search needs
 
-enum-known-e-3 : tie.Need-enum-known-e-3
-enum-known-e-3 c = search needs
+enum-known-w-3 : tie.Need-enum-known-w-3
+enum-known-w-3 c = search needs
 
 node-at-requires : tie.Need-node-at-requires
 node-at-requires c κs = search needs
@@ -88,13 +88,13 @@ deepen-spec =
     enum-told-3
     enum-told-4
     enum-told-5
-    enum-known-e
+    enum-known-w
     lay-requires
-    enum-known-e-2
+    enum-known-w-2
     copy-requires
     copy-requires-2
     copy-requires-3
-    enum-known-e-3
+    enum-known-w-3
     node-at-requires
     select-requires
     returns

@@ -2,7 +2,7 @@
 use mathlib.Core.Path.{sym, _∙_}
 use native.Mathlib.Omega.{arith}
 use borrow.Author.Needs.{needs}
-use Rattle.run.proofs.Ended.{room-for, lent-none, lent-all, refused-report, refused-buffer, passed-report, passed-buffer}
+use Rattle.run.proofs.Ended.{room-for, lent-none, lent-all, spare-none, spare-all, refused-report, refused-buffer, passed-report, passed-buffer}
 use Rattle.run.proofs.run.Statement.{statement}
 use Rattle.run.proofs.run.Tie as tie
 
@@ -12,59 +12,90 @@ refusal-of-requires c κs = search needs
 shared-slice-read-if2 : tie.Need-shared-slice-read-if2
 shared-slice-read-if2 c = let t = c .before in omega (arith, t .before .refusal-of .ensures .1 (t .if1 .taken) .header)
 
-array-borrow-prefix-none : tie.Need-array-borrow-prefix-none
-array-borrow-prefix-none c = search needs
-
 slice-aggregate-report : tie.Need-slice-aggregate-report
 slice-aggregate-report c = search needs
 
+slice-aggregate-report-2 : tie.Need-slice-aggregate-report-2
+slice-aggregate-report-2 c = search needs
+
+slice-aggregate-report-3 : tie.Need-slice-aggregate-report-3
+slice-aggregate-report-3 c = search needs
+
+slice-aggregate-report-4 : tie.Need-slice-aggregate-report-4
+slice-aggregate-report-4 c = search needs
+
+slice-aggregate-report-5 : tie.Need-slice-aggregate-report-5
+slice-aggregate-report-5 c = search needs
+
+slice-aggregate-report-6 : tie.Need-slice-aggregate-report-6
+slice-aggregate-report-6 c = search needs
+
 report-requires : tie.Need-report-requires
 report-requires c κs =
-    let u = c .before .before in
+    let u = c .before .before .before .before .before .before .before in
     let t = u .before .before in
     let e = t .before .refusal-of .ensures in
     let z = t .if1 .taken in
-    (e .1 z, (lent-none _ (u .if2 .taken), room-for _ _ (sym (e .0) ∙ z)))
+    (e .1 z, (lent-none _ (u .if2 .taken), (spare-none _ (u .if2 .taken), room-for _ _ (sym (e .0) ∙ z))))
 
 same-length : tie.Need-same-length
 same-length c = search needs
 
 returns : tie.Need-returns
 returns c =
-    let r = c .before .before .before in
-    let t = r .before .before .before .before .before in
+    let r = c .before .before .before .before .before .before .before .before in
+    let t = r .before .before .before .before .before .before .before .before .before .before in
+    let s = t .before .before .before .before in
     let e = t .before .refusal-of .ensures .0 in
     let z = t .if1 .taken in
-    let a = t .before .before .before .before .args .rows .now in
+    let a = s .args .rows .now in
     (passed-report _ a e z (r .report .ensures .0), passed-buffer _ a e z (r .report .ensures .1))
 
-slice-aggregate-report-2 : tie.Need-slice-aggregate-report-2
-slice-aggregate-report-2 c = search needs
+slice-aggregate-report-7 : tie.Need-slice-aggregate-report-7
+slice-aggregate-report-7 c = search needs
+
+slice-aggregate-report-8 : tie.Need-slice-aggregate-report-8
+slice-aggregate-report-8 c = search needs
+
+slice-aggregate-report-9 : tie.Need-slice-aggregate-report-9
+slice-aggregate-report-9 c = search needs
+
+slice-aggregate-report-10 : tie.Need-slice-aggregate-report-10
+slice-aggregate-report-10 c = search needs
+
+slice-aggregate-report-11 : tie.Need-slice-aggregate-report-11
+slice-aggregate-report-11 c = search needs
+
+slice-aggregate-report-12 : tie.Need-slice-aggregate-report-12
+slice-aggregate-report-12 c = search needs
 
 report-requires-2 : tie.Need-report-requires-2
 report-requires-2 c κs =
-    let u = c .before .before in
+    let u = c .before .before .before .before .before .before .before in
     let t = u .before .before in
     let e = t .before .refusal-of .ensures in
     let z = t .if1 .taken in
-    (e .1 z, (lent-all _ (u .if2 .left), room-for _ _ (sym (e .0) ∙ z)))
+    (e .1 z, (lent-all _ (u .if2 .left), (spare-all _ (u .if2 .left), room-for _ _ (sym (e .0) ∙ z))))
 
 same-length-2 : tie.Need-same-length-2
 same-length-2 c = search needs
 
 returns-2 : tie.Need-returns-2
 returns-2 c =
-    let r = c .before .before .before in
-    let t = r .before .before .before .before .before in
+    let r = c .before .before .before .before .before .before .before .before in
+    let t = r .before .before .before .before .before .before .before .before .before .before in
+    let s = t .before .before .before .before in
     let e = t .before .refusal-of .ensures .0 in
     let z = t .if1 .taken in
-    let a = t .before .before .before .before .args .rows .now in
+    let a = s .args .rows .now in
     (passed-report _ a e z (r .report2 .ensures .0), passed-buffer _ a e z (r .report2 .ensures .1))
 
 returns-3 : tie.Need-returns-3
 returns-3 c =
-    let e = c .before .refusal-of .ensures .0 in
-    let a = c .before .before .before .before .args .rows .now in
+    let f = c .before in
+    let s = f .before .before .before in
+    let e = f .refusal-of .ensures .0 in
+    let a = s .args .rows .now in
     (refused-report _ a e (c .if1 .left), refused-buffer _ a e (c .if1 .left))
 
 pub run-spec : {M : Type 1} → statement M
@@ -73,12 +104,21 @@ run-spec =
     (tie.spec
     refusal-of-requires
     shared-slice-read-if2
-    array-borrow-prefix-none
     slice-aggregate-report
+    slice-aggregate-report-2
+    slice-aggregate-report-3
+    slice-aggregate-report-4
+    slice-aggregate-report-5
+    slice-aggregate-report-6
     report-requires
     same-length
     returns
-    slice-aggregate-report-2
+    slice-aggregate-report-7
+    slice-aggregate-report-8
+    slice-aggregate-report-9
+    slice-aggregate-report-10
+    slice-aggregate-report-11
+    slice-aggregate-report-12
     report-requires-2
     same-length-2
     returns-2

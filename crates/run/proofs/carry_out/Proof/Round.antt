@@ -1,83 +1,27 @@
--- Each way round the loop of `run::carry_out` keeps its invariant and comes nearer to the end: a step that notes nothing, a route or
--- anything else, a step that answers, a start. Assumes nothing.
+-- Each way round the loop of `run::carry_out` that leaves the frames alone keeps its invariant and comes nearer to the end: a step that notes
+-- nothing, a route or anything else but a frame, a step that answers, one that goes back and has no frame, a start that is no query's. Assumes
+-- nothing.
 use Prim.Native.Nat.{_/_, _%_}
-use mathlib.Core.Path.{ap, _∙_}
+use mathlib.Core.Path.{refl, ap, _∙_}
 use native.Mathlib.Omega.{arith}
-use lib.ListN.{length-set}
+use lib.ListN.{set, length-set}
 use lib.Seq.{getD-set-same}
-use Rattle.definitions.specs.declared.Thread.{Thread}
-use Rattle.definitions.specs.Places.{to, toRoute}
+use Rattle.nodes.specs.Stores.{stores}
+use Rattle.steps.specs.declared.Notes.{Notes}
+use Rattle.steps.specs.Decision.{thread}
+use Rattle.definitions.specs.Places.{toRoute}
+use Rattle.run.proofs.Rows.{finished-few}
 use Rattle.run.proofs.Reading.{onwards}
-use Rattle.run.proofs.Turn.{seen, noted-on, noted-twice, said-on, start-on, deeper}
-use borrow.Author.Needs.{needs}
+use Rattle.run.proofs.Threads.{kept-deep}
+use Rattle.run.proofs.Turn.{seen, placed, nothing-noted, route-noted, nothing-still, route-still, frames-still, noted-on, noted-twice, back-on, back-none, said-on, start-on, deeper}
 use Rattle.run.proofs.carry_out.Tie as tie
-use Rattle.run.proofs.carry_out.Proof.Loop.{Inv-loop, μ-loop, past, few, joined, asking, decided}
-
-pub loop-less : tie.Need-loop-less Inv-loop μ-loop
-loop-less c =
-    let a = c .before .before .before .before .before .before .before .before .before .before .before .before .before .before in
-    let i = a .before .before .before .before .before .before in
-    let s = i .before .before .before .before .before .before .before in
-    omega (arith, i .loop-test .taken, i .before .loop .inv .1 .0, joined (a .before) .1 .0, onwards (s .args .schedule .now) (i .before .loop .k))
-
-pub loop-again : tie.Need-loop-again Inv-loop μ-loop
-loop-again c =
-    let u = c .before .before .before .before in
-    let e = u .before .before .before in
-    let j = e .before .before .before .before .before in
-    let a = j .before .before in
-    let i = a .before .before .before .before .before .before in
-    let l = i .before in (
-      omega (arith, few i),
-      (
-        joined (a .before) .1 .0,
-        (
-          search needs,
-          (
-            length-set (l .loop .threads) _ _ ∙ asking a .four,
-            noted-on (asking a) (j .before .match3 .keys1) (j .if3 .d) (decided j) _ (e .enact .ensures .nodes) (deeper (asking a .stands) (e .enact .ensures) (search needs)) (u .used-then .ensures) (c .before .before .before .if7 .taken) (rw (c .before .enum-told3 .given .1)),
-          ),
-        ),
-      ),
-    )
-
-pub loop-less-2 : tie.Need-loop-less-2 Inv-loop μ-loop
-loop-less-2 c =
-    let a = c .before .before .before .before .before .before .before .before .before .before .before .before .before .before .before in
-    let i = a .before .before .before .before .before .before in
-    let s = i .before .before .before .before .before .before .before in
-    omega (arith, i .loop-test .taken, i .before .loop .inv .1 .0, joined (a .before) .1 .0, onwards (s .args .schedule .now) (i .before .loop .k))
-
-pub loop-again-2 : tie.Need-loop-again-2 Inv-loop μ-loop
-loop-again-2 c =
-    let u = c .before .before .before .before .before in
-    let e = u .before .before .before in
-    let j = e .before .before .before .before .before in
-    let a = j .before .before in
-    let i = a .before .before .before .before .before .before in
-    let l = i .before in
-    let threads = l .loop .threads in
-    let x = a .before .before .before .record .given .0 .0 in
-    let first = to (j .if3 .d .place) (seen threads x past) in
-    let kept = getD-set-same threads (x / 16 % 4) first past (omega (arith, asking a .four)) in (
-      omega (arith, few i),
-      (
-        joined (a .before) .1 .0,
-        (
-          search needs,
-          (
-            rw (length-set, length-set) (asking a .four),
-            noted-twice (asking a) (j .before .match3 .keys1) (j .if3 .d) (decided j) _ (e .enact .ensures .nodes) (deeper (asking a .stands) (e .enact .ensures) (search needs)) (u .used-then .ensures) first (c .before .before .before .before .if7 .taken) (rw (c .before .before .enum-told4 .given .1) (ap (λ (q : Thread). toRoute (q .place) (j .if3 .d .value) q) kept)),
-          ),
-        ),
-      ),
-    )
+use Rattle.run.proofs.carry_out.Proof.Loop.{Inv-loop, μ-loop, past, few, joined, asking, low, decided}
 
 pub loop-less-3 : tie.Need-loop-less-3 Inv-loop μ-loop
 loop-less-3 c =
     let a = c .before .before .before .before .before .before .before .before .before .before .before .before .before .before in
     let i = a .before .before .before .before .before .before in
-    let s = i .before .before .before .before .before .before .before in
+    let s = i .before .before .before .before .before .before .before .before in
     omega (arith, i .loop-test .taken, i .before .loop .inv .1 .0, joined (a .before) .1 .0, onwards (s .args .schedule .now) (i .before .loop .k))
 
 pub loop-again-3 : tie.Need-loop-again-3 Inv-loop μ-loop
@@ -87,15 +31,20 @@ loop-again-3 c =
     let j = e .before .before .before .before .before in
     let a = j .before .before in
     let i = a .before .before .before .before .before .before in
-    let l = i .before in (
+    let l = i .before in
+    let w = e .enact .ensures (stores (l .loop .flags) (l .loop .results)) (l .loop .shown) in (
       omega (arith, few i),
       (
         joined (a .before) .1 .0,
         (
-          search needs,
+          kept-deep (l .loop .inv .1 .1 .0) (u .before .before .depths2 .given),
           (
             length-set (l .loop .threads) _ _ ∙ asking a .four,
-            noted-on (asking a) (j .before .match3 .keys1) (j .if3 .d) (decided j) _ (e .enact .ensures .nodes) (deeper (asking a .stands) (e .enact .ensures) (search needs)) (u .used-then .ensures) (c .before .before .before .if7 .taken) (c .note .ensures),
+            (
+              asking a .each,
+              noted-on (asking a) (j .before .match3 .keys1) (j .if4 .d) (low j) (decided j) _ (w .nodes) (deeper (asking a .stands) w (u .before .before .depths2 .given)) (u .used-then .ensures)
+                  (c .before .before .before .if11 .taken) (nothing-noted (j .if4 .d) (c .before .enum-told3 .given .1)) (nothing-still (j .if4 .d .note) _ _ (c .before .enum-told3 .given .1)),
+            ),
           ),
         ),
       ),
@@ -103,46 +52,154 @@ loop-again-3 c =
 
 pub loop-less-4 : tie.Need-loop-less-4 Inv-loop μ-loop
 loop-less-4 c =
-    let a = c .before .before .before .before .before .before .before .before .before .before .before .before .before .before .before .before .before in
+    let a = c .before .before .before .before .before .before .before .before .before .before .before .before .before .before .before in
     let i = a .before .before .before .before .before .before in
-    let s = i .before .before .before .before .before .before .before in
+    let s = i .before .before .before .before .before .before .before .before in
     omega (arith, i .loop-test .taken, i .before .loop .inv .1 .0, joined (a .before) .1 .0, onwards (s .args .schedule .now) (i .before .loop .k))
 
 pub loop-again-4 : tie.Need-loop-again-4 Inv-loop μ-loop
 loop-again-4 c =
-    let u = c .before .before .before .before .before .before .before in
+    let u = c .before .before .before .before .before in
+    let e = u .before .before .before in
+    let j = e .before .before .before .before .before in
+    let a = j .before .before in
+    let i = a .before .before .before .before .before .before in
+    let l = i .before in
+    let w = e .enact .ensures (stores (l .loop .flags) (l .loop .results)) (l .loop .shown) in
+    let threads = l .loop .threads in
+    let x = a .before .before .before .record .given .0 .0 in
+    let first = placed (j .if4 .d .place) (seen threads x past) in
+    let kept = getD-set-same threads (x / 16 % 4) first past (omega (arith, asking a .four)) in (
+      omega (arith, few i),
+      (
+        joined (a .before) .1 .0,
+        (
+          kept-deep (l .loop .inv .1 .1 .0) (u .before .before .depths2 .given),
+          (
+            length-set (set threads (x / 16 % 4) first) _ _ ∙ (length-set threads (x / 16 % 4) first ∙ asking a .four),
+            (
+              asking a .each,
+              noted-twice (asking a) (j .before .match3 .keys1) (j .if4 .d) (low j) (decided j) _ (w .nodes) (deeper (asking a .stands) w (u .before .before .depths2 .given)) (u .used-then .ensures) first (c .before .before .before .before .if11 .taken)
+                  (route-noted (j .if4 .d) (c .before .before .enum-told4 .given .1) (λ fs. ap (λ (q : Notes). toRoute (q .place) (j .if4 .d .value) (thread q fs)) kept)) (route-still (j .if4 .d .note) _ _ (c .before .before .enum-told4 .given .1)),
+            ),
+          ),
+        ),
+      ),
+    )
+
+pub loop-less-6 : tie.Need-loop-less-6 Inv-loop μ-loop
+loop-less-6 c =
+    let a = c .before .before .before .before .before .before .before .before .before .before .before .before .before .before in
+    let i = a .before .before .before .before .before .before in
+    let s = i .before .before .before .before .before .before .before .before in
+    omega (arith, i .loop-test .taken, i .before .loop .inv .1 .0, joined (a .before) .1 .0, onwards (s .args .schedule .now) (i .before .loop .k))
+
+pub loop-again-6 : tie.Need-loop-again-6 Inv-loop μ-loop
+loop-again-6 c =
+    let u = c .before .before .before .before in
+    let e = u .before .before .before in
+    let j = e .before .before .before .before .before in
+    let a = j .before .before in
+    let i = a .before .before .before .before .before .before in
+    let l = i .before in
+    let w = e .enact .ensures (stores (l .loop .flags) (l .loop .results)) (l .loop .shown) in (
+      omega (arith, few i),
+      (
+        joined (a .before) .1 .0,
+        (
+          kept-deep (l .loop .inv .1 .1 .0) (u .before .before .depths2 .given),
+          (
+            length-set (l .loop .threads) _ _ ∙ asking a .four,
+            (
+              asking a .each,
+              noted-on (asking a) (j .before .match3 .keys1) (j .if4 .d) (low j) (decided j) _ (w .nodes) (deeper (asking a .stands) w (u .before .before .depths2 .given)) (u .used-then .ensures)
+                  (c .before .before .before .if11 .taken) (c .note .ensures) (frames-still (j .if4 .d .note) _ _ (c .before .before .match4 .keys4)),
+            ),
+          ),
+        ),
+      ),
+    )
+
+pub loop-less-7 : tie.Need-loop-less-7 Inv-loop μ-loop
+loop-less-7 c =
+    let a = c .before .before .before .before .before .before .before .before .before .before .before .before .before .before .before .before .before .before in
+    let i = a .before .before .before .before .before .before in
+    let s = i .before .before .before .before .before .before .before .before in
+    omega (arith, i .loop-test .taken, i .before .loop .inv .1 .0, joined (a .before) .1 .0, onwards (s .args .schedule .now) (i .before .loop .k))
+
+pub loop-again-7 : tie.Need-loop-again-7 Inv-loop μ-loop
+loop-again-7 c =
+    let u = c .before .before .before .before .before .before .before .before in
     let e = u .before .before .before in
     let j = e .before .before .before .before .before in
     let a = j .before .before in
     let i = a .before .before .before .before .before .before in
     let l = i .before in
     let o = l .before .before in
-    let s = o .before .before .before .before in (
+    let s = o .before .before .before .before .before in
+    let w = e .enact .ensures (stores (l .loop .flags) (l .loop .results)) (l .loop .shown) in (
       omega (arith, few i),
       (
         joined (a .before) .1 .0,
         (
-          search needs,
+          kept-deep (l .loop .inv .1 .1 .0) (u .before .before .depths2 .given),
           (
             length-set (l .loop .threads) _ _ ∙ asking a .four,
-            said-on (asking a) (j .before .match3 .keys1) (j .if3 .d) (decided j) _ (e .enact .ensures .nodes) (deeper (asking a .stands) (e .enact .ensures) (search needs)) (u .used-then .ensures) _
-                (omega (arith, c .before .before .before .before .before .before .if7 .left, e .before .before .before .before .if6 .left)) (l .before .idle-thread .ensures) (omega arith) (o .version-of .ensures)
-                (λ z. omega (arith, s .pre .1 .1 .whole z, l .loop .inv .1 .1 .0)) (c .before .before .put-row .ensures),
+            (
+              length-set (l .loop .frames) _ _ ∙ asking a .each,
+              said-on (asking a) (j .before .match3 .keys1) (j .if4 .d) (low j) (decided j) _ (w .nodes) (deeper (asking a .stands) w (u .before .before .depths2 .given)) (u .used-then .ensures) _
+                  (c .before .before .before .before .before .before .if12 .taken) (l .before .idle-notes .ensures) (omega arith) (o .version-of .ensures)
+                  (λ z. omega (arith, s .pre .1 .1 .1 .0 .whole z, l .loop .inv .1 .1 .0 .depths, u .before .before .depths2 .given)) (c .before .before .put-row .ensures),
+            ),
           ),
         ),
       ),
     )
 
-pub loop-less-5 : tie.Need-loop-less-5 Inv-loop μ-loop
-loop-less-5 c =
-    let a = c .before .before in
+pub loop-less-8 : tie.Need-loop-less-8 Inv-loop μ-loop
+loop-less-8 c =
+    let a = c .before .before .before .before .before .before .before .before .before .before .before .before .before .before in
     let i = a .before .before .before .before .before .before in
-    let s = i .before .before .before .before .before .before .before in
+    let s = i .before .before .before .before .before .before .before .before in
     omega (arith, i .loop-test .taken, i .before .loop .inv .1 .0, joined (a .before) .1 .0, onwards (s .args .schedule .now) (i .before .loop .k))
 
-pub loop-again-5 : tie.Need-loop-again-5 Inv-loop μ-loop
-loop-again-5 c =
-    let a = c .before .before in
+pub loop-again-8 : tie.Need-loop-again-8 Inv-loop μ-loop
+loop-again-8 c =
+    let u = c .before .before .before .before in
+    let e = u .before .before .before in
+    let j = e .before .before .before .before .before in
+    let a = j .before .before in
+    let i = a .before .before .before .before .before .before in
+    let l = i .before in
+    let w = e .enact .ensures (stores (l .loop .flags) (l .loop .results)) (l .loop .shown) in (
+      omega (arith, few i),
+      (
+        joined (a .before) .1 .0,
+        (
+          kept-deep (l .loop .inv .1 .1 .0) (u .before .before .depths2 .given),
+          (
+            length-set (l .loop .threads) _ _ ∙ asking a .four,
+            (
+              asking a .each,
+              back-on (asking a) (j .before .match3 .keys1) (j .if4 .d) (low j) (decided j) _ (w .nodes) (deeper (asking a .stands) w (u .before .before .depths2 .given)) (u .used-then .ensures)
+                  (omega (arith, c .before .before .if12 .left, c .before .before .before .if11 .left, c .before .before .before .before .before .before .before .before .before .before .before .if10 .left)) (record { after = λ f fs. refl }) (back-none _ _ _ (c .before .if13 .taken)),
+            ),
+          ),
+        ),
+      ),
+    )
+
+pub loop-less-11 : tie.Need-loop-less-11 Inv-loop μ-loop
+loop-less-11 c =
+    let a = c .before .before .before in
+    let i = a .before .before .before .before .before .before in
+    let s = i .before .before .before .before .before .before .before .before in
+    omega (arith, i .loop-test .taken, i .before .loop .inv .1 .0, joined (a .before) .1 .0, onwards (s .args .schedule .now) (i .before .loop .k))
+
+pub loop-again-11 : tie.Need-loop-again-11 Inv-loop μ-loop
+loop-again-11 c =
+    let b = c .before in
+    let a = b .before .before in
     let i = a .before .before .before .before .before .before in
     let l = i .before in (
       omega (arith, few i),
@@ -152,8 +209,18 @@ loop-again-5 c =
           l .loop .inv .1 .1 .0,
           (
             length-set (l .loop .threads) _ _ ∙ asking a .four,
-            start-on (asking a) (c .before .match3 .keys2) (c .begin .ensures),
+            (
+              length-set (l .loop .frames) _ _ ∙ asking a .each,
+              start-on (asking a) (b .before .match3 .keys2) (c .if14 .left) (b .begin .ensures),
+            ),
           ),
         ),
       ),
     )
+
+pub add-finished-2 : tie.Need-add-finished-2 Inv-loop μ-loop
+add-finished-2 c =
+    let i = c .before .before .before .before .before .before .before .before .before .before .before .before .before .before .before .before .before .before .before .before .before .before .before .before in
+    let l = i .before in
+    let s = l .before .before .before .before .before .before .before in
+    omega (arith, l .loop .inv .1 .1 .1 .1 .1 .finished, finished-few (s .args .schedule .now) (l .loop .k), few i, s .pre .0 .few)

@@ -34,6 +34,12 @@ enum-told-5 c = search needs
 say-requires-3 : tie.Need-say-requires-3
 say-requires-3 c κs = search needs
 
+enum-told-6 : tie.Need-enum-told-6
+enum-told-6 c = search needs
+
+full-requires : tie.Need-full-requires
+full-requires c κs = search needs
+
 returns : tie.Need-returns
 returns c = search blocked-as
 
@@ -49,6 +55,9 @@ returns-4 c = search blocked-as
 returns-5 : tie.Need-returns-5
 returns-5 c = search blocked-as
 
+returns-6 : tie.Need-returns-6
+returns-6 c = search blocked-as
+
 pub block-spec : {M : Type 1} → statement M
 block-spec =
     tie.close
@@ -63,8 +72,11 @@ block-spec =
     say-requires-2
     enum-told-5
     say-requires-3
+    enum-told-6
+    full-requires
     returns
     returns-2
     returns-3
     returns-4
-    returns-5)
+    returns-5
+    returns-6)

@@ -28,6 +28,9 @@ enum-told-6 c = search needs
 enum-told-7 : tie.Need-enum-told-7
 enum-told-7 c = search needs
 
+enum-told-8 : tie.Need-enum-told-8
+enum-told-8 c = search needs
+
 returns : tie.Need-returns
 returns c = search lacking-cases
 
@@ -46,6 +49,9 @@ returns-5 c = search lacking-cases
 returns-6 : tie.Need-returns-6
 returns-6 c = search lacking-cases
 
+returns-7 : tie.Need-returns-7
+returns-7 c = search lacking-cases
+
 pub lacking-spec : {M : Type 1} → statement M
 lacking-spec =
     tie.close
@@ -58,9 +64,11 @@ lacking-spec =
     enum-told-5
     enum-told-6
     enum-told-7
+    enum-told-8
     returns
     returns-2
     returns-3
     returns-4
     returns-5
-    returns-6)
+    returns-6
+    returns-7)

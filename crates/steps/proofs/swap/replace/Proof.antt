@@ -82,6 +82,12 @@ enum-told-5 c = search needs
 full-requires-5 : tie.Need-full-requires-5
 full-requires-5 c κs = search needs
 
+enum-told-6 : tie.Need-enum-told-6
+enum-told-6 c = search needs
+
+full-requires-6 : tie.Need-full-requires-6
+full-requires-6 c κs = search needs
+
 returns-4 : tie.Need-returns-4
 returns-4 c = search replace-cases
 
@@ -96,6 +102,9 @@ returns-7 c = search replace-cases
 
 returns-8 : tie.Need-returns-8
 returns-8 c = search replace-cases
+
+returns-9 : tie.Need-returns-9
+returns-9 c = search replace-cases
 
 pub replace-spec : {M : Type 1} → statement M
 replace-spec =
@@ -127,8 +136,11 @@ replace-spec =
     say-writing-requires-3
     enum-told-5
     full-requires-5
+    enum-told-6
+    full-requires-6
     returns-4
     returns-5
     returns-6
     returns-7
-    returns-8)
+    returns-8
+    returns-9)

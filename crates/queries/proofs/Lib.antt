@@ -1,0 +1,5 @@
+pub mod Looks
+pub mod Reaches
+pub mod Places
+pub mod Dispatch
+pub mod Fits
