@@ -80,7 +80,7 @@ static void compare_all(const uint8_t *file, size_t length)
     size_t count = length < 3 ? 0 : (size_t)file[1] << 8 | file[2];
     if (count > MOST_RECORDS)
         count = MOST_RECORDS;
-    int deep = length > 0 && file[0] == NUXALDER_DEEP_FILE_VERSION;
+    int deep = length > 0 && (file[0] == NUXALDER_DEEP_FILE_VERSION || file[0] == NUXALDER_STOP_FILE_VERSION);
     size_t need = (deep ? 7 : 2) * count, text = deep ? 8192 : 4096, events = 3 + 4 * count;
     const size_t row_rooms[] = {need, need > 0 ? need - 1 : 0, need + 17};
     const size_t text_rooms[] = {text, text - 1, text + 17};
@@ -169,10 +169,12 @@ int LLVMFuzzerTestOneInput(const uint8_t *data, size_t size)
         compare_judge(repaired, 3 + 4 * count);
         count = (size - 3) / 4 > MOST_RECORDS ? MOST_RECORDS : (size - 3) / 4;
         memcpy(repaired, data, 3 + 4 * count);
-        repaired[0] = NUXALDER_DEEP_FILE_VERSION;
         repaired[1] = (uint8_t)(count >> 8);
         repaired[2] = (uint8_t)count;
-        compare_all(repaired, 3 + 4 * count);
+        for (int version = NUXALDER_DEEP_FILE_VERSION; version <= NUXALDER_STOP_FILE_VERSION; version++) {
+            repaired[0] = (uint8_t)version;
+            compare_all(repaired, 3 + 4 * count);
+        }
     }
     return 0;
 }

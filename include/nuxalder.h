@@ -5,13 +5,15 @@
  * keep no state between calls, allocate nothing, read no byte outside the files and write no byte outside the buffer
  * and the report. The lent memory must not overlap, and no pointer is null, also where its length is 0.
  *
- * A schedule file: version byte, 1 or 2, two-byte big-endian count, then `count` records of two bytes in version 1,
+ * A schedule file: version byte, 1, 2 or 3, two-byte big-endian count, then `count` records of two bytes in version 1,
  * of four in version 2, which has a depth, 0 to 9,999 mm, beside each station. Byte 0 of a record: 16 * thread + action
  * (0 step, 1 lookup, 2 insert, 3 remove, 4 split, 5 join, in version 2 also 6 range query). Byte 1: the station, 0 to 63;
  * for a step, 0. Bytes 2 and 3, in version 2, big-endian: an insert's depth; the upper end of a range query, which asks for
  * all stations from the one in byte 1 to that, both inside; else 0. An insert of a station that is present says no and
- * replaces its depth. What the versions differ in:
- *                                                              version 1       version 2
+ * replaces its depth. Version 3 is version 2 with the stop of joins on: a search that has read the child of its 8th route
+ * takes two steps more, and between them a join answers 7. All that is said of version 2 here holds for version 3.
+ * What the versions differ in:
+ *                                                              version 1       versions 2 and 3
  *    record                                                    2 bytes         4 bytes
  *    file                                                      3 + 2 * count   3 + 4 * count
  *    row: 0 thread, 1 action, 2 station, 3 answer              4 bytes         14 bytes
@@ -25,7 +27,7 @@
  * Refusal numbers; where the versions differ, the second is version 2's:
  *    0  none
  *    1  a file under three bytes                 7  a thread over 3
- *    2  a version other than 1 and 2             8  an action over 5, over 6
+ *    2  a version other than 1, 2 and 3          8  an action over 5, over 6
  *    3  a count over 4,096                       9  a start with a station over 63
  *    4  a length other than 3 + 2 * count,      10  unused bytes that are not 0: a step's, or in version 2 the
  *       3 + 4 * count                               last two of a start that is no insert and no query
@@ -37,7 +39,7 @@
  *                                              16  a swap that needs a store of a range query beyond the 64
  * A record is refused in this order: 7, 8; a start then for 9, 14, 15 or 10, 11; a step for 10, 12, 13, 16.
  * The one-writer run alone: 24 for a start of an insert, remove, split or join on threads 1 to 3, and in version 2 of a range
- * query on any thread, after 8 and before 9.
+ * query on any thread, after 8 and before 9; and 2 for version 3.
  * Merge alone, in this order: 1 to 4 for a fault of the first file, then 1 to 4 for one of the second (2: any
  * version but 1), 17 for a thread that is not its file's, 3 for counts that total over 4,096, 18 for an output
  * buffer under 3 + 4 * the smaller count bytes.
@@ -49,7 +51,7 @@
  *    0  no                                    4  a swap lost, or the base gone from its parent
  *    1  yes                                   5  the neighbour is not replaceable (a join)
  *    2  too few stations for a split,         6  a join stood down
- *       or no parent for a join               7  joins are stopped: not given by this version
+ *       or no parent for a join               7  joins are stopped (a join of version 3)
  *    3  the base is not replaceable
  * Where 2 and 3 both hold the answer is 2.
  */
@@ -61,25 +63,26 @@
 
 /* The version of this interface. */
 #define NUXALDER_VERSION_MAJOR 1
-#define NUXALDER_VERSION_MINOR 3
+#define NUXALDER_VERSION_MINOR 4
 #define NUXALDER_VERSION_PATCH 0
-#define NUXALDER_VERSION "1.3.0"
+#define NUXALDER_VERSION "1.4.0"
 
 /* The functions may be called from several threads at once, each with its own report and buffers; a schedule
  * or a history may be shared. A call of one of them uses at most NUXALDER_STACK bytes of stack. */
 #define NUXALDER_STACK 73728
 
-/* Sizes of a schedule file, its rows and the bench; DEEP is version 2. */
+/* Sizes of a schedule file, its rows and the bench; DEEP is version 2, and version 3 has its sizes. */
 #define NUXALDER_FILE_VERSION 1
 #define NUXALDER_DEEP_FILE_VERSION 2
+#define NUXALDER_STOP_FILE_VERSION 3
 #define NUXALDER_HEADER_SIZE 3
 #define NUXALDER_RECORD_SIZE 2
 #define NUXALDER_DEEP_RECORD_SIZE 4
 #define NUXALDER_RECORDS_MOST 4096
-#define NUXALDER_FILE_MOST (NUXALDER_HEADER_SIZE + NUXALDER_DEEP_RECORD_SIZE * NUXALDER_RECORDS_MOST) /* of either version */
+#define NUXALDER_FILE_MOST (NUXALDER_HEADER_SIZE + NUXALDER_DEEP_RECORD_SIZE * NUXALDER_RECORDS_MOST) /* of every version */
 #define NUXALDER_ROW_SIZE 4
 #define NUXALDER_DEEP_ROW_SIZE 14
-#define NUXALDER_ROWS_BUFFER (7 * NUXALDER_RECORDS_MOST) /* enough for every schedule of either version */
+#define NUXALDER_ROWS_BUFFER (7 * NUXALDER_RECORDS_MOST) /* enough for every schedule of every version */
 #define NUXALDER_DEPTH_MOST 9999
 #define NUXALDER_STATIONS 64
 #define NUXALDER_THREADS 4
@@ -94,7 +97,7 @@ enum nuxalder_action {
     NUXALDER_REMOVE = 3,
     NUXALDER_SPLIT = 4,
     NUXALDER_JOIN = 5,
-    NUXALDER_RANGE = 6 /* version 2 alone */
+    NUXALDER_RANGE = 6 /* not in version 1 */
 };
 
 /* The first byte of a record. */
@@ -172,7 +175,7 @@ enum {
 #define NUXALDER_MERGE_FIELDS 4
 #define NUXALDER_HISTORY_FIELDS 2
 #define NUXALDER_JUDGE_FIELDS 3
-#define NUXALDER_LIST_BUFFER 8192 /* enough for every schedule of either version; version 1 never needs more than 4,096 */
+#define NUXALDER_LIST_BUFFER 8192 /* enough for every schedule of every version; version 1 never needs more than 4,096 */
 
 /* The depth in a row of version 2: what a lookup found, else 0. */
 #define NUXALDER_ROW_DEPTH(row) (256u * (row)[4] + (row)[5])
@@ -294,13 +297,13 @@ static inline const char *nuxalder_refusal_words(uint64_t refusal)
     switch (refusal) {
     case NUXALDER_REFUSED_NOT: return "not refused";
     case NUXALDER_REFUSED_SHORT_FILE: return "a file under three bytes";
-    case NUXALDER_REFUSED_VERSION: return "a version other than 1 and 2, or than 1 where only that is taken";
+    case NUXALDER_REFUSED_VERSION: return "a version other than 1, 2 and 3, or one that is not taken here";
     case NUXALDER_REFUSED_COUNT: return "a count over 4,096";
-    case NUXALDER_REFUSED_LENGTH: return "a length other than 3 + 2 * count, in version 2 other than 3 + 4 * count";
-    case NUXALDER_REFUSED_ROWS_BUFFER: return "a row buffer under 2 * count bytes, in version 2 under 7 * count";
-    case NUXALDER_REFUSED_TEXT_BUFFER: return "a text buffer under 4,096 bytes, in version 2 under 8,192";
+    case NUXALDER_REFUSED_LENGTH: return "a length other than 3 + 2 * count, in versions 2 and 3 other than 3 + 4 * count";
+    case NUXALDER_REFUSED_ROWS_BUFFER: return "a row buffer under 2 * count bytes, in versions 2 and 3 under 7 * count";
+    case NUXALDER_REFUSED_TEXT_BUFFER: return "a text buffer under 4,096 bytes, in versions 2 and 3 under 8,192";
     case NUXALDER_REFUSED_THREAD: return "a thread over 3";
-    case NUXALDER_REFUSED_ACTION: return "an action over 5, in version 2 over 6";
+    case NUXALDER_REFUSED_ACTION: return "an action over 5, in versions 2 and 3 over 6";
     case NUXALDER_REFUSED_STATION: return "a start with a station over 63";
     case NUXALDER_REFUSED_STEP_BYTE: return "unused bytes that are not 0";
     case NUXALDER_REFUSED_BUSY: return "a start of a busy thread";

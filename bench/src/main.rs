@@ -1,11 +1,12 @@
-//! Times Run and List, on files of either version, Run on files of many splits and with range queries, and Merge of the library and of the
+//! Times Run and List, on files of each version, Run on files of many splits and with range queries, and Merge of the library and of the
 //! reference on the same schedules, in turn, and prints the medians and their ratio for each size. Buffers are lent as they are, not cleared
-//! between calls. Then Judge, on hard histories, and the one-writer run on files of one writer. `speed splits`, `speed ranges`, `speed judge` and
-//! `speed one-writer` do only those; `speed search N SEED` looks for harder histories with N tries.
+//! between calls. Then Judge, on hard histories, and the one-writer run on files of one writer. `speed splits`, `speed ranges`, `speed stops`
+//! (version 3), `speed judge` and `speed one-writer` do only those; `speed search N SEED` looks for harder histories with N tries.
 
 mod judge;
 mod ranges;
 mod splits;
+mod stops;
 
 use differential::library;
 use differential::merges::whole;
@@ -84,13 +85,17 @@ fn main() {
             heading();
             ranges::time();
         }
+        ["stops"] => {
+            heading();
+            stops::time();
+        }
         ["judge"] => judge::compare(),
         ["one-writer"] => one_writer(),
         ["search", rounds, seed] => judge::search(
             rounds.parse().expect("a number of tries"),
             seed.parse().expect("a seed"),
         ),
-        _ => panic!("usage: speed [splits | ranges | judge | one-writer | search N SEED]"),
+        _ => panic!("usage: speed [splits | ranges | stops | judge | one-writer | search N SEED]"),
     }
 }
 
@@ -112,6 +117,7 @@ fn schedules() {
     }
     splits::time();
     ranges::time();
+    stops::time();
     for size in MERGES {
         // both files of a pair, one after the other
         let pairs: Vec<Vec<u8>> = (0..FILES)

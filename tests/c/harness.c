@@ -68,7 +68,7 @@ static void call_runner(runner *does, const uint8_t *file, size_t length, size_t
     memcpy(run, around + 1, sizeof run);
     rows = buffer;
     check(around[0] == canary && around[NUXALDER_RUN_FIELDS + 1] == canary, "Run wrote outside its report");
-    size_t row = length > 0 && file[0] == 2 ? NUXALDER_DEEP_ROW_SIZE : NUXALDER_ROW_SIZE;
+    size_t row = length > 0 && (file[0] == 2 || file[0] == 3) ? NUXALDER_DEEP_ROW_SIZE : NUXALDER_ROW_SIZE;
     size_t written = row * (size_t)run[NUXALDER_RUN_ROWS];
     check(written <= room && guard_kept(rows_memory, buffer, written), "Run touched bytes after its rows");
     file_kept(copy, file, length);
@@ -355,7 +355,7 @@ static void headers(int at_start)
         uint8_t file[5];
         size_t length;
         uint64_t refusal;
-    } cases[] = {{{2, 255, 255}, 2, 1}, {{3, 255, 255}, 3, 2},     {{0, 0, 0}, 3, 2},
+    } cases[] = {{{2, 255, 255}, 2, 1}, {{4, 255, 255}, 3, 2},     {{0, 0, 0}, 3, 2},
                  {{255, 0, 0}, 4, 2},   {{1, 16, 1}, 3, 3},        {{1, 255, 255}, 3, 3},
                  {{1, 16, 0}, 3, 4},    {{1, 0, 1, 64, 0}, 4, 4},  {{1, 0, 0}, 4, 4},
                  {{1, 0, 1}, 3, 4},     {{1, 0, 1, 64, 0}, 5, 7}};
@@ -691,6 +691,75 @@ static void deep_refusals(int at_start)
     }
 }
 
+/* Version 3: searches that have come far stop joins. */
+static void stops(int at_start)
+{
+    static struct deep_plan p;
+    const uint64_t set = 0x1FF;
+
+    /* a lookup below seven routes, then one below eight, which takes two steps more */
+    deep_chain(&p);
+    deep_alone(&p, 1, LOOKUP, 6, 0, 8);
+    deep_alone(&p, 1, LOOKUP, 8, 0, 10);
+    call_deep(&p, at_start);
+    expect_run("lookup of version 3, one step short", 0, 172, 18, set, 9, 34);
+    expect_deep_row("lookup below seven routes", 17, 1, LOOKUP, 6, 1, 640);
+    /* between the two steps a join is stopped */
+    deep_alone(&p, 0, JOIN, 3, 0, 7);
+    deep_steps(&p, 1, 1);
+    call_deep(&p, at_start);
+    expect_run("a join stopped", 0, 181, 20, set, 9, 34);
+    expect_deep_row("a join stopped", 18, 0, JOIN, 3, NUXALDER_STOPPED, 0);
+    expect_deep_row("lookup below eight routes", 19, 1, LOOKUP, 8, 1, 640);
+    /* after them the same join says yes, at its 31st step */
+    deep_alone(&p, 0, JOIN, 3, 0, 30);
+    call_deep(&p, at_start);
+    expect_run("a join after that, one step short", 0, 212, 20, set, 9, 37);
+    deep_steps(&p, 0, 1);
+    call_deep(&p, at_start);
+    expect_run("a join after that", 0, 213, 21, set, 9, 37);
+    expect_deep_row("a join after that", 20, 0, JOIN, 3, NUXALDER_YES, 0);
+
+    /* four are counted; when one is left the join is still stopped, then it is not */
+    deep_chain(&p);
+    for (unsigned thread = 0; thread < 4; thread++)
+        deep_alone(&p, thread, thread == 3 ? INSERT : LOOKUP, 8, 0, 10);
+    for (unsigned thread = 0; thread < 3; thread++)
+        deep_steps(&p, thread, 1);
+    deep_alone(&p, 0, JOIN, 3, 0, 7);
+    deep_steps(&p, 3, 1);
+    deep_alone(&p, 0, JOIN, 3, 0, 31);
+    call_deep(&p, at_start);
+    expect_run("four counted", 0, 152 + 44 + 3 + 8 + 1 + 32, 22, set, 9, 37);
+    expect_deep_row("four counted", 20, 0, JOIN, 3, NUXALDER_STOPPED, 0);
+    expect_deep_row("none counted", 21, 0, JOIN, 3, NUXALDER_YES, 0);
+
+    /* the same records in version 2: the second lookup has its row two steps before, and its 10th step is of an idle thread */
+    deep_chain(&p);
+    p.file[0] = NUXALDER_DEEP_FILE_VERSION;
+    deep_alone(&p, 1, LOOKUP, 8, 0, 10);
+    call_deep(&p, at_start);
+    expect_run("lookup of version 2", NUXALDER_REFUSED_IDLE, 162, 18, set, 9, 34);
+
+    /* buffers as version 2 needs them; no version 4; the one-writer run takes no version 3 */
+    static const struct {
+        uint8_t file[7];
+        size_t length, room;
+        uint64_t refusal;
+    } files[] = {{{3, 0}, 2, 0, 1},          {{4, 0, 0}, 3, 0, 2},           {{3, 16, 1}, 3, 0, 3},          {{3, 0, 1, 2, 9}, 5, 7, 4},
+                 {{3, 0, 1, 2, 9, 0, 0}, 7, 6, 5}, {{3, 0, 1, 7, 9, 0, 0}, 7, 7, 8}, {{3, 0, 1, 2, 9, 39, 16}, 7, 7, 14},
+                 {{3, 0, 1, 6, 9, 0, 8}, 7, 7, 15}, {{3, 0, 1, 6, 9, 0, 9}, 7, 7, 0}};
+    for (size_t i = 0; i < sizeof files / sizeof files[0]; i++) {
+        uint64_t refusal = files[i].refusal;
+        call_run(files[i].file, files[i].length, files[i].room, at_start);
+        expect_run("version 3, refusals", refusal, refusal == 0, 0, 0, 0, refusal == 0 || refusal > 5);
+        call_one_writer(files[i].file, files[i].length, files[i].room, at_start);
+        expect_run("version 3, one writer", files[i].length < 3 ? 1 : 2, 0, 0, 0, 0, 0);
+    }
+    call_list(files[8].file, files[8].length, 8191, at_start);
+    expect_list("short text buffer, version 3", 6, "");
+}
+
 /* The one-writer run: what it lets through is as Run has it, and 24 comes after 8 and before 9. */
 static void one_writer(int at_start)
 {
@@ -786,6 +855,7 @@ int main(void)
         stores(at_start);
         deep_lengths(at_start);
         deep_refusals(at_start);
+        stops(at_start);
         one_writer(at_start);
     }
     printf("%lu passed, %lu failed\n", passed, failed);

@@ -57,7 +57,7 @@ static inline void plan_printed_run(struct plan *p)
     plan_alone(p, 0, SPLIT, 3, 3);
 }
 
-/* The same in version 2, each record with its depth or upper end. */
+/* The same in version 2 or 3, each record with its depth or upper end. */
 struct deep_plan {
     uint8_t file[3 + 4 * (MOST_RECORDS + 1)];
     size_t length;
@@ -96,6 +96,18 @@ static inline void deep_alone(struct deep_plan *p, unsigned thread, unsigned act
 {
     deep_record(p, 16 * thread + action, station, extra);
     deep_steps(p, thread, steps);
+}
+
+/* Version 3, eight routes with keys 1 to 8, one below the other, the base of station 8 at the end: 152 records, 17 rows, 34 numbers. */
+static inline void deep_chain(struct deep_plan *p)
+{
+    deep_empty(p);
+    p->file[0] = NUXALDER_STOP_FILE_VERSION;
+    deep_alone(p, 0, INSERT, 0, 0, 3);
+    for (unsigned station = 1; station <= 8; station++) {
+        deep_alone(p, 0, INSERT, station, 640, station == 1 ? 3 : station + 4);
+        deep_alone(p, 0, SPLIT, station, 0, station == 1 ? 3 : station + 4);
+    }
 }
 
 /* Two bases, 3 and 9: 12 records, three rows, six numbers. */

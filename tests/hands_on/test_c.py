@@ -35,8 +35,9 @@ int main(void) {
     printf("%d %d %d %d %d %d %d %d\\n", NUXALDER_NO, NUXALDER_YES, NUXALDER_LACKING, NUXALDER_BLOCKED, NUXALDER_LOST,
            NUXALDER_NEIGHBOUR_BLOCKED, NUXALDER_STOOD_DOWN, NUXALDER_STOPPED);
     printf("%d.%d.%d %s\\n", NUXALDER_VERSION_MAJOR, NUXALDER_VERSION_MINOR, NUXALDER_VERSION_PATCH, NUXALDER_VERSION);
-    printf("%d %d %d %d %u %d %d\\n", NUXALDER_DEEP_FILE_VERSION, NUXALDER_DEEP_RECORD_SIZE, NUXALDER_DEEP_ROW_SIZE, NUXALDER_DEPTH_MOST,
-           NUXALDER_ROW_DEPTH(row), NUXALDER_STORES_MOST, nuxalder_row_set(row) == 0 && nuxalder_row_set(found) == 0x8000000000000208u);
+    printf("%d %d %d %d %d %u %d %d\\n", NUXALDER_DEEP_FILE_VERSION, NUXALDER_STOP_FILE_VERSION, NUXALDER_DEEP_RECORD_SIZE,
+           NUXALDER_DEEP_ROW_SIZE, NUXALDER_DEPTH_MOST, NUXALDER_ROW_DEPTH(row), NUXALDER_STORES_MOST,
+           nuxalder_row_set(row) == 0 && nuxalder_row_set(found) == 0x8000000000000208u);
     for (n = 0; n < 40; n++) printf("%u %s\\n", n, nuxalder_refusal_words(n));
     for (n = 0; n < 9; n++) printf("%u %s\\n", n, nuxalder_answer_words(n));
     return 0;
@@ -78,7 +79,7 @@ def header(checks):
         checks.equal(f"{' '.join(command)} takes it with no warning", (status, err), (0, ""))
     lines = run(HOME / "asks")[1].splitlines()
     checks.equal("01's sizes", lines[0], "1 4 4096 16387 256 64 4 28672 8192")
-    checks.equal("those of version 2", lines[4], "2 4 14 9999 640 64 1")
+    checks.equal("those of versions 2 and 3", lines[4], "2 3 4 14 9999 640 64 1")
     checks.equal("01's actions, and 02's", lines[1], "0 1 2 3 4 5 6")
     checks.equal("answers", lines[2], "0 1 2 3 4 5 6 7")
     checks.equal("the version is one", *lines[3].split())

@@ -20,8 +20,9 @@ def all_of(checks):
     checks.group("guide: its commands")
     folder = OUT / "guide"
     folder.mkdir(parents=True, exist_ok=True)
-    if not (folder / "tools").exists():
-        (folder / "tools").symlink_to(ROOT / "tools")
+    for name in ("tools", "examples"):
+        if not (folder / name).exists():
+            (folder / name).symlink_to(ROOT / name)
     for command, output in blocks():
         shown = re.fullmatch(r"cat (\w+\.txt)", command)
         if shown:

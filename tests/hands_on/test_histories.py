@@ -120,7 +120,7 @@ def runs(checks):
     deep = "refused, 2: a version other than 1: an event has no depth, so only a schedule of version 1 has a history"
     status, out, error = tool("history", "-", stdin=b"t0 insert 3 640\nt0 finish")
     checks.that("a run with depths has none, and what to do is said", (status, out) == (1, b"") and deep in error and "without its depths" in error, error)
-    status, out, error = tool("history", "-", stdin=b"version 3")
+    status, out, error = tool("history", "-", stdin=b"version 4")
     checks.equal("nor has another version", (status, out, error), (1, b"", "-: refused, 2: a version other than 1\n"))
     written = OUT / "run.history"
     for path in examples():

@@ -28,7 +28,7 @@ UNREADABLE = [
     ("an old line end", b"t0 step\rt0 step", "1:8", "a carriage return"),
     ("a bell", b"t0\x07 step", "1:3", "^G (U+0007)"),
     ("zero bytes", b"\0\0\0\0", "1:1", "a zero byte"),
-    ("version 3", b"\x03\0\0", "1:1", "^C (U+0003)"),
+    ("version 4", b"\x04\0\0", "1:1", "^D (U+0004)"),
     ("version 9", b"\x09\0\0", "1:2", "a zero byte"),
 ]
 
@@ -36,15 +36,16 @@ UNREADABLE = [
 def kinds(checks):
     checks.group("input: bytes or text")
     for name, data, place, says in UNREADABLE:
-        for command in (("run",), ("encode",)) if name in ("Latin-1", "version 3") else (("run",),):
+        for command in (("run",), ("encode",)) if name in ("Latin-1", "version 4") else (("run",),):
             status, out, err = tool(*command, "-", stdin=data)
             fine = (status, out) == (1, b"") and err.startswith(f"-:{place}: ") and says in err and "refus" not in err
             checks.that(f"{command[0]}: {name}", fine, (status, out, err))
-    said = tool("run", "-", stdin=b"\x03\0\0")[2]
-    checks.that("what to do with another version is said", "starts with byte 03" in said and "--as binary" in said, said)
-    checks.equal("--as binary", tool("run", "-", "--as", "binary", stdin=b"\x03\0\0")[:2], (3, b"records 0 of 0 refusal 2\n"))
+    said = tool("run", "-", stdin=b"\x04\0\0")[2]
+    checks.that("what to do with another version is said", "starts with byte 04" in said and "--as binary" in said, said)
+    checks.equal("--as binary", tool("run", "-", "--as", "binary", stdin=b"\x04\0\0")[:2], (3, b"records 0 of 0 refusal 2\n"))
     empty = b"records 0 of 0 refusal 0\n0 normal -\nset -\nstored 0 used 1\n"
     checks.equal("version 2 is bytes", tool("run", "-", stdin=b"\x02\0\0"), (0, empty, ""))
+    checks.equal("version 3 is bytes", tool("run", "-", stdin=b"\x03\0\0"), (0, empty, ""))
     status, out, err = tool("run", "-", "--as", "text", stdin=file_of(PATH))
     checks.that("--as text", (status, out) == (1, b"") and err.startswith("-:1:1: "), (status, out, err))
     checks.equal("encode --as text too", tool("encode", "-", "--as", "text", stdin=b"\x01")[0], 1)

@@ -60,7 +60,7 @@ def refusals(checks):
         told = all(text in err for text in says) and len(err.splitlines()) == 1
         checks.that(what, status == 1 and stdout == b"" and told and not out.exists(), (status, stdout, err))
 
-    for number, bad in [(1, b"\x01\x00"), (2, b"\x02\x00\x00"), (2, b"\x03\x00\x00"), (3, b"\x01\x10\x01"), (4, good[:-1])]:
+    for number, bad in [(1, b"\x01\x00"), (2, b"\x02\x00\x00"), (2, b"\x03\x00\x00"), (2, b"\x04\x00\x00"), (3, b"\x01\x10\x01"), (4, good[:-1])]:
         refused(f"a first file with {number}", bad, fine, f"{first}: ", f"refused with {number}: ")
         refused(f"a second file with {number}", good, bad, f"{second}: ", f"refused with {number}: ")
     deep = b"\x02\x00\x01\x02\x03\x02\x80"
@@ -68,7 +68,8 @@ def refusals(checks):
     more = ": without its depths and its version line this one is of version 1"
     refused("depths in the first file", deep, fine, f"{first}: {said}{more}\n")
     refused("depths in the second file", good, deep, f"{second}: {said}{more}\n")
-    refused("a version that there is not", good, b"\x03\x00\x00", f"{second}: {said}\n")
+    refused("the stop in the second file", good, b"\x03\x00\x00", f"{second}: {said}{more}\n")
+    refused("a version that there is not", good, b"\x04\x00\x00", f"{second}: {said}\n")
     text = OUT / "merge" / "deep.txt"
     text.write_text("t0 insert 3 640\n")
     second.write_bytes(fine)

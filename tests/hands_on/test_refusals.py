@@ -7,9 +7,9 @@ from checks import EXAMPLES, OUT, examples, file_of, tool
 
 STATUS = 3
 
-# What is said of a file of one version, and for version 2 what would be right.
+# What is said of a file of one version, and for versions 2 and 3 what would be right.
 WORDS = {
-    "refused-2-version": "a version other than 1 and 2",
+    "refused-2-version": "a version other than 1, 2 and 3",
     "refused-4-length": "a length other than 3 + 2 * count",
     "refused-4-length-2": "a length other than 3 + 4 * count: a record of version 2 has four bytes",
     "refused-10-step-byte": "a step whose second byte is not 0",

@@ -24,9 +24,9 @@ BAD_LINES = [
     ("t0 insert 3 10000", 1, "10000", "a depth is a number of millimetres, 0 to 9999"),
     ("t0 insert 3 -1", 1, "-1", "0 to 9999"),
     ("t0 step\nt0 insert 3 deep", 2, "deep", "0 to 9999"),
-    ("version 1\n\nt0 insert 3 640", 3, "640", "a depth needs version 2, and the text says version 1"),
-    ("version 9\nt0 insert 3 640", 2, "640", "a depth needs version 2, and the text says version 9"),
-    ("no-header\nt0 insert 3 640", 2, "640", "a depth needs version 2, and with no-header there is no version"),
+    ("version 1\n\nt0 insert 3 640", 3, "640", "a depth needs version 2 or 3, and the text says version 1"),
+    ("version 9\nt0 insert 3 640", 2, "640", "a depth needs version 2 or 3, and the text says version 9"),
+    ("no-header\nt0 insert 3 640", 2, "640", "a depth needs version 2 or 3, and with no-header there is no version"),
     ("version 2\nt0 lookup 3 640", 2, "640", "only an insert has a depth"),
     ("t0 insert 3 640\nt0 remove 3 0", 2, "0", "only an insert has a depth"),
     ("t0 rang 3 9", 1, "rang", "did you mean range?"),
@@ -36,12 +36,14 @@ BAD_LINES = [
     ("t0 range 3 64", 1, "64", "from its station, 3, to 63"),
     ("t0 range 9 3", 1, "3", "from its station, 9, to 63"),
     ("t0 range 3 9 4", 1, "4", "nothing may follow '9'"),
-    ("version 1\nt0 range 3 9", 2, "range", "a range query needs version 2, and the text says version 1"),
-    ("no-header\nt0 range 3 9", 2, "range", "a range query needs version 2, and with no-header there is no version"),
+    ("version 1\nt0 range 3 9", 2, "range", "a range query needs version 2 or 3, and the text says version 1"),
+    ("no-header\nt0 range 3 9", 2, "range", "a range query needs version 2 or 3, and with no-header there is no version"),
     ("t0 range 3 9\nt0 lookup 3 9", 2, "9", "only an insert has a depth"),
     ("t0 insert 3 640\nversion 2", 2, "version", "before the first record"),
     ("version 2\nt0 step 4096\nt1 step", 3, "t1", "at most 4096"),
     ("version 2\nraw 40 00", 2, "00", "a raw record of version 2 is four bytes"),
+    ("version 3\nraw 40 00", 2, "00", "a raw record of version 3 is four bytes"),
+    ("version 3\nt0 lookup 3 640", 2, "640", "only an insert has a depth"),
     ("version 2\nraw 40 00 0g 00", 2, "0g", "a raw record of version 2 is four bytes"),
     ("version 2\nraw 40 00 00 01 02", 2, "02", "nothing may follow '01'"),
     ("raw 02 09 27 10", 1, "27", "a line `version 2` before the records says so"),
@@ -75,7 +77,9 @@ SPELLINGS = [
     ("\ufefft3 join 63", "010001353f"),
     ("t1 lookup 0\nt2 remove 7\nt3 split 5", "010003110023073405"),
     ("raw fF Ab", "010001ffab"),
-    ("version 3\ncount 513\nt0 step\nraw-byte 07", "030201000007"),
+    ("version 4\ncount 513\nt0 step\nraw-byte 07", "040201000007"),
+    ("version 3", "030000"),
+    ("version 3\nt0 insert 9 640\nt1 range 3 9\nt3 join 63", "030003" + "02090280" + "16030009" + "353f0000"),
     ("version 2", "020000"),
     ("version 2\ncount 513\nt0 step\nraw-byte 07", "0202010000000007"),
     ("t0 insert 3 640\nt1 step", "020002" + "02030280" + "10000000"),
@@ -137,21 +141,25 @@ def round_trips(checks):
 
 
 def deep_round_trips(checks, rng):
-    """Version 2: operations, records of any bytes, and files of any length that start with its byte."""
-    for size in [0, 1, 2, 4095, 4096] + [rng.randrange(80) for _ in range(300)]:
-        made = [random_record(rng, 2) for _ in range(size)]
-        file = b"\x02" + size.to_bytes(2, "big") + b"".join(record for record, _ in made)
-        text = "version 2\n" + "".join(f"{line}\n" for _, line in made)
-        checks.that(f"encode of {size} operations, version 2", text_form.encode(text.encode(), "text") == file, text)
-        decoded = text_form.decode(file)
-        checks.that(f"version 2: {size} operations decode to their text", "raw" not in decoded and "version 2\n" in decoded, decoded)
-        checks.that(f"round trip of {size} operations, version 2", text_form.encode(decoded.encode(), "text") == file, decoded)
-    for size in [0, 1, 4096] + [rng.randrange(80) for _ in range(300)]:
-        file = b"\x02" + size.to_bytes(2, "big") + rng.randbytes(4 * size)
-        checks.that(f"round trip of {size} records of any bytes, version 2", text_form.encode(text_form.decode(file).encode(), "text") == file)
-    for size in [0, 1, 2, 3, 4, 5, 6, 7, 8197, 16388, 32762, 32765] + [rng.randrange(60) for _ in range(300)]:
-        file = b"\x02" + rng.randbytes(size)
-        checks.that(f"round trip of version 2 and {size} bytes", text_form.encode(text_form.decode(file).encode(), "text") == file, file[:9])
+    """Versions 2 and 3: operations, records of any bytes, and files of any length that start with the version's byte."""
+    for version in (2, 3):
+        for size in [0, 1, 2, 4095, 4096] + [rng.randrange(80) for _ in range(300)]:
+            made = [random_record(rng, version) for _ in range(size)]
+            file = bytes([version]) + size.to_bytes(2, "big") + b"".join(record for record, _ in made)
+            text = f"version {version}\n" + "".join(f"{line}\n" for _, line in made)
+            of = f"{size} operations, version {version}"
+            checks.that(f"encode of {of}", text_form.encode(text.encode(), "text") == file, text)
+            decoded = text_form.decode(file)
+            checks.that(f"{of}, decode to their text", "raw" not in decoded and f"version {version}\n" in decoded, decoded)
+            checks.that(f"round trip of {of}", text_form.encode(decoded.encode(), "text") == file, decoded)
+        for size in [0, 1, 4096] + [rng.randrange(80) for _ in range(300)]:
+            file = bytes([version]) + size.to_bytes(2, "big") + rng.randbytes(4 * size)
+            round_trip = text_form.encode(text_form.decode(file).encode(), "text")
+            checks.that(f"round trip of {size} records of any bytes, version {version}", round_trip == file)
+        for size in [0, 1, 2, 3, 4, 5, 6, 7, 8197, 16388, 32762, 32765] + [rng.randrange(60) for _ in range(300)]:
+            file = bytes([version]) + rng.randbytes(size)
+            round_trip = text_form.encode(text_form.decode(file).encode(), "text")
+            checks.that(f"round trip of version {version} and {size} bytes", round_trip == file, file[:9])
 
 
 def commands(checks):

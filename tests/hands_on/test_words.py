@@ -11,6 +11,7 @@ from test_guide import blocks
 
 PLACES = ROOT / "docs" / "PLACES.md"
 NUMBERS = {1, 2, 3, 10, 11, 12, 13, 15, 16, *range(20, 39), *range(40, 52)}
+STOP = [4, 5, 19]
 RANGE = ROOT / "docs" / "RANGE.md"
 QUERY_NUMBERS = set(range(60, 83)) - {63, 68, 69, 75}
 QUERY_LINES = set(range(138, 215)) - {156, 200, 205, 206, 212}  # those are brackets
@@ -29,10 +30,11 @@ def rows_of(text):
 def places(checks):
     checks.group("documents: the places")
     text = PLACES.read_text()
-    checks.equal("each of 01's places has its row, once and in order", rows_of(text), sorted(NUMBERS))
+    checks.equal("each of 01's places has its row, once and in order, then those of the stop", rows_of(text), sorted(NUMBERS) + STOP)
     for word in ("## A split in pictures", "## A join in pictures", "route", "base", "main", "neighbour"):
         checks.that(f"it has '{word}'", word in text)
-    checks.that("it is read in ten minutes", len(text.split()) < 2300, len(text.split()))
+    words = len(text.split("## Stopping joins")[0].split())
+    checks.that("it is read in ten minutes, but for the stop", words < 2300, words)
     readme = (ROOT / "README.md").read_text()
     checks.that("the README leads there more than once", readme.count("docs/PLACES.md") >= 2)
     _, table, lines = re.split(r"^## The places$|^## Lines 138 to 214, one by one$", RANGE.read_text(), flags=re.M)

@@ -11,7 +11,7 @@ import asking
 import library as library_module
 import processes
 from faults import BenchError
-from text_form import ACTIONS, DEEP, DEPTH_MOST, STATIONS, VERSION, version_of
+from text_form import ACTIONS, DEEP, DEPTH_MOST, STATIONS, STOP, VERSION, version_of
 
 ROOT = library_module.ROOT
 PROGRAM = Path(os.environ.get("NUXALDER_BENCH") or ROOT / "target" / "bin" / "bench")
@@ -20,13 +20,13 @@ FILE_MOST = 1 << 18
 # What each refusal of a file or a record says, as include/nuxalder.h has it.
 REFUSALS = {
     1: "a file under three bytes",
-    2: "a version other than 1 and 2, or than 1 where only that is taken",
+    2: "a version other than 1, 2 and 3, or one that is not taken here",
     3: "a count over 4,096",
-    4: "a length other than 3 + 2 * count, in version 2 other than 3 + 4 * count",
-    5: "a row buffer under 2 * count bytes, in version 2 under 7 * count",
-    6: "a text buffer under 4,096 bytes, in version 2 under 8,192",
+    4: "a length other than 3 + 2 * count, in versions 2 and 3 other than 3 + 4 * count",
+    5: "a row buffer under 2 * count bytes, in versions 2 and 3 under 7 * count",
+    6: "a text buffer under 4,096 bytes, in versions 2 and 3 under 8,192",
     7: "a thread over 3",
-    8: "an action over 5, in version 2 over 6",
+    8: "an action over 5, in versions 2 and 3 over 6",
     9: "a start with a station over 63",
     10: "unused bytes that are not 0",
     11: "a start of a busy thread",
@@ -42,10 +42,10 @@ REFUSALS = {
     23: "an operation that is not finished",
     24: "an insert, remove, split or join on threads 1 to 3, or a range query, where only thread 0 writes",
 }
-# What they say of a file of one version, and for version 2 what would be right.
+# What they say of a file of one version, and for versions 2 and 3 what would be right.
 OF_VERSION = {
     VERSION: {
-        2: "a version other than 1 and 2",
+        2: "a version other than 1, 2 and 3",
         4: "a length other than 3 + 2 * count",
         8: "an action over 5",
         10: "a step whose second byte is not 0",
@@ -57,6 +57,11 @@ OF_VERSION = {
         10: "unused bytes that are not 0: only an insert has a depth and only a range an upper end, and a step has no station",
         14: f"an insert with a depth over 9,999: a depth is 0 to {DEPTH_MOST} mm",
     },
+}
+OF_VERSION[STOP] = {
+    **OF_VERSION[DEEP],
+    2: "version 3, in which searches stop joins; where only thread 0 writes, version 1 and 2 are taken",
+    4: "a length other than 3 + 4 * count: a record of version 3 has four bytes",
 }
 FILE_REFUSALS = (1, 2, 3, 4)  # those of the whole file: no record was looked at
 
@@ -121,7 +126,7 @@ def words(refusal, file):
 
 
 def row_of(thread, action, station, answer, *more):
-    """A row as the program prints it; `more` is what a row of version 2 has, the depth found and a set."""
+    """A row as the program prints it; `more` is what a row of versions 2 and 3 has, the depth found and a set."""
     reason = REASONS.get(answer, "")
     if isinstance(reason, dict):
         reason = reason[ACTIONS[action]]

@@ -23,7 +23,7 @@ class Difference(Exception):
 
 
 def row_words(thread, action, station, answer, *more):
-    """A row with its answer's number, which says more than yes or no, and in version 2 its depth and a set that is not empty."""
+    """A row with its answer's number, which says more than yes or no, and in versions 2 and 3 its depth and a set that is not empty."""
     words = f"row t{thread} {text_form.ACTIONS[action]} {station}, answer {answer}"
     return words + "".join(f", {name} {value}" for name, value in zip(("depth", "set"), more) if value or name == "depth")
 

@@ -12,7 +12,7 @@
 
 #include "nuxalder.h"
 
-/* A record has 2 bytes in version 1 and 4 in version 2, the row buffer 2 and 7 for each. */
+/* A record has 2 bytes in version 1 and 4 in versions 2 and 3, the row buffer 2 and 7 for each. */
 enum { RECORDS_MOST = 4096, HEADER = 3, WIDTH_MOST = 4, ROOM_MOST = 7 };
 
 static uint8_t schedule[HEADER + WIDTH_MOST * RECORDS_MOST];
@@ -32,7 +32,7 @@ int main(void) {
     uint8_t head[4];
 
     while (fread(head, 1, sizeof head, stdin) == sizeof head) {
-        size_t width = head[1] == 2 ? 4 : 2, count = 256u * head[2] + head[3], i;
+        size_t width = head[1] == 2 || head[1] == 3 ? 4 : 2, count = 256u * head[2] + head[3], i;
         if (count > RECORDS_MOST || fread(schedule + HEADER, width, count, stdin) != count) return 1;
         schedule[0] = head[1];
         answer(count, width, ' ');

@@ -67,7 +67,7 @@ def no_history(refusal, schedule):
     """Why a schedule that is refused whole has no history."""
     if refusal != 2:
         return bench.words(refusal, schedule)
-    return REFUSALS[2] + (f": {NO_DEPTHS}" if text_form.version_of(schedule) == text_form.DEEP else "")
+    return REFUSALS[2] + (f": {NO_DEPTHS}" if text_form.is_deep(text_form.version_of(schedule)) else "")
 
 
 def judged(histories):

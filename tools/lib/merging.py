@@ -24,7 +24,7 @@ def _file_words(number, file):
     """What a refusal of one of the two says."""
     if number != 2:
         return bench.words(number, file)
-    deep = text_form.version_of(file) == text_form.DEEP
+    deep = text_form.is_deep(text_form.version_of(file))
     return NOT_VERSION_1 + (": without its depths and its version line this one is of version 1" if deep else "")
 
 

@@ -27,7 +27,7 @@ const threadTurns = [[], [], [], []];
 run.deeds.forEach(([thread], at) => threadTurns[thread].push([at + 1]));
 
 const badge = (thread) => `<b class="badge b${thread}">t${thread}</b>`;
-// A row's words: thread, action, station, answer and, for a lookup's yes in version 2, the depth found.
+// A row's words: thread, action, station, answer and, for a lookup's yes in versions 2 and 3, the depth found.
 const wordsOf = ({ row }) => row.split(" ");
 const answer = (given) => { const word = wordsOf(given)[3]; return `<em class="answer ${word}">${word}</em>`; };
 const found = (given) => { const depth = wordsOf(given)[4]; return depth === undefined ? "" : `<span class="found">${depth}</span>`; };
@@ -39,7 +39,7 @@ const rowHtml = (given) => `${withBadge(wordsOf(given).slice(0, 3).join(" "))}${
 
 // ---- The listing as a tree ----
 
-// A container and the set are words, "3" or in version 2 "3=640": a station and its depth.
+// A container and the set are words, "3" or in versions 2 and 3 "3=640": a station and its depth.
 function parse(listing) {
   const lines = listing.trimEnd().split("\n");
   const set = lines.pop();

@@ -5,7 +5,7 @@ from pathlib import Path
 
 import bench
 import story
-from text_form import DEEP, record_text, records_of, version_of
+from text_form import is_deep, record_text, records_of, version_of
 
 PARTS = Path(__file__).resolve().parent
 
@@ -39,7 +39,7 @@ def page_data(file, name, where="", one_writer=False):
         "rows": [[turn.number, row.text, row.reason] for turn in run.turns for row in turn.rows],
         "listings": _changes(run.turns, lambda turn: turn.listing),
         "counts": _changes(run.turns, lambda turn: [turn.stored, turn.used]),
-        **({"deep": True} if version_of(file) == DEEP else {}),
+        **({"deep": True} if is_deep(version_of(file)) else {}),
     }
 
 

@@ -4,7 +4,7 @@ import difflib
 from dataclasses import dataclass
 
 import bench
-from text_form import ACTIONS, DEEP, INSERT, RANGE, STEP, record_text, records_of, version_of
+from text_form import ACTIONS, INSERT, RANGE, STEP, is_deep, record_text, records_of, version_of
 
 MARGIN = " " * 11
 
@@ -37,7 +37,7 @@ def refusal_text(refusal, file):
 
 
 def _head(number, text, done, file):
-    room = len("t0 insert 63 9999") if version_of(file) == DEEP else len("t0 insert 63  ")
+    room = len("t0 insert 63 9999") if is_deep(version_of(file)) else len("t0 insert 63  ")
     return f"turn {number:<4}  {text:<{room}}  {done}"
 
 

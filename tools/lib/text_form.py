@@ -1,4 +1,4 @@
-"""The text form of a schedule: text to the file of document 01, or of document 02 (a and b) for version 2, and back.
+"""The text form of a schedule: text to the file of document 01, or of document 02 (a, b and h) for versions 2 and 3, and back.
 
 docs/SCHEDULES.md describes the form. Every file, also one that 01 refuses, has a text that encodes to it.
 """
@@ -11,13 +11,14 @@ from faults import Fault
 
 VERSION = 1
 DEEP = 2  # the version whose inserts have depths, and which has range queries
-VERSIONS = (VERSION, DEEP)  # a file that starts with one of these bytes is a schedule file, any other is text
-RECORD = {VERSION: 2, DEEP: 4}  # bytes of a record; those of version 1 where there is no such version
+STOP = 3  # the same with the stop of joins on
+VERSIONS = (VERSION, DEEP, STOP)  # a file that starts with one of these bytes is a schedule file, any other is text
+RECORD = {VERSION: 2, DEEP: 4, STOP: 4}  # bytes of a record; those of version 1 where there is no such version
 HEADER = 3
 ACTIONS = ("step", "lookup", "insert", "remove", "split", "join", "range")
 STEP = 0
 INSERT = 2
-RANGE = 6  # of version 2: from the station to an upper end
+RANGE = 6  # not of version 1: from the station to an upper end
 THREADS = 4
 STATIONS = 64
 DEPTH_MOST = 9999
@@ -164,10 +165,10 @@ class _Encoder:
         self.lines = []  # the line of each byte of the records and the tail
         self.finisher = finisher
         self.sound = True  # whether all lines so far were good
-        self.deep_line = 0  # the first line that only version 2 has, an insert's depth or a range query; 0 for none
+        self.deep_line = 0  # the first line that version 1 does not have, an insert's depth or a range query; 0 for none
 
     def prepare(self, lines):
-        """What must be known of the whole text before its first line: whether it has a line that only version 2 has."""
+        """What must be known of the whole text before its first line: whether it has a line that version 1 does not have."""
         self.deep_line = next((number for number, raw in enumerate(lines, 1) if DEEP_LINE.match(raw)), 0)
 
     def version(self):
@@ -258,23 +259,23 @@ class _Encoder:
                 more = f"nothing may follow '{line.words[line.at - 1]}' on this line: a raw record of four bytes is of version {DEEP}"
                 raise _wrong(line.words[line.at], f"{more}, and a line `version {DEEP}` before the records says so")
             return record
-        right = f"a raw record of version {DEEP} is four bytes, each two hexadecimal digits, 00 to ff"
+        right = f"a raw record of version {self.version()} is four bytes, each two hexadecimal digits, 00 to ff"
         return [line.byte(right) for _ in range(RECORD[DEEP])]
 
     def depth(self, action, line):
         """The depth of an insert, in a text whose version has them."""
         if action != INSERT:
-            if self.version() != DEEP:
+            if not is_deep(self.version()):
                 line.end()
             raise _wrong(line.words[line.at], "only an insert has a depth")
         self.needs_deep("a depth", line.words[line.at])
         return line.number(0, DEPTH_MOST, f"a depth is a number of millimetres, 0 to {DEPTH_MOST}")
 
     def needs_deep(self, what, word):
-        """The text must be of the version that has it."""
-        if self.version() != DEEP:
+        """The text must be of a version that has it."""
+        if not is_deep(self.version()):
             told = f"the text says version {self.version()}" if "version" in self.header else "with no-header there is no version"
-            raise _wrong(word, f"{what} needs version {DEEP}, and {told}")
+            raise _wrong(word, f"{what} needs version {DEEP} or {STOP}, and {told}")
 
     @staticmethod
     def step_count(line):
@@ -372,7 +373,7 @@ def encode(text, name):
 
 
 def record_text(first, second, *more):
-    """One record as a line of text; `more` is what a record of version 2 has, two bytes: an insert's depth, a range's upper end."""
+    """One record as a line of text; `more` is what a record of versions 2 and 3 has, two bytes: an insert's depth, a range's upper end."""
     thread, action = first >> 4, first & 15
     extra = int.from_bytes(bytes(more), "big")
     raw = f"raw {bytes((first, second, *more)).hex(' ')}"
@@ -386,8 +387,13 @@ def record_text(first, second, *more):
 
 
 def version_of(file):
-    """The version whose forms a file has: that of depths where it says so, else 1."""
-    return DEEP if file[:1] == bytes([DEEP]) else VERSION
+    """The version whose forms a file has: the one that it says, or 1 where there is no such version."""
+    return file[0] if file[:1] and file[0] in VERSIONS else VERSION
+
+
+def is_deep(version):
+    """Whether a version has depths and range queries."""
+    return version in (DEEP, STOP)
 
 
 def records_of(file):

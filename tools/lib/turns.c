@@ -9,7 +9,7 @@
  * After each of the first two come the rows that are new since the one before (the whole file and turn FROM:
  * all rows) and the listing where it is not the same as at the one before:
  *
- *     row THREAD ACTION STATION ANSWER          and in version 2 the row's DEPTH and SET
+ *     row THREAD ACTION STATION ANSWER          and in versions 2 and 3 the row's DEPTH and SET
  *     list LENGTH, a newline and that many bytes of text
  *
  * With `scan` the whole file is not asked for, so that a build that comes to grief on it is followed up to there. A
@@ -162,7 +162,7 @@ int main(int argc, char **argv) {
     to = strtoul(argv[2], NULL, 10);
     length = fread(schedule, 1, sizeof schedule, stdin);
     if (length == sizeof schedule) fail("the file is far longer than any schedule");
-    if (length > 0 && schedule[0] == 2) is = &two;
+    if (length > 0 && (schedule[0] == 2 || schedule[0] == 3)) is = &two;
     if (!scan) whole(length, &to);
 
     for (n = from; n <= to; n++, at = !at) {

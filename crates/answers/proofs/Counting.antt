@@ -14,7 +14,7 @@ use Rattle.definitions.specs.declared.Spot.{Spot}
 use Rattle.definitions.specs.declared.Spot.the-variants.{Root, Under}
 use Rattle.definitions.specs.declared.Quarter.{Quarter}
 use Rattle.definitions.specs.declared.Effect.{Effect}
-use Rattle.definitions.specs.declared.Effect.the-variants.{Quiet, Mark, Settle, Invalid, Swing, Base, Fork, Commit, Ask, Fill}
+use Rattle.definitions.specs.declared.Effect.the-variants.{Quiet, Mark, Settle, Invalid, Swing, Raise, Lower, Base, Fork, Commit, Ask, Fill}
 use Rattle.definitions.specs.Bench.{Store, Bench, sightOf}
 use Rattle.definitions.specs.Threads.{Frame, Thread, idle}
 use Rattle.definitions.specs.Places.{Place, nowhere, p3, p15, p62, swap, opening, placeOf}
@@ -46,6 +46,8 @@ was-before (Settle m v) s S h q = inl (h, q)
 was-before (Invalid r) s S h q = inl (h, q)
 was-before (Swing Root x) s S h q = inl (h, q)
 was-before (Swing (Under g d) x) s S h q = inl (h, q)
+was-before Raise s S h q = inl (h, q)
+was-before Lower s S h q = inl (h, q)
 was-before (Base Root x k p c m) s S h q = inl (h, q)
 was-before (Base (Under g d) x k p c m) s S h q = inl (h, q)
 was-before (Fork Root x l r k y) s S h q = inl (h, q)

@@ -15,7 +15,7 @@ use Rattle.definitions.specs.declared.Action.the-variants.{Lookup, Insert, Remo
 use Rattle.definitions.specs.declared.Spot.{Spot}
 use Rattle.definitions.specs.declared.Spot.the-variants.{Root, Under}
 use Rattle.definitions.specs.declared.Effect.{Effect}
-use Rattle.definitions.specs.declared.Effect.the-variants.{Quiet, Mark, Settle, Invalid, Swing, Base, Fork, Commit, Ask, Fill}
+use Rattle.definitions.specs.declared.Effect.the-variants.{Quiet, Mark, Settle, Invalid, Swing, Raise, Lower, Base, Fork, Commit, Ask, Fill}
 use Rattle.definitions.specs.Threads.{Thread, begun, Turn, Moves, Finishes, Finds, Full, NoStore}
 use Rattle.definitions.specs.Nodes.{Nodes, Stores, Entry, newBase}
 use Rattle.definitions.specs.Bench.{Store, store, sightOf, Bench}
@@ -46,9 +46,11 @@ mild-nodes (Mark r l) s m f = upd-kind (s .nodes) r _ (f r) f
 mild-nodes (Settle x v) s m f = upd-kind (s .nodes) x _ (f x) f
 mild-nodes (Invalid r) s m f = upd-kind (s .nodes) r _ (f r) f
 mild-nodes (Swing v x) s m f = hang-kind v x s f
+mild-nodes Raise s m f = f
+mild-nodes Lower s m f = f
 mild-nodes (Base v x k p c o) s m f = hang-kind v x (push x (newBase k p (contentOf c (s .nodes)) o) s) (upd-kind (s .nodes) x _ m f)
 mild-nodes (Fork v x l r k b) s m f =
-    hang-kind v x (store (forked x l r k (s .nodes b .container) (s .nodes)) (s .root) (x + 3) (s .stores) (s .shown))
+    hang-kind v x (store (forked x l r k (s .nodes b .container) (s .nodes)) (s .root) (x + 3) (s .stores) (s .shown) (s .stop))
     (upd-kind _ r _ normal-range (upd-kind _ l _ normal-range (upd-kind (s .nodes) x _ route-range f)))
 mild-nodes (Commit a x p n g o) s m f =
     upd-kind _ a _ (upd-kind (s .nodes) x _ neighbour-range f a) (upd-kind (s .nodes) x _ neighbour-range f)
@@ -61,6 +63,8 @@ mild-stores (Mark r l) s m = (refl, refl)
 mild-stores (Settle x v) s m = (refl, refl)
 mild-stores (Invalid r) s m = (refl, refl)
 mild-stores (Swing v x) s m = hang-stores v x s
+mild-stores Raise s m = (refl, refl)
+mild-stores Lower s m = (refl, refl)
 mild-stores (Base v x k p c o) s m = hang-stores v x _
 mild-stores (Fork v x l r k b) s m = hang-stores v x _
 mild-stores (Commit a x p n g o) s m = (refl, refl)

@@ -25,13 +25,13 @@ use Rattle.definitions.specs.declared.Probe.the-variants.{Hit, Next, Miss}
 use Rattle.definitions.specs.declared.Check.{Check}
 use Rattle.definitions.specs.declared.Shared.the-variants.{Unset}
 use Rattle.definitions.specs.declared.Effect.{Effect}
-use Rattle.definitions.specs.declared.Effect.the-variants.{Quiet, Mark, Settle, Invalid, Swing, Base, Fork, Commit, Ask, Fill}
+use Rattle.definitions.specs.declared.Effect.the-variants.{Quiet, Mark, Settle, Invalid, Swing, Raise, Lower, Base, Fork, Commit, Ask, Fill}
 use Rattle.definitions.specs.Threads.{Thread, Turn, Moves, Finishes, Finds, Full, NoStore, goes}
 use Rattle.definitions.specs.Frames.{backIn, back}
 use Rattle.definitions.specs.Nodes.{Shapes, Stores, childFor, checkStage, check, checkAs}
 use Rattle.definitions.specs.Bench.{Store, store, Sight, Bench}
-use Rattle.definitions.specs.Places.{own, found, united, opening, next, quarterNumber, number, Place, nowhere, p1, p2, p3, p15, p16, p20, p21, p22, p23, p24, p25, p30, p31, p32, p33, p34, p35, p36, p37, p38, p40, p45, p46, p47, p48, p49, p50, p51, p60, p61, p62, p70, p71, p72, p73, p74, p76, p81, p82, swap, placeOf}
-use Rattle.definitions.specs.Steps.{backOut, atLeaf, reached, helpBy, blockedAs, blocked, lostAs, lost, joinUnder, clearedAs, cleared, probe, replacedAs, replaced, ownBy, foundBy, unitedBy, beside, grandMarking, unmark, invalid, cutAt, cutOn, cutRight, freeing, step}
+use Rattle.definitions.specs.Places.{own, found, united, opening, next, quarterNumber, number, reading, Place, nowhere, p1, p2, p3, p4, p5, p15, p16, p19, p20, p21, p22, p23, p24, p25, p30, p31, p32, p33, p34, p35, p36, p37, p38, p40, p45, p46, p47, p48, p49, p50, p51, p60, p61, p62, p70, p71, p72, p73, p74, p76, p81, p82, swap, placeOf}
+use Rattle.definitions.specs.Steps.{backOut, atLeaf, reached, onward, oneMore, followed, released, helpBy, blockedAs, blocked, lostAs, lost, joinUnder, clearedAs, cleared, probe, replacedAs, replaced, ownBy, foundBy, unitedBy, beside, grandMarking, unmark, invalid, cutAt, cutOn, cutRight, freeing, step}
 use Rattle.answers.proofs.Tools.{clash}
 use Rattle.answers.proofs.PlaceNumbers.{number-of}
 
@@ -62,6 +62,8 @@ Mild (Mark r l) = Unit {0}
 Mild (Settle m v) = Unit {0}
 Mild (Invalid r) = Unit {0}
 Mild (Swing v x) = Unit {0}
+Mild Raise = Unit {0}
+Mild Lower = Unit {0}
 Mild (Base v x k p c m) = k ≢ Range
 Mild (Fork v x l r k y) = Unit {0}
 Mild (Commit m x p n g o) = Unit {0}
@@ -148,17 +150,36 @@ module _ (s : Sight) (none : (x : ℕ) → s .nodes x .kind ≢ Range) (th : Thr
   unfolding back
   returns e m = subst (λ fs. Level (backIn fs e th)) (sym (h .frames)) (record { place = omega arith; frames = refl; action = h .action }, m)
 
-  leaf : (a : Action) (x : ℕ) → Level (atLeaf a (s .nodes) th x)
-  leaf Lookup x = tt
-  leaf Insert x = on _ (omega arith) refl refl
-  leaf Remove x = on _ (omega arith) refl refl
-  leaf Split x = on _ (omega arith) refl refl
-  leaf Join x = on _ (omega arith) refl refl
-  leaf Query x = tt
+  -- with k routes read where c is true
+  leaf : (a : Action) (c : Bool) (k x : ℕ) → Level (atLeaf a (s .nodes) (reading c k th) x)
+  leaf Lookup c k x = tt
+  leaf Insert c k x = on _ (omega arith) refl refl
+  leaf Remove c k x = on _ (omega arith) refl refl
+  leaf Split c k x = on _ (omega arith) refl refl
+  leaf Join c k x = on _ (omega arith) refl refl
+  leaf Query c k x = tt
 
-  reach : (x : ℕ) → Level (reached (s .nodes) th x)
+  reach : (c : Bool) (k x : ℕ) → Level (reached (s .nodes) (reading c k th) x)
   unfolding reached
-  reach x = fork _ _ _ (on _ (omega arith) refl refl) (leaf (th .action) x)
+  reach c k x = fork _ _ _ (on _ (omega arith) refl refl) (leaf (th .action) c k x)
+
+  -- with the stop on: a search that is counted, and where it is taken off
+  pass : (e : Effect) (c : Bool) (k x : ℕ) → Mild e → Level (onward e (s .nodes) (reading c k th) x)
+  unfolding onward
+  pass e c k x m = fork _ _ _ (to-place _ (omega arith) refl refl, m) (to-place _ (omega arith) refl refl, m)
+
+  follow : (v c : Bool) (k x : ℕ) → Level (followed v (s .nodes) (reading c k th) x)
+  unfolding followed
+  follow false c k x = reach c k x
+  follow true c k x = fork _ _ _ (reach c k x) (fork _ _ _ (on _ (omega arith) refl refl) (pass Quiet c k x tt))
+
+  release : (a : Action) → Level (released a (s .nodes) th)
+  release Lookup = tt
+  release Insert = (to-place _ (omega arith) refl refl, tt)
+  release Remove = (to-place _ (omega arith) refl refl, tt)
+  release Split = (to-place _ (omega arith) refl refl, tt)
+  release Join = (to-place _ (omega arith) refl refl, tt)
+  release Query = tt
 
   lose : (a : Action) → Level (lostAs a th)
   lose Lookup = tt
@@ -183,16 +204,17 @@ module _ (s : Sight) (none : (x : ℕ) → s .nodes x .kind ≢ Range) (th : Thr
   block Join c z = tt
   block Query c z = tt
 
-  link : (l : Link) → Level (joinUnder l th)
-  link Nil = tt
-  link (To p) = on _ (omega arith) refl refl
+  link : (c : Bool) (l : Link) → Level (joinUnder c l th)
+  link c Nil = tt
+  link false (To p) = on _ (omega arith) refl refl
+  link true (To p) = on _ (omega arith) refl refl
 
-  clear : (a : Action) → Level (clearedAs a (s .nodes (th .base)) th)
+  clear : (a : Action) → Level (clearedAs a (s .stop .on) (s .nodes (th .base)) th)
   clear Lookup = tt
   clear Insert = on _ (omega arith) refl refl
   clear Remove = on _ (omega arith) refl refl
   clear Split = on _ (omega arith) refl refl
-  clear Join = link (s .nodes (th .base) .parent)
+  clear Join = link (s .stop .on) (s .nodes (th .base) .parent)
   clear Query = tt
 
   replace : (a : Action) (v : Spot) → Level (replacedAs a v (s .nodes (th .base)) (s .used) th)
@@ -250,12 +272,15 @@ module _ (s : Sight) (none : (x : ℕ) → s .nodes x .kind ≢ Range) (th : Thr
   level : (p : Place) → number p < 60 → Level (step p s th)
   unfolding step beside cleared blocked lost
   level nowhere l = (h, tt)
-  level p1 l = reach (s .root)
-  level p2 l = reach (childFor (th .station) (s .nodes (th .route)))
+  level p1 l = reach (s .stop .on) 0 (s .root)
+  level p2 l = follow (s .stop .on) (s .stop .on) (oneMore (th .read)) (childFor (th .station) (s .nodes (th .route)))
   level p3 l = fork _ _ _ tt (fork _ _ _ (clear (th .action)) (block (th .action) (check (s .nodes) (s .stores) (th .base)) (checked (s .nodes) (s .stores) (th .base) (none (th .base)))))
+  level p4 l = pass Raise false 0 (th .route) tt
+  level p5 l = release (th .action)
   level (swap own q) l = by-own (probe q (s .nodes (th .base) .parent) (s .nodes) (s .root) (th .base))
   level p15 l = help (check (s .nodes) (s .stores) (th .base)) (checked (s .nodes) (s .stores) (th .base) (none (th .base)))
   level p16 l = fork _ _ _ (returns _ tt) (returns _ tt)
+  level p19 l = fork _ _ _ (on _ (omega arith) refl refl) tt
   level p20 l = fork _ _ _ (on _ (omega arith) refl refl) (on _ (omega arith) refl refl)
   level p21 l = fork _ _ _ (on _ (omega arith) refl refl) tt
   level p22 l = fork _ _ _ (on _ (omega arith) refl refl) (on _ (omega arith) refl refl)

@@ -13,14 +13,14 @@ use Rattle.definitions.specs.declared.Effect.the-variants.{Quiet}
 use Rattle.definitions.specs.declared.Answer.the-variants.{No, Yes, At}
 use Rattle.definitions.specs.Threads.{Thread, Turn, Moves, Finishes, Finds, Full, NoStore}
 use Rattle.definitions.specs.Bench.{Store}
-use Rattle.definitions.specs.Places.{own, found, united, opening, next, Place, nowhere, p1, p2, p3, p15, p16, p20, p21, p22, p23, p24, p25, p30, p31, p32, p33, p34, p35, p36, p37, p38, p40, p45, p46, p47, p48, p49, p50, p51, p60, p61, p62, p70, p71, p72, p73, p74, p76, p81, p82, swap, placeOf}
+use Rattle.definitions.specs.Places.{own, found, united, opening, next, Place, nowhere, p1, p2, p3, p4, p5, p15, p16, p19, p20, p21, p22, p23, p24, p25, p30, p31, p32, p33, p34, p35, p36, p37, p38, p40, p45, p46, p47, p48, p49, p50, p51, p60, p61, p62, p70, p71, p72, p73, p74, p76, p81, p82, swap, placeOf}
 use Rattle.definitions.specs.Answers.{said, shown}
 use Rattle.definitions.specs.Reasons.{changes, Reason}
 
 -- ---- the parts of an operation
 
 pub data Part : Type 0 where
-  -- none; 1-16 and 60-82; 20-25; 26-38; 40-51
+  -- none; 1-16 and 60-82; 19-25; 26-38; 40-51
   idle free seeking holding helping : Part
 
 abbrev pub partOf : Place → Part
@@ -28,9 +28,12 @@ partOf nowhere = idle
 partOf p1 = free
 partOf p2 = free
 partOf p3 = free
+partOf p4 = free
+partOf p5 = free
 partOf (swap own q) = free
 partOf p15 = free
 partOf p16 = free
+partOf p19 = seeking
 partOf p20 = seeking
 partOf p21 = seeking
 partOf p22 = seeking

@@ -22,15 +22,15 @@ use Rattle.definitions.specs.declared.Spot.the-variants.{Root, Under}
 use Rattle.definitions.specs.declared.Probe.{Probe}
 use Rattle.definitions.specs.declared.Probe.the-variants.{Hit, Next, Miss}
 use Rattle.definitions.specs.declared.Effect.{Effect}
-use Rattle.definitions.specs.declared.Effect.the-variants.{Fork, Commit}
+use Rattle.definitions.specs.declared.Effect.the-variants.{Fork, Commit, Quiet, Raise}
 use Rattle.definitions.specs.declared.Answer.the-variants.{Yes, Lacking}
 use Rattle.definitions.specs.Threads.{Thread, Turn}
 use Rattle.definitions.specs.Nodes.{childFor, check, isPreparing}
 use Rattle.definitions.specs.Bench.{Store, Sight, sightOf}
-use Rattle.definitions.specs.Places.{own, found, united, opening, next, Place, nowhere, p1, p2, p3, p15, p16, p20, p21, p22, p23, p24, p25, p30, p31, p32, p33, p34, p35, p36, p37, p38, p40, p45, p46, p47, p48, p49, p50, p51, p60, p61, p62, p70, p71, p72, p73, p74, p76, p81, p82, swap, placeOf, number, at}
+use Rattle.definitions.specs.Places.{own, found, united, opening, next, reading, Place, nowhere, p1, p2, p3, p4, p5, p15, p16, p19, p20, p21, p22, p23, p24, p25, p30, p31, p32, p33, p34, p35, p36, p37, p38, p40, p45, p46, p47, p48, p49, p50, p51, p60, p61, p62, p70, p71, p72, p73, p74, p76, p81, p82, swap, placeOf, number, at}
 use Rattle.definitions.specs.Effects.{perform}
 use Rattle.definitions.specs.Frames.{back}
-use Rattle.definitions.specs.Steps.{says, atLeaf, reached, helpBy, blockedAs, blocked, lacksAs, lacks, joinUnder, clearedAs, cleared, probe, lostAs, lost, replacedAs, replaced, ownBy, foundBy, unitedBy, beside, grandMarking, backOut, ended, cutAt, cutOn, cutRight, freeing, step}
+use Rattle.definitions.specs.Steps.{says, atLeaf, reached, onward, oneMore, followed, released, helpBy, blockedAs, blocked, lacksAs, lacks, joinUnder, clearedAs, cleared, probe, lostAs, lost, replacedAs, replaced, ownBy, foundBy, unitedBy, beside, grandMarking, backOut, ended, cutAt, cutOn, cutRight, freeing, step}
 use Rattle.definitions.specs.Reasons.{changes, Reason}
 use Rattle.answers.proofs.PlaceNumbers.{place-number, number-of}
 use Rattle.answers.proofs.ReasonParts.{partOf, Stand, Stands, Told, same, either, one-shown, one-looked, or-off, apart, all-of, none}
@@ -79,17 +79,35 @@ module _ (s : Store) (th : Thread) where
 
   -- ---- 1 to 3
 
-  leaf : (n : ℕ) (a : Action) (x : ℕ) → th .action ≡ a → Calm n (atLeaf a (r .nodes) th x)
-  leaf n Lookup x i = rw i (one-looked (has (r .nodes x .container) (th .station)) x)
-  leaf n Insert x i = refl
-  leaf n Remove x i = refl
-  leaf n Split x i = refl
-  leaf n Join x i = refl
-  leaf n Query x i = tt
+  -- with k routes read where c is true
+  leaf : (n : ℕ) (a : Action) (c : Bool) (k x : ℕ) → th .action ≡ a → Calm n (atLeaf a (r .nodes) (reading c k th) x)
+  leaf n Lookup c k x i = rw i (one-looked (has (r .nodes x .container) (th .station)) x)
+  leaf n Insert c k x i = refl
+  leaf n Remove c k x i = refl
+  leaf n Split c k x i = refl
+  leaf n Join c k x i = refl
+  leaf n Query c k x i = tt
 
-  reach : (n x : ℕ) → Calm n (reached (r .nodes) th x)
+  reach : (n : ℕ) (c : Bool) (k x : ℕ) → Calm n (reached (r .nodes) (reading c k th) x)
   unfolding reached
-  reach n x = split n _ _ _ refl (leaf n (th .action) x refl)
+  reach n c k x = split n _ _ _ refl (leaf n (th .action) c k x refl)
+
+  pass : (n : ℕ) (e : Effect) (c : Bool) (k x : ℕ) → Calm n (onward e (r .nodes) (reading c k th) x)
+  unfolding onward
+  pass n e c k x = split n _ _ _ refl refl
+
+  follow : (on c : Bool) (k x : ℕ) → Calm 2 (followed on (r .nodes) (reading c k th) x)
+  unfolding followed
+  follow false c k x = reach 2 c k x
+  follow true c k x = split 2 _ _ _ (reach 2 c k x) (split 2 _ _ _ refl (pass 2 Quiet c k x))
+
+  release : (a : Action) → th .action ≡ a → Calm 5 (released a (r .nodes) th)
+  release Lookup i = rw i (one-looked (has (r .nodes (th .base) .container) (th .station)) (th .base))
+  release Insert i = refl
+  release Remove i = refl
+  release Split i = refl
+  release Join i = refl
+  release Query i = tt
 
   lacking : (a : Action) (b : Node) → th .action ≡ a → lacksAs a b ≡ true → Calm 3 (says Lacking)
   lacking Lookup b i h = absurd (false≢true h)
@@ -99,16 +117,18 @@ module _ (s : Store) (th : Thread) where
   lacking Split b i h = rw i (refl, refl)
   lacking Join b i h = rw i (refl, refl)
 
-  link : (l : Link) → th .action ≡ Join → Calm 3 (joinUnder l th)
-  link Nil i = rw i (refl, refl)
-  link (To p) i = (i, refl)
+  -- 20, or 19 with the stop on
+  link : (on : Bool) (l : Link) → th .action ≡ Join → Calm 3 (joinUnder on l th)
+  link on Nil i = rw i (refl, refl)
+  link false (To p) i = (i, refl)
+  link true (To p) i = (i, refl)
 
-  clear : (a : Action) (b : Node) → th .action ≡ a → Calm 3 (clearedAs a b th)
+  clear : (a : Action) (b : Node) → th .action ≡ a → Calm 3 (clearedAs a (r .stop .on) b th)
   clear Lookup b i = rw i (inl refl)
   clear Insert b i = refl
   clear Remove b i = refl
   clear Split b i = refl
-  clear Join b i = link (b .parent) i
+  clear Join b i = link (r .stop .on) (b .parent) i
   clear Query b i = tt
 
   help : (n : ℕ) (c : Check) → Calm n (helpBy c th)
@@ -262,12 +282,15 @@ module _ (s : Store) (th : Thread) where
   pub told : (p : Place) (d : Bool) → placeOf (th .place) ≡ p → Stand (partOf p) th d → Step p d
   unfolding step beside lacks cleared blocked
   told nowhere d e h = rw e tt
-  told p1 d e h = calmly p1 false d e refl h (reach 1 (r .root))
-  told p2 d e h = calmly p2 false d e refl h (reach 2 (childFor (th .station) (r .nodes (th .route))))
+  told p1 d e h = calmly p1 false d e refl h (reach 1 (r .stop .on) 0 (r .root))
+  told p2 d e h = calmly p2 false d e refl h (follow (r .stop .on) (r .stop .on) (oneMore (th .read)) (childFor (th .station) (r .nodes (th .route))))
   told p3 d e h = calmly p3 false d e refl h (either th 3 _ _ _ _ (λ z. lacking (th .action) (r .nodes (th .base)) refl z) (λ _. split 3 _ _ _ (clear (th .action) (r .nodes (th .base)) refl) (block (th .action) (check (r .nodes) (r .stores) (th .base)) refl)))
+  told p4 d e h = calmly p4 false d e refl h (pass 4 Raise false 0 (th .route))
+  told p5 d e h = calmly p5 false d e refl h (release (th .action) refl)
   told (swap own q) d e h = placed (swap own q) d e (omega (arith, own-range q)) (rw h (by-own q (probe q (r .nodes (th .base) .parent) (r .nodes) (r .root) (th .base)) (r .nodes (th .base))))
   told p15 d e h = calmly p15 false d e refl h (help 15 (check (r .nodes) (r .stores) (th .base)))
   told p16 d e h = calmly p16 false d e refl h (split 16 _ _ _ (goes-back r th 16 _) (goes-back r th 16 _))
+  told p19 d e (i, h) = calmly p19 false d e refl h (split 19 _ _ _ (i, refl) (rw i (refl, refl)))
   told p20 d e (i, h) = calmly p20 false d e refl h (split 20 _ _ _ (i, refl) (i, refl))
   told p21 d e (i, h) = calmly p21 false d e refl h (split 21 _ _ _ (i, refl) (rw i (refl, inr (inl refl))))
   told p22 d e (i, h) = calmly p22 false d e refl h (split 22 _ _ _ (i, refl) (i, refl))

@@ -81,4 +81,4 @@ along (r ∷ rs) b d all = go (recordStep b (r .last) (r .first) (r .second) (r 
     go (carried b' w) (k, all') ih = (k, ih b' _ all')
 
 pub reasons-rule : ReasonsRule
-reasons-rule rs = along rs fresh (λ _. false) (λ t. tt)
+reasons-rule on rs = along rs (fresh on) (λ _. false) (λ t. tt)

@@ -11,7 +11,7 @@ use Rattle.definitions.specs.declared.Kind.the-variants.{Route, Range}
 use Rattle.definitions.specs.declared.Quarter.{Quarter}
 use Rattle.definitions.specs.declared.Quarter.the-variants.{ReadLeft, SwapLeft, ReadRight, SwapRight}
 use Rattle.definitions.specs.declared.Shared.the-variants.{Unset}
-use Rattle.definitions.specs.Schedule.{recordsOf}
+use Rattle.definitions.specs.Schedule.{stopOf, recordsOf}
 use Rattle.definitions.specs.Run.{after}
 use Rattle.definitions.specs.Claim.{moments}
 use Rattle.definitions.specs.Threads.{Frame, Thread}
@@ -132,12 +132,12 @@ module _ (w : World) (hist : Hist) (m : Mem w hist) (g : FitsIn (w .nodes) (w .u
 pub reach-entries : (file : List ℕ) (k t : ℕ) → 60 < after file k .bench .threads t .place → after file k .bench .threads t .place < 81
     → Top (after file k .bench .threads t) (λ f. length (f .stack) ≤ 86)
 reach-entries file k t a b = let o = run-ends file k in let h = o .inv .held (nodes file k) (λ _ _. refl) in
-    walk-short _ (moments (recordsOf file k)) (h .mem) (reach-store file k) _ (walks (after file k .bench .threads t .place) a b) _ (after file k .bench .threads t) (omega arith) (h .knows t)
+    walk-short _ (moments (stopOf file) (recordsOf file k)) (h .mem) (reach-store file k) _ (walks (after file k .bench .threads t .place) a b) _ (after file k .bench .threads t) (omega arith) (h .knows t)
 
 -- where a node is pushed there is room for it
 pub reach-push : (file : List ℕ) (k t : ℕ) → Pushes (placeOf (after file k .bench .threads t .place)) → Top (after file k .bench .threads t) (λ f. length (f .stack) ≤ 85)
 reach-push file k t e = let o = run-ends file k in let h = o .inv .held (nodes file k) (λ _ _. refl) in
-    push-short _ (moments (recordsOf file k)) (h .mem) (reach-store file k) _ e _ (after file k .bench .threads t) (h .knows t)
+    push-short _ (moments (stopOf file) (recordsOf file k)) (h .mem) (reach-store file k) _ e _ (after file k .bench .threads t) (h .knows t)
 
 pub reach-enter : (file : List ℕ) (k t : ℕ) → t < 4 → after file k .bench .threads t .place ≡ 15
     → nodes file k (after file k .bench .threads t .base) .kind ≡ Range → after file k .bench .store .stores (nodes file k (after file k .bench .threads t .base) .store) ≡ Unset

@@ -17,7 +17,7 @@ use Rattle.definitions.specs.Bench.{Bench, fresh}
 use Rattle.definitions.specs.Records.{Row, noRow, row, Result, refused, carried, recordStep}
 use Rattle.definitions.specs.Answers.{said}
 use Rattle.definitions.specs.Tree.{treeHeld}
-use Rattle.definitions.specs.Schedule.{Rec, recordsOf, countOf}
+use Rattle.definitions.specs.Schedule.{Rec, stopOf, recordsOf, countOf}
 use Rattle.definitions.specs.Plain as table
 use Rattle.definitions.specs.Plain.{noOperation, doing, wasCarried}
 use Rattle.definitions.specs.PlainSet as set
@@ -95,8 +95,8 @@ at-same (r ∷ rs) (suc k) b P Q same = go (recordStep b (r .last) (r .first) (r
 empty-same : Same table.empty set.empty
 empty-same = record { stations = λ s. refl; operations = λ t. refl }
 
-moments-same : (rs : List Rec) (k s : ℕ) → isIn (deep.moments rs k s) ≡ plain.moments rs k s
-moments-same rs k s = at-same rs k fresh table.empty set.empty empty-same .stations s
+moments-same : (on : Bool) (rs : List Rec) (k s : ℕ) → isIn (deep.moments on rs k s) ≡ plain.moments on rs k s
+moments-same on rs k s = at-same rs k (fresh on) table.empty set.empty empty-same .stations s
 
 -- ---- the claim
 
@@ -133,6 +133,6 @@ module _ (H : deep.Moments) (G : plain.Moments) (same-at : (k s : ℕ) → isIn 
 
 pub set-rule : SetRule
 set-rule = (
-  λ rs. from-same (deep.moments rs) (plain.moments rs) (moments-same rs) rs fresh table.empty set.empty (λ _. Nil) 0 empty-same (answers-rule .0 rs),
-  λ file n e s h. answers-rule .1 file n e s h ∙ moments-same (recordsOf file (countOf file)) (countOf file) s,
+  λ on rs. from-same (deep.moments on rs) (plain.moments on rs) (moments-same on rs) rs (fresh on) table.empty set.empty (λ _. Nil) 0 empty-same (answers-rule .0 on rs),
+  λ file n e s h. answers-rule .1 file n e s h ∙ moments-same (stopOf file) (recordsOf file (countOf file)) (countOf file) s,
 )

@@ -16,14 +16,14 @@ use Rattle.definitions.specs.Places.{placeOf}
 use Rattle.definitions.specs.Effects.{hang, contentOf, perform}
 use Rattle.definitions.specs.Steps.{step}
 use Rattle.definitions.specs.Records.{Result, refused, carried, taken, stepped, depthRefusal, started, asked, acted, recordStep}
-use Rattle.definitions.specs.Schedule.{Rec, recordAt}
+use Rattle.definitions.specs.Schedule.{Rec, stopOf, recordAt}
 use Rattle.definitions.specs.Run.{Progress, begin, advanceBy, advance, after}
 use Rattle.definitions.specs.declared.Content.{Content}
 use Rattle.definitions.specs.declared.Content.the-variants.{Of, With, Without}
 use Rattle.definitions.specs.declared.Spot.{Spot}
 use Rattle.definitions.specs.declared.Spot.the-variants.{Root, Under}
 use Rattle.definitions.specs.declared.Effect.{Effect}
-use Rattle.definitions.specs.declared.Effect.the-variants.{Quiet, Mark, Settle, Invalid, Swing, Base, Fork, Commit, Ask, Fill}
+use Rattle.definitions.specs.declared.Effect.the-variants.{Quiet, Mark, Settle, Invalid, Swing, Raise, Lower, Base, Fork, Commit, Ask, Fill}
 use Rattle.definitions.specs.declared.Action.{Action}
 use Rattle.definitions.specs.declared.Action.the-variants.{Lookup, Insert, Remove, Split, Join, Query}
 use Rattle.definitions.specs.Threads.{Thread}
@@ -78,6 +78,8 @@ perform-small th (Mark r k) s h l p = all-upd (s .nodes) r _ h (h r)
 perform-small th (Settle m v) s h l p = all-upd (s .nodes) m _ h (h m)
 perform-small th (Invalid r) s h l p = all-upd (s .nodes) r _ h (h r)
 perform-small th (Swing v x) s h l p = hang-small v x s h
+perform-small th Raise s h l p = h
+perform-small th Lower s h l p = h
 perform-small th (Base v x k q (Of y) m) s h l p = hang-small v x _ (all-upd (s .nodes) x _ h (h y))
 perform-small th (Base v x k q (With y t d) m) s h l p = hang-small v x _ (all-upd (s .nodes) x _ h (put-small (s .nodes y .container) t d (h y) (rw p l)))
 perform-small th (Base v x k q (Without y t) m) s h l p = hang-small v x _ (all-upd (s .nodes) x _ h (out-small (s .nodes y .container) t (h y)))
@@ -154,8 +156,8 @@ record-small b l x y d h = either _ _ _ (λ _. tt) (λ _. either _ _ _ (λ _. tt
 
 -- ---- runs
 
-fresh-small : Small fresh
-fresh-small = record { nodes = λ x s. omega arith; threads = λ t. omega arith }
+fresh-small : (sw : Bool) → Small (fresh sw)
+fresh-small sw = record { nodes = λ x s. omega arith; threads = λ t. omega arith }
 
 advance-small : (file : List ℕ) (p : Progress) (r : Rec) → Small (p .bench) → Small (advance file p r .bench)
 unfolding advance ite
@@ -168,5 +170,5 @@ advance-small file p r h = elim (test (eqb (p .refusal) 0)) [ on e ↦ rw e (go 
 -- after the first k records of any file, of either version
 pub small : (file : List ℕ) (k : ℕ) → Small (after file k .bench)
 unfolding after
-small file zero = fresh-small
+small file zero = fresh-small (stopOf file)
 small file (suc k) = advance-small file (after file k) (recordAt file k) (small file k)

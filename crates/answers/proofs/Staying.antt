@@ -8,7 +8,7 @@ use mathlib.Core.Logic.{_≢_}
 use Rattle.answers.proofs.Tools.{clash}
 use Rattle.answers.proofs.FrameFacts.{TopOf}
 use Rattle.answers.proofs.Owners.{Bears, Owner}
-use Rattle.definitions.specs.declared.Effect.the-variants.{Quiet, Mark, Settle, Invalid, Swing, Base, Fork, Commit, Ask, Fill}
+use Rattle.definitions.specs.declared.Effect.the-variants.{Quiet, Mark, Settle, Invalid, Swing, Raise, Lower, Base, Fork, Commit, Ask, Fill}
 use Rattle.container.specs.Choice.{ite}
 use Rattle.definitions.specs.declared.Link.{Link}
 use Rattle.definitions.specs.declared.Link.the-variants.{Nil, To}
@@ -32,8 +32,8 @@ use Rattle.definitions.specs.Threads.{Turn}
 use Rattle.definitions.specs.Threads.{Moves, Finishes, Finds, Full, NoStore}
 use Rattle.definitions.specs.Nodes.{childFor, checkStage, checkStore, checkAs, check}
 use Rattle.definitions.specs.Bench.{Sight}
-use Rattle.definitions.specs.Places.{toFrames, own, found, united, opening, next, Place, nowhere, p1, p2, p3, p15, p16, p20, p21, p22, p23, p24, p25, p30, p31, p32, p33, p34, p35, p36, p37, p38, p40, p45, p46, p47, p48, p49, p50, p51, p60, p61, p62, p70, p71, p72, p73, p74, p76, p81, p82, swap}
-use Rattle.definitions.specs.Steps.{atLeaf, reached, lostAs, lost, joinUnder, clearedAs, cleared, probe, replacedAs, replaced, ownBy, foundBy, unitedBy, helpBy, blockedAs, blocked, beside, grandMarking, cutAt, cutOn, cutRight, freeing, reachedFirst, reachedNext, openedBy, extendedBy, popOn, metBy, filling, leaving, readOut, isQuery, unmark, invalid, step}
+use Rattle.definitions.specs.Places.{toFrames, own, found, united, opening, next, reading, Place, nowhere, p1, p2, p3, p4, p5, p15, p16, p19, p20, p21, p22, p23, p24, p25, p30, p31, p32, p33, p34, p35, p36, p37, p38, p40, p45, p46, p47, p48, p49, p50, p51, p60, p61, p62, p70, p71, p72, p73, p74, p76, p81, p82, swap}
+use Rattle.definitions.specs.Steps.{atLeaf, reached, onward, oneMore, followed, released, lostAs, lost, joinUnder, clearedAs, cleared, probe, replacedAs, replaced, ownBy, foundBy, unitedBy, helpBy, blockedAs, blocked, beside, grandMarking, cutAt, cutOn, cutRight, freeing, reachedFirst, reachedNext, openedBy, extendedBy, popOn, metBy, filling, leaving, readOut, isQuery, unmark, invalid, step}
 use Rattle.definitions.specs.Threads.{Frame, newFrame}
 use Rattle.definitions.specs.Frames.{topOf, tailOf, storeOf, pushed, inHand, withStack, popping, noting, asks, adds, inFrame, nextFrom, adding, foundFirst, backIn, back}
 use mathlib.Core.List.{List, [], _∷_}
@@ -47,6 +47,8 @@ Shows (Mark r l) k = ⊥
 Shows (Settle m v) k = ⊥
 Shows (Invalid r) k = ⊥
 Shows (Swing v x) k = ⊥
+Shows Raise k = ⊥
+Shows Lower k = ⊥
 Shows (Base v x d p c m) k = ⊥
 Shows (Fork v x l r d y) k = ⊥
 Shows (Commit m x p n g o) k = ⊥
@@ -89,17 +91,35 @@ pub record Sem (p : Place) (s : Sight) (th : Thread) : Type 0 where
   pub single : (q : Quarter) → p ≡ swap opening q → Single th
 
 module _ (s : Sight) (th : Thread) where
-  leaf : (a : Action) (x : ℕ) → Stay s th (atLeaf a (s .nodes) th x)
-  leaf Lookup x = (λ k v. v)
-  leaf Insert x = (λ S o. o, λ h. h, λ k v. absurd v)
-  leaf Remove x = (λ S o. o, λ h. h, λ k v. absurd v)
-  leaf Split x = (λ S o. o, λ h. h, λ k v. absurd v)
-  leaf Join x = (λ S o. o, λ h. h, λ k v. absurd v)
-  leaf Query x = tt
+  -- with i routes read where c is true
+  leaf : (a : Action) (c : Bool) (i x : ℕ) → Stay s th (atLeaf a (s .nodes) (reading c i th) x)
+  leaf Lookup c i x = (λ k v. v)
+  leaf Insert c i x = (λ S o. o, λ h. h, λ k v. absurd v)
+  leaf Remove c i x = (λ S o. o, λ h. h, λ k v. absurd v)
+  leaf Split c i x = (λ S o. o, λ h. h, λ k v. absurd v)
+  leaf Join c i x = (λ S o. o, λ h. h, λ k v. absurd v)
+  leaf Query c i x = tt
 
-  reach : (x : ℕ) → Stay s th (reached (s .nodes) th x)
+  reach : (c : Bool) (i x : ℕ) → Stay s th (reached (s .nodes) (reading c i th) x)
   unfolding reached
-  reach x = fork s th _ _ _ (λ S o. o, λ h. h, λ k v. absurd v) (leaf (th .action) x)
+  reach c i x = fork s th _ _ _ (λ S o. o, λ h. h, λ k v. absurd v) (leaf (th .action) c i x)
+
+  pass : (e : Effect) (c : Bool) (i x : ℕ) → ((k : ℕ) → Shows e k → ⊥) → Stay s th (onward e (s .nodes) (reading c i th) x)
+  unfolding onward
+  pass e c i x none = fork s th _ _ _ (λ S o. o, λ h. h, λ k v. absurd (none k v)) (λ S o. o, λ h. h, λ k v. absurd (none k v))
+
+  follow : (on c : Bool) (i x : ℕ) → Stay s th (followed on (s .nodes) (reading c i th) x)
+  unfolding followed
+  follow false c i x = reach c i x
+  follow true c i x = fork s th _ _ _ (reach c i x) (fork s th _ _ _ (λ S o. o, λ h. h, λ k v. absurd v) (pass Quiet c i x (λ k v. v)))
+
+  release : (a : Action) → Stay s th (released a (s .nodes) th)
+  release Lookup = (λ k v. v)
+  release Insert = (λ S o. o, λ h. h, λ k v. absurd v)
+  release Remove = (λ S o. o, λ h. h, λ k v. absurd v)
+  release Split = (λ S o. o, λ h. h, λ k v. absurd v)
+  release Join = (λ S o. o, λ h. h, λ k v. absurd v)
+  release Query = tt
 
   lose : (a : Action) → Stay s th (lostAs a th)
   lose Lookup = (λ k v. v)
@@ -109,16 +129,17 @@ module _ (s : Sight) (th : Thread) where
   lose Join = (λ k v. v)
   lose Query = tt
 
-  link : (l : Link) → Stay s th (joinUnder l th)
-  link Nil = (λ k v. v)
-  link (To p) = (λ S o. o, λ h. h, λ k v. absurd v)
+  link : (on : Bool) (l : Link) → Stay s th (joinUnder on l th)
+  link on Nil = (λ k v. v)
+  link false (To p) = (λ S o. o, λ h. h, λ k v. absurd v)
+  link true (To p) = (λ S o. o, λ h. h, λ k v. absurd v)
 
-  clear : (a : Action) → Stay s th (clearedAs a (s .nodes (th .base)) th)
+  clear : (a : Action) → Stay s th (clearedAs a (s .stop .on) (s .nodes (th .base)) th)
   clear Lookup = (λ k v. v)
   clear Insert = (λ S o. o, λ h. h, λ k v. absurd v)
   clear Remove = (λ S o. o, λ h. h, λ k v. absurd v)
   clear Split = (λ S o. o, λ h. h, λ k v. absurd v)
-  clear Join = link (s .nodes (th .base) .parent)
+  clear Join = link (s .stop .on) (s .nodes (th .base) .parent)
   clear Query = tt
 
   replace : (a : Action) (v : Spot) → Stay s th (replacedAs a v (s .nodes (th .base)) (s .used) th)
@@ -316,12 +337,15 @@ module _ (s : Sight) (th : Thread) where
   pub stay-op : (p : Place) → Sem p s th → Stay s th (step p s th)
   unfolding step beside cleared blocked check
   stay-op nowhere sem = (λ S o. o, λ h. h, λ k v. absurd v)
-  stay-op p1 sem = reach (s .root)
-  stay-op p2 sem = reach (childFor (th .station) (s .nodes (th .route)))
+  stay-op p1 sem = reach (s .stop .on) 0 (s .root)
+  stay-op p2 sem = follow (s .stop .on) (s .stop .on) (oneMore (th .read)) (childFor (th .station) (s .nodes (th .route)))
   stay-op p3 sem = fork s th _ _ _ (λ k v. v) (fork s th _ _ _ (clear (th .action)) (block (th .action) (sem .unhelped refl)))
+  stay-op p4 sem = pass Raise false 0 (th .route) (λ k v. v)
+  stay-op p5 sem = release (th .action)
   stay-op (swap own q) sem = by-own (probe q (s .nodes (th .base) .parent) (s .nodes) (s .root) (th .base))
   stay-op p15 sem = help (s .nodes (th .base) .kind) refl (sem .fits refl)
   stay-op p16 sem = fork s th _ _ _ (goes-back _ (λ k v. v)) (goes-back _ (λ k v. v))
+  stay-op p19 sem = fork s th _ _ _ (λ S o. o, λ h. h, λ k v. absurd v) (λ k v. v)
   stay-op p20 sem = fork s th _ _ _ (λ S o. o, λ h. h, λ k v. absurd v) (λ S o. o, λ h. h, λ k v. absurd v)
   stay-op p21 sem = fork s th _ _ _ (λ S o. o, λ h. h, λ k v. absurd v) (λ k v. v)
   stay-op p22 sem = fork s th _ _ _ (λ S o. o, λ h. h, λ k v. absurd v) (λ S o. o, λ h. h, λ k v. absurd v)

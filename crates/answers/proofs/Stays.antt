@@ -15,7 +15,7 @@ use Rattle.definitions.specs.declared.Quarter.the-variants.{ReadLeft, SwapLeft,
 use Rattle.definitions.specs.Threads.{Frame, Thread}
 use Rattle.definitions.specs.Frames.{topOf, tailOf, reaches}
 use Rattle.definitions.specs.Steps.{isQuery}
-use Rattle.definitions.specs.Places.{own, found, united, opening, next, Place, nowhere, p1, p2, p3, p15, p16, p20, p21, p22, p23, p24, p25, p30, p31, p32, p33, p34, p35, p36, p37, p38, p40, p45, p46, p47, p48, p49, p50, p51, p60, p61, p62, p70, p71, p72, p73, p74, p76, p81, p82, swap, at}
+use Rattle.definitions.specs.Places.{own, found, united, opening, next, Place, nowhere, p1, p2, p3, p4, p5, p15, p16, p19, p20, p21, p22, p23, p24, p25, p30, p31, p32, p33, p34, p35, p36, p37, p38, p40, p45, p46, p47, p48, p49, p50, p51, p60, p61, p62, p70, p71, p72, p73, p74, p76, p81, p82, swap, at}
 use Rattle.answers.proofs.Memory.{World, Live, Born, lives, died, alive, In, kindOf, Waits, Of, Hist}
 use Rattle.answers.proofs.FrameFacts.{Short, Waiting, own-free, blocked, Blocks, first-base, stands, Outside, Routed, Climb, prevOf, Added, Asks, Bottom, free, rides, Own, PileOf, Pile, Unless, Downward, Opening, Upward, Turns, Nearing, Nexts, Complete, Ready, TopOf, Hung, Member, Sight, Ahead, Beside, top-routed, member-routed}
 use Rattle.answers.proofs.Facts.{Fresh, AtBase, goal, InPlace, AtSide, AtFound, Grand, none, some}
@@ -176,7 +176,7 @@ module _ (w w' : World) (hist : Hist) (Mine : ℕ → Type 0) (r : Rely w w' his
       range = r .range _ _ (top-born (f .stack) (k .climb) (k .some) .1) (k .range);
       entries = λ z m. r .range z _ (member-routed w z (f .stack) (k .climb) m .1) (k .entries z m);
       fresh = unless f _ _ (λ S e q v. let o = r .stores .told S (tell S e .low) in let b = top-born (f .stack) (k .climb) (k .some) in
-          subst (λ z. Fresh w' z (topOf (f .stack))) (sym (o .3)) (r .at-route true _ _ _ (o .4) (record { kind = b .0; born = b .1; range = k .range; fresh = λ _. v }) .fresh refl)) (k .fresh);
+          subst (λ z. Fresh w' z (topOf (f .stack))) (sym (o .3)) (r .fresh _ _ (o .4) v)) (k .fresh);
     }
       where
         top-born : (s : List ℕ) → Climb w s → s ≢ [] → Routed w (topOf s)
@@ -249,11 +249,14 @@ module _ (w w' : World) (hist : Hist) (Mine : ℕ → Type 0) (r : Rely w w' his
   pub stays : (p : Place) (t : ℕ) (th : Thread) → (owning p ≡ true → Mine (th .main)) → Pile w hist t th → Know p w t th → Know p w' t th
   stays nowhere t th mine pl k = k
   stays p1 t th mine pl k = k
-  stays p2 t th mine pl (a, h, e) = (r .at-route _ _ _ _ h a, omega (arith, r .now), e)
+  stays p2 t th mine pl (a, h, e) = (record { kind = r .kind _ ∙ a .kind; born = r .born _ (a .born); range = r .range _ _ (a .born) (a .range); fresh = λ i. r .fresh _ _ h (a .fresh i) }, omega (arith, r .now), e)
   stays p3 t th mine pl (a, h, e) = (base _ _ a, h, e)
+  stays p4 t th mine pl (a, h, e) = (record { born = r .born _ (a .born); range = r .range _ _ (a .born) (a .range); fresh = λ i. r .fresh _ _ h (a .fresh i) }, omega (arith, r .now), e)
+  stays p5 t th mine pl (a, f, h, e) = (base _ _ a, (λ i. r .fresh _ _ h (f i)), omega (arith, r .now), e)
   stays (swap own q) t th mine pl a = record { act = a .act; at = base _ _ (a .at); repl = r .replaceable _ (a .repl); two = λ e. rw (r .container (th .base)) (a .two e); bare = a .bare }
   stays p15 t th mine pl (a, h, c, v) = (record { kind = λ e. a .kind (sym (r .kind _) ∙ e); born = r .born _ (a .born) }, h, c, onTop w hist t th (th .frames) _ _ pl (λ f s k. blocks-stays (th .base) f s k) v)
   stays p16 t th mine pl (a, h, c) = (on-main _ a, h, shorts (th .frames) c)
+  stays p19 t th mine pl a = seeks th a
   stays p20 t th mine pl a = seeks th a
   stays p21 t th mine pl a = seeks th a
   stays p22 t th mine pl a = seeks th a

@@ -28,4 +28,4 @@ unfolding runReport ite
 reported file n = elim (test (eqb (runRefusal file n) 0)) [ on e ↦ rw e (counted _) | off e ↦ rw e (sym (size-zero 0 (λ s _. has-none s))) ]
 
 pub stored-rule : StoredRule
-stored-rule = ((λ rs. along rs fresh), reported)
+stored-rule = ((λ on' rs. along rs (fresh on')), reported)

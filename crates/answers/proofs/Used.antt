@@ -13,10 +13,10 @@ use Rattle.container.specs.Container.{splitKey}
 use Rattle.definitions.specs.Nodes.{check}
 use Rattle.definitions.specs.Bench.{Store, Sight, sightOf}
 use Rattle.definitions.specs.Threads.{Frame, Thread, Turn, Moves, Finishes, Finds, Full, NoStore}
-use Rattle.definitions.specs.Places.{Place, nowhere, p1, p2, p3, p15, p16, p20, p21, p22, p23, p24, p25, p30, p31, p32, p33, p34, p35, p36, p37, p38, p40, p45, p46, p47, p48, p49, p50, p51, p60, p61, p62, p70, p71, p72, p73, p74, p76, p81, p82, swap, own, found, united, opening, next}
+use Rattle.definitions.specs.Places.{Place, nowhere, p1, p2, p3, p4, p5, p15, p16, p19, p20, p21, p22, p23, p24, p25, p30, p31, p32, p33, p34, p35, p36, p37, p38, p40, p45, p46, p47, p48, p49, p50, p51, p60, p61, p62, p70, p71, p72, p73, p74, p76, p81, p82, swap, own, found, united, opening, next}
 use Rattle.definitions.specs.Effects.{perform}
 use Rattle.definitions.specs.Frames.{tailOf, inFrame, nextFrom, adding, foundFirst, backIn, back, storeOf}
-use Rattle.definitions.specs.Steps.{room, storeRoom, atLeaf, reached, lostAs, lost, joinUnder, clearedAs, cleared, probe, replacedAs, replaced, ownBy, foundBy, unitedBy, helpBy, blockedAs, blocked, beside, grandMarking, unmark, invalid, replacement, cutAt, cutOn, cutRight, freeing, ended, reachedFirst, reachedNext, popOn, openedBy, extendedBy, metBy, filling, leaving, readOut, step}
+use Rattle.definitions.specs.Steps.{room, storeRoom, atLeaf, reached, onward, followed, released, lostAs, lost, joinUnder, clearedAs, cleared, probe, replacedAs, replaced, ownBy, foundBy, unitedBy, helpBy, blockedAs, blocked, beside, grandMarking, unmark, invalid, replacement, cutAt, cutOn, cutRight, freeing, ended, reachedFirst, reachedNext, popOn, openedBy, extendedBy, metBy, filling, leaving, readOut, step}
 use Rattle.definitions.specs.declared.Action.{Action}
 use Rattle.definitions.specs.declared.Action.the-variants.{Lookup, Insert, Remove, Split, Join, Query}
 use Rattle.definitions.specs.declared.Kind.{Kind}
@@ -36,7 +36,7 @@ use Rattle.definitions.specs.declared.Spot.{Spot}
 use Rattle.definitions.specs.declared.Spot.the-variants.{Root, Under}
 use Rattle.definitions.specs.declared.Check.{Check}
 use Rattle.definitions.specs.declared.Effect.{Effect}
-use Rattle.definitions.specs.declared.Effect.the-variants.{Quiet, Mark, Settle, Invalid, Swing, Base, Fork, Commit, Ask}
+use Rattle.definitions.specs.declared.Effect.the-variants.{Quiet, Mark, Settle, Invalid, Swing, Raise, Base, Fork, Commit, Ask}
 use Rattle.answers.proofs.Tools.{clash}
 use Rattle.answers.proofs.Gaps.{Fits, write-fits, hang-fits, push-fits, fork-fits}
 
@@ -119,6 +119,23 @@ module _ (s : Store) (h : Fits s) where
   unfolding reached
   reached-few th x = pick s _ _ _ h (leaf-few (th .action) th x)
 
+  onward-few : (e : Effect) (th : Thread) (x : ℕ) → Fits (perform e s) → Few s (onward e (w .nodes) th x)
+  unfolding onward
+  onward-few e th x g = pick s _ _ _ g g
+
+  followed-few : (on : Bool) (th : Thread) (x : ℕ) → Few s (followed on (w .nodes) th x)
+  unfolding followed
+  followed-few false th x = reached-few th x
+  followed-few true th x = pick s _ _ _ (reached-few th x) (pick s _ _ _ h (onward-few Quiet th x h))
+
+  released-few : (a : Action) (th : Thread) → Few s (released a (w .nodes) th)
+  released-few Lookup th = h
+  released-few Insert th = h
+  released-few Remove th = h
+  released-few Split th = h
+  released-few Join th = h
+  released-few Query th = tt
+
   lost-as-few : (a : Action) (th : Thread) → Few s (lostAs a th)
   lost-as-few Lookup th = h
   lost-as-few Insert th = h
@@ -131,21 +148,22 @@ module _ (s : Store) (h : Fits s) where
   unfolding lost
   lost-few th = lost-as-few (th .action) th
 
-  under-few : (l : Link) (th : Thread) → Few s (joinUnder l th)
-  under-few Nil th = h
-  under-few (To p) th = h
+  under-few : (on : Bool) (l : Link) (th : Thread) → Few s (joinUnder on l th)
+  under-few on Nil th = h
+  under-few false (To p) th = h
+  under-few true (To p) th = h
 
-  cleared-as-few : (a : Action) (b : Node) (th : Thread) → Few s (clearedAs a b th)
-  cleared-as-few Lookup b th = h
-  cleared-as-few Insert b th = h
-  cleared-as-few Remove b th = h
-  cleared-as-few Split b th = h
-  cleared-as-few Join b th = under-few (b .parent) th
-  cleared-as-few Query b th = tt
+  cleared-as-few : (a : Action) (on : Bool) (b : Node) (th : Thread) → Few s (clearedAs a on b th)
+  cleared-as-few Lookup on b th = h
+  cleared-as-few Insert on b th = h
+  cleared-as-few Remove on b th = h
+  cleared-as-few Split on b th = h
+  cleared-as-few Join on b th = under-few on (b .parent) th
+  cleared-as-few Query on b th = tt
 
-  cleared-few : (b : Node) (th : Thread) → Few s (cleared b th)
+  cleared-few : (on : Bool) (b : Node) (th : Thread) → Few s (cleared on b th)
   unfolding cleared
-  cleared-few b th = cleared-as-few (th .action) b th
+  cleared-few on b th = cleared-as-few (th .action) on b th
 
   -- the four-step swaps
   replaced-as-few : (a : Action) (v : Spot) (b : Node) (th : Thread) → Few s (replacedAs a v b (s .used) th)
@@ -309,12 +327,15 @@ module _ (s : Store) (h : Fits s) where
   pub step-few : (p : Place) (th : Thread) → Few s (step p w th)
   unfolding step
   step-few nowhere th = h
-  step-few p1 th = reached-few th _
-  step-few p2 th = reached-few th _
-  step-few p3 th = pick s _ _ _ h (pick s _ _ _ (cleared-few _ th) (blocked-few (check (w .nodes) (w .stores) (th .base)) th))
+  step-few p1 th = reached-few _ _
+  step-few p2 th = followed-few (s .stop .on) _ _
+  step-few p3 th = pick s _ _ _ h (pick s _ _ _ (cleared-few (s .stop .on) _ th) (blocked-few (check (w .nodes) (w .stores) (th .base)) th))
+  step-few p4 th = onward-few Raise th (th .route) h
+  step-few p5 th = released-few (th .action) th
   step-few (swap own q) th = own-few (probe q (w .nodes (th .base) .parent) (w .nodes) (w .root) (th .base)) _ th
   step-few p15 th = help-few (check (w .nodes) (w .stores) (th .base)) th
   step-few p16 th = pick s _ _ _ (back-few (Settle (th .main) Aborted) th (settle-few _ _)) (back-few Quiet th h)
+  step-few p19 th = pick s _ _ _ h h
   step-few p20 th = pick s _ _ _ h h
   step-few p21 th = pick s _ _ _ h h
   step-few p22 th = beside-few th _

@@ -11,72 +11,15 @@ use Rattle.container.specs.Container.{has, insert, remove, union, cut, below, f
 use Rattle.container.specs.Depths.{put, takeOut, merge, within, lower, upper}
 use Rattle.definitions.specs.Nodes.{check, replaceable}
 use Rattle.definitions.specs.Frames.{between, reaches, adding, back}
-use Rattle.definitions.specs.Steps.{reached, blocked, lacks, cleared, lost, probe, replaced, beside, reachedFirst, reachedNext, step}
+use Rattle.definitions.specs.Steps.{reached, onward, followed, blocked, lacks, cleared, lost, probe, replaced, beside, reachedFirst, reachedNext, step}
 use Rattle.definitions.specs.Records.{taken, stepped, started, asked, recordStep}
 use Rattle.definitions.specs.Schedule.{countOf, recordAt, fileRefusal}
 use Rattle.definitions.specs.Run.{bytesOf, runRefusal}
 use Rattle.definitions.specs.Listing.{decimal, stationsTo, stationsText, routeLine, baseLine, setLine, listRefusal}
 use Rattle.definitions.specs.Printed.{actionWord, firstLine, depthText, rowLine, lastLine, printed}
 use Rattle.definitions.proofs.Quick.{quickPrinted, quickPrinted-printed}
-use Rattle.definitions.proofs.Cases.{Lookup, Insert, Remove, Split, Join, Case, report, word, lines, nothing, outcome, promised, quick, map-quick}
-
--- ---- files: "records of four bytes: the old two, then the depth, big-endian"
-
-abbrev pub steps : ℕ → ℕ → List ℕ
-steps t zero = []
-steps t (suc k) = (16 * t) ∷ 0 ∷ 0 ∷ 0 ∷ steps t k
-
--- a start record of thread t with its last two bytes, then k of its steps
-abbrev pub start : ℕ → ℕ → ℕ → ℕ → ℕ → List ℕ
-start t action station extra k = (16 * t + action) ∷ station ∷ (extra / 256) ∷ (extra % 256) ∷ steps t k
-
-abbrev pub op : ℕ → ℕ → ℕ → ℕ → List ℕ
-op t action station k = start t action station 0 k
-
--- ---- "Rows become 14 bytes: the old four, then, big-endian, two of depth [..] and eight of set (0 here [..])"
-
-abbrev pub says : ℕ → ℕ → ℕ → ℕ → List ℕ
-says t action station answer = t ∷ action ∷ station ∷ answer ∷ 0 ∷ 0 ∷ 0 ∷ 0 ∷ 0 ∷ 0 ∷ 0 ∷ 0 ∷ 0 ∷ 0 ∷ []
-
--- a lookup's yes
-abbrev pub finds : ℕ → ℕ → ℕ → List ℕ
-finds t station depth = t ∷ Lookup ∷ station ∷ 1 ∷ (depth / 256) ∷ (depth % 256) ∷ 0 ∷ 0 ∷ 0 ∷ 0 ∷ 0 ∷ 0 ∷ 0 ∷ 0 ∷ []
-
--- ---- cases
-
-abbrev pub schedule : ℕ → List ℕ → List ℕ
-schedule version records = version ∷ (length records / 4 / 256) ∷ (length records / 4 % 256) ∷ records
-
--- the records before the last are carried out, and it is not where k is not 0: "the buffer needs 7 × count", "List refuses a buffer under 8,192 bytes"
-abbrev pub ending : ℕ → ℕ → ℕ → List ℕ → List ℕ → List ℕ → ℕ → ℕ → List String → Case
-ending version k done records rows set held used text = record {
-  file = schedule version records;
-  buffer = 7 * (length records / 4);
-  gives = report k done (length rows / 14) (word set) held used;
-  rows = rows;
-  text = 8192;
-  refusal = k;
-  lists = text;
-}
-
--- a run with no record refused: rows, set, stored, used, listing
-abbrev pub run : ℕ → List ℕ → List ℕ → List ℕ → ℕ → ℕ → List String → Case
-run version records rows set held used text = ending version 0 (length records / 4) records rows set held used text
-
--- a run on a tree still empty whose last record is refused with k
-abbrev pub refusing : ℕ → ℕ → List ℕ → Case
-refusing version k records = ending version k (length records / 4 - 1) records [] [] 0 1 nothing
-
--- a file refused with k, by List too
-abbrev pub faulty : ℕ → List ℕ → Case
-faulty k file = record { file = file; buffer = 16; gives = report k 0 0 0 0 0; rows = []; text = 8192; refusal = k; lists = [] }
-
--- t0 inserts 3 at 640 and 9 at 9999 and splits
-abbrev pub deepRun : List ℕ
-deepRun = start 0 Insert 3 640 3 ++ start 0 Insert 9 9999 3 ++ op 0 Split 3 3
-
-abbrev pub deepRows : List ℕ
-deepRows = says 0 Insert 3 1 ++ says 0 Insert 9 1 ++ says 0 Split 3 1
+use Rattle.definitions.proofs.DeepCases.{steps, start, op, says, finds, schedule, run, refusing, faulty, deepRun, deepRows}
+use Rattle.definitions.proofs.Cases.{Lookup, Insert, Remove, Split, Join, Case, report, word, lines, outcome, promised, quick, map-quick}
 
 abbrev table : List Case
 table =
@@ -111,8 +54,9 @@ table =
     ∷ refusing 2 10 (start 0 Insert 3 1 0 ++ start 0 0 0 1 0)
     ∷ refusing 2 10 (start 0 0 0 1 0)
     ∷ refusing 2 11 (start 0 Insert 3 1 0 ++ start 0 Insert 3 9999 0)
-    -- "refusal 2 is now for any other version"; "a length other than 3 + 4 × count with 4"
-    ∷ faulty 2 (0x03 ∷ 0x00 ∷ 0x00 ∷ [])
+    -- "refusal 2 is now for any other version", 0 or 4; "a length other than 3 + 4 × count with 4"
+    ∷ faulty 2 (0x00 ∷ 0x00 ∷ 0x00 ∷ [])
+    ∷ faulty 2 (0x04 ∷ 0x00 ∷ 0x00 ∷ [])
     ∷ faulty 4 (0x02 ∷ 0x00 ∷ 0x01 ∷ 0x02 ∷ 0x09 ∷ [])
     -- a row buffer under 7 × count; "In version 2 List refuses a buffer under 8,192 bytes with 6"
     ∷ record { file = 0x02 ∷ 0x00 ∷ 0x01 ∷ 0x02 ∷ 0x09 ∷ 0x02 ∷ 0x80 ∷ []; buffer = 6; gives = report 5 0 0 0 0 0; rows = []; text = 8191; refusal = 6; lists = [] }
@@ -138,7 +82,7 @@ abbrev deepFile : List ℕ
 deepFile = schedule 2 (deepRun ++ op 1 Lookup 9 2 ++ op 1 Lookup 4 2)
 
 by-computing : (map quick table ≡ map promised table) × (quickPrinted deepFile ≡ lines deepText)
-unfolding bytesOf recordAt between reaches adding back reachedFirst reachedNext asked put takeOut merge within lower upper depthText rowLine decimal stationsTo stationsText routeLine baseLine setLine listRefusal check replaceable actionWord firstLine lastLine taken stepped started recordStep runRefusal countOf fileRefusal reached blocked lacks cleared lost probe replaced beside step ite has insert remove union cut below from size least dropLeast upperHalf lowerHalf splitKey onesIn trailingZeros
+unfolding bytesOf recordAt between reaches adding back reachedFirst reachedNext asked put takeOut merge within lower upper depthText rowLine decimal stationsTo stationsText routeLine baseLine setLine listRefusal check replaceable actionWord firstLine lastLine taken stepped started recordStep runRefusal countOf fileRefusal reached onward followed blocked lacks cleared lost probe replaced beside step ite has insert remove union cut below from size least dropLeast upperHalf lowerHalf splitKey onesIn trailingZeros
 by-computing = (refl, refl)
 
 pub depth-runs : (map outcome table ≡ map promised table) × (printed deepFile ≡ lines deepText)

@@ -4,6 +4,7 @@ use Prim.Native.Nat.{ℕ, zero, suc, _+_, _*_, _/_}
 use Prim.Native.Char.{code}
 use Prim.Native.String.{String, [] as over, _∷_ as _then_}
 use mathlib.Core.Path.{_≡_, refl}
+use mathlib.Core.Bool.{false}
 use mathlib.Core.List.{List, [], _∷_, _++_}
 use lib.Count.{onesIn, trailingZeros}
 use Rattle.container.specs.Choice.{ite}
@@ -12,7 +13,7 @@ use Rattle.container.specs.Depths.{put, takeOut, merge, within, lower, upper}
 use Rattle.definitions.specs.Nodes.{check, replaceable}
 use Rattle.definitions.specs.Bench.{Bench, fresh}
 use Rattle.definitions.specs.Frames.{between, reaches, adding, back}
-use Rattle.definitions.specs.Steps.{reached, blocked, lacks, cleared, lost, probe, replaced, beside, reachedFirst, reachedNext, step}
+use Rattle.definitions.specs.Steps.{reached, onward, followed, blocked, lacks, cleared, lost, probe, replaced, beside, reachedFirst, reachedNext, step}
 use Rattle.definitions.specs.Records.{Row, noRow, row, Result, refused, carried, taken, stepped, started, asked, recordStep}
 use Rattle.definitions.specs.Answers.{answerNumber}
 use Rattle.definitions.specs.Schedule.{Rec}
@@ -170,14 +171,14 @@ run3 =
 abbrev end3 : Outcome
 end3 = ends 0 (says 0 1 0 ∷ says 0 1 0 ∷ says 0 1 0 ∷ says 0 1 0 ∷ says 2 0 0 ∷ says 2 0 0 ∷ says 2 1 0 ∷ says 2 1 0 ∷ says 0 3 0 ∷ says 2 6 0 ∷ says 0 1 256 ∷ says 1 0 0 ∷ says 1 0 0 ∷ says 0 6 0 ∷ says 0 1 0 ∷ says 1 1 296 ∷ says 1 2 0 ∷ says 1 0 0 ∷ says 1 0 0 ∷ says 0 0 0 ∷ says 1 1 0 ∷ says 2 1 0 ∷ says 1 1 0 ∷ says 1 1 32 ∷ says 2 4 0 ∷ says 1 1 0 ∷ says 1 0 0 ∷ says 0 1 0 ∷ []) ("0 normal 1 2 3 5 8 12" ∷ "set 1 2 3 5 8 12" ∷ []) 39 7 (10 ∷ 10 ∷ 15 ∷ 0 ∷ [])
 
-pub random1 : play run1 fresh [] ≡ end1
-unfolding put takeOut merge within lower upper between reaches adding back reachedFirst reachedNext asked decimal stationsTo stationsText routeLine baseLine setLine check replaceable taken stepped started recordStep reached blocked lacks cleared lost probe replaced beside step ite has insert remove union cut below from size least dropLeast upperHalf lowerHalf splitKey onesIn trailingZeros
+pub random1 : play run1 (fresh false) [] ≡ end1
+unfolding put takeOut merge within lower upper between reaches adding back reachedFirst reachedNext asked decimal stationsTo stationsText routeLine baseLine setLine check replaceable taken stepped started recordStep reached onward followed blocked lacks cleared lost probe replaced beside step ite has insert remove union cut below from size least dropLeast upperHalf lowerHalf splitKey onesIn trailingZeros
 random1 = refl
 
-pub random2 : play run2 fresh [] ≡ end2
-unfolding put takeOut merge within lower upper between reaches adding back reachedFirst reachedNext asked decimal stationsTo stationsText routeLine baseLine setLine check replaceable taken stepped started recordStep reached blocked lacks cleared lost probe replaced beside step ite has insert remove union cut below from size least dropLeast upperHalf lowerHalf splitKey onesIn trailingZeros
+pub random2 : play run2 (fresh false) [] ≡ end2
+unfolding put takeOut merge within lower upper between reaches adding back reachedFirst reachedNext asked decimal stationsTo stationsText routeLine baseLine setLine check replaceable taken stepped started recordStep reached onward followed blocked lacks cleared lost probe replaced beside step ite has insert remove union cut below from size least dropLeast upperHalf lowerHalf splitKey onesIn trailingZeros
 random2 = refl
 
-pub random3 : play run3 fresh [] ≡ end3
-unfolding put takeOut merge within lower upper between reaches adding back reachedFirst reachedNext asked decimal stationsTo stationsText routeLine baseLine setLine check replaceable taken stepped started recordStep reached blocked lacks cleared lost probe replaced beside step ite has insert remove union cut below from size least dropLeast upperHalf lowerHalf splitKey onesIn trailingZeros
+pub random3 : play run3 (fresh false) [] ≡ end3
+unfolding put takeOut merge within lower upper between reaches adding back reachedFirst reachedNext asked decimal stationsTo stationsText routeLine baseLine setLine check replaceable taken stepped started recordStep reached onward followed blocked lacks cleared lost probe replaced beside step ite has insert remove union cut below from size least dropLeast upperHalf lowerHalf splitKey onesIn trailingZeros
 random3 = refl

@@ -10,23 +10,15 @@ use Rattle.container.specs.Container.{has, insert, remove, union, cut, below, f
 use Rattle.container.specs.Depths.{put, takeOut, merge, within, lower, upper}
 use Rattle.definitions.specs.Nodes.{check, replaceable}
 use Rattle.definitions.specs.Frames.{between, reaches, adding, back}
-use Rattle.definitions.specs.Steps.{reached, blocked, lacks, cleared, lost, probe, replaced, beside, reachedFirst, reachedNext, step}
+use Rattle.definitions.specs.Steps.{reached, onward, followed, blocked, lacks, cleared, lost, probe, replaced, beside, reachedFirst, reachedNext, step}
 use Rattle.definitions.specs.Records.{taken, stepped, started, asked, recordStep}
 use Rattle.definitions.specs.Schedule.{countOf, recordAt, fileRefusal}
 use Rattle.definitions.specs.Run.{bytesOf, runRefusal}
 use Rattle.definitions.specs.Listing.{decimal, stationsTo, stationsText, routeLine, baseLine, setLine, listRefusal}
 use Rattle.definitions.specs.Printed.{actionWord, firstLine, depthText, rowLine, lastLine, printed}
 use Rattle.definitions.proofs.Quick.{quickPrinted, quickPrinted-printed}
-use Rattle.definitions.proofs.DepthRuns.{steps, start, op, says, finds, schedule, run, refusing, ending, deepRun, deepRows}
+use Rattle.definitions.proofs.DeepCases.{steps, start, op, says, finds, Range, found, schedule, run, refusing, ending, deepRun, deepRows}
 use Rattle.definitions.proofs.Cases.{Insert, Split, Join, Case, word, lines, outcome, promised, quick, map-quick}
-
--- "action 6 [..], from the station to the upper end in the last two bytes"
-abbrev pub Range : ℕ
-Range = 6
-
--- "The row carries the set found, depth 0, and answer 1 if that set has a station"; the sets here have no station over 15
-abbrev pub found : ℕ → ℕ → List ℕ → List ℕ
-found t station set = t ∷ Range ∷ station ∷ 1 ∷ 0 ∷ 0 ∷ 0 ∷ 0 ∷ 0 ∷ 0 ∷ 0 ∷ 0 ∷ (word set / 256) ∷ (word set % 256) ∷ []
 
 -- rows after the deep run: the set, the tree below its route
 abbrev after : List ℕ → List ℕ → List ℕ → ℕ → ℕ → List String → Case
@@ -162,7 +154,7 @@ abbrev rangeFile : List ℕ
 rangeFile = schedule 2 (deepRun ++ start 1 Range 0 63 16)
 
 by-computing : (map quick table ≡ map promised table) × (quickPrinted rangeFile ≡ lines rangeText)
-unfolding bytesOf recordAt between reaches adding back reachedFirst reachedNext asked put takeOut merge within lower upper depthText rowLine decimal stationsTo stationsText routeLine baseLine setLine listRefusal check replaceable actionWord firstLine lastLine taken stepped started recordStep runRefusal countOf fileRefusal reached blocked lacks cleared lost probe replaced beside step ite has insert remove union cut below from size least dropLeast upperHalf lowerHalf splitKey onesIn trailingZeros
+unfolding bytesOf recordAt between reaches adding back reachedFirst reachedNext asked put takeOut merge within lower upper depthText rowLine decimal stationsTo stationsText routeLine baseLine setLine listRefusal check replaceable actionWord firstLine lastLine taken stepped started recordStep runRefusal countOf fileRefusal reached onward followed blocked lacks cleared lost probe replaced beside step ite has insert remove union cut below from size least dropLeast upperHalf lowerHalf splitKey onesIn trailingZeros
 by-computing = (refl, refl)
 
 pub range-runs : (map outcome table ≡ map promised table) × (printed rangeFile ≡ lines rangeText)

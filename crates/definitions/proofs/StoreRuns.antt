@@ -1,6 +1,7 @@
 -- Runs in which the stores of range queries run out (02, request b): refusal 16, only where the comparison succeeds, and 13 before it.
 use Prim.Native.Nat.{ℕ, zero, suc, _+_, _*_, _/_, _%_, _-_}
 use mathlib.Core.Path.{_≡_, refl, _∙_}
+use mathlib.Core.Bool.{false}
 use mathlib.Core.List.{List, [], _∷_, _++_, map}
 use lib.Count.{onesIn, trailingZeros}
 use lib.ListN.{length}
@@ -8,11 +9,11 @@ use Rattle.container.specs.Choice.{ite, upd}
 use Rattle.container.specs.Container.{has, insert, remove, union, cut, below, from, size, least, dropLeast, upperHalf, lowerHalf, splitKey}
 use Rattle.container.specs.Depths.{put, takeOut, merge, within, lower, upper}
 use Rattle.definitions.specs.Nodes.{emptyBase, check, replaceable}
-use Rattle.definitions.specs.Bench.{Bench, bench, store}
+use Rattle.definitions.specs.Bench.{Bench, bench, stop, store}
 use Rattle.definitions.specs.Threads.{Thread, newFrame, asking, idle}
 use Rattle.definitions.specs.Places.{p60, swap, opening, at, atFrames}
 use Rattle.definitions.specs.Frames.{inHand, between, reaches, adding, back}
-use Rattle.definitions.specs.Steps.{reached, blocked, lacks, cleared, lost, probe, replaced, beside, reachedFirst, reachedNext, step}
+use Rattle.definitions.specs.Steps.{reached, onward, followed, blocked, lacks, cleared, lost, probe, replaced, beside, reachedFirst, reachedNext, step}
 use Rattle.definitions.specs.Records.{Result, refused, carried, taken, stepped, started, asked, recordStep}
 use Rattle.definitions.specs.Schedule.{countOf, recordAt, fileRefusal}
 use Rattle.definitions.specs.Run.{bytesOf, runRefusal}
@@ -21,9 +22,8 @@ use Rattle.definitions.specs.Printed.{actionWord, firstLine, depthText, 
 use Rattle.definitions.specs.declared.Link.the-variants.{Nil}
 use Rattle.definitions.specs.declared.Quarter.the-variants.{ReadLeft}
 use Rattle.definitions.specs.declared.Shared.the-variants.{Unset}
-use Rattle.definitions.proofs.DepthRuns.{steps, start, says, ending}
+use Rattle.definitions.proofs.DeepCases.{steps, start, says, Range, found, ending}
 use Rattle.definitions.proofs.Cases.{Insert, Case, outcome, promised, quick, map-quick}
-use Rattle.definitions.proofs.RangeRuns.{Range, found}
 
 -- k times the same
 abbrev again : ℕ → List ℕ → List ℕ
@@ -57,7 +57,7 @@ abbrev swapping : Thread
 swapping = at (swap opening ReadLeft) (atFrames p60 (inHand 0 [] (newFrame 0 3 Nil) ∷ []) (asking 0 3))
 
 abbrev standing : ℕ → ℕ → ℕ → Bench
-standing root used shown = bench (store (λ _. emptyBase) root used (λ _. Unset) shown) (upd (λ _. idle) 0 swapping)
+standing root used shown = bench (store (λ _. emptyBase) root used (λ _. Unset) shown (stop false 0)) (upd (λ _. idle) 0 swapping)
 
 -- what comes of t0's step: the refusal, 0 for none
 abbrev refusal : Result → ℕ
@@ -72,7 +72,7 @@ abbrev orders : List ℕ
 orders = stepOf (standing 0 255 63) ∷ stepOf (standing 0 255 64) ∷ stepOf (standing 0 256 63) ∷ stepOf (standing 0 256 64) ∷ stepOf (standing 1 256 64) ∷ []
 
 by-computing : (map quick table ≡ map promised table) × (orders ≡ 0 ∷ 16 ∷ 13 ∷ 13 ∷ 0 ∷ [])
-unfolding bytesOf recordAt between reaches adding back reachedFirst reachedNext asked put takeOut merge within lower upper depthText rowLine decimal stationsTo stationsText routeLine baseLine setLine listRefusal check replaceable actionWord firstLine lastLine taken stepped started recordStep runRefusal countOf fileRefusal reached blocked lacks cleared lost probe replaced beside step ite has insert remove union cut below from size least dropLeast upperHalf lowerHalf splitKey onesIn trailingZeros
+unfolding bytesOf recordAt between reaches adding back reachedFirst reachedNext asked put takeOut merge within lower upper depthText rowLine decimal stationsTo stationsText routeLine baseLine setLine listRefusal check replaceable actionWord firstLine lastLine taken stepped started recordStep runRefusal countOf fileRefusal reached onward followed blocked lacks cleared lost probe replaced beside step ite has insert remove union cut below from size least dropLeast upperHalf lowerHalf splitKey onesIn trailingZeros
 by-computing = (refl, refl)
 
 pub store-runs : (map outcome table ≡ map promised table) × (orders ≡ 0 ∷ 16 ∷ 13 ∷ 13 ∷ 0 ∷ [])

@@ -7,7 +7,7 @@ use lib.ListN.{length}
 use Rattle.container.specs.Choice.{ite}
 use Rattle.definitions.specs.Bench.{Bench}
 use Rattle.definitions.specs.Records.{Result, refused, recordStep}
-use Rattle.definitions.specs.Schedule.{Rec, countOf, recordAt}
+use Rattle.definitions.specs.Schedule.{Rec, stopOf, countOf, recordAt}
 use Rattle.definitions.specs.Run.{Progress, begin, advanceBy, reportOf, refusedReport, runRefusal, overlay}
 use Rattle.definitions.specs.declared.Report.{Report}
 
@@ -27,12 +27,12 @@ profileAdvance file p r = ite (eqb (p .refusal) 0) (advanceBy file p (r .first /
 
 -- after the first k records of the file
 unfoldable pub profileAfter : List ℕ → ℕ → Progress
-profileAfter file zero = begin
+profileAfter file zero = begin (stopOf file)
 profileAfter file (suc k) = profileAdvance file (profileAfter file k) (recordAt file k)
 
--- the refusals 1 to 5 are Run's: "version 1 or 2 (3 is refused with 2)"
+-- the refusals 1 to 5 are Run's, and "version 1 or 2 (3 is refused with 2)"
 unfoldable pub profileRefusal : List ℕ → ℕ → ℕ
-profileRefusal file n = runRefusal file n
+profileRefusal file n = ite (leb 3 (length file) && stopOf file) 2 (runRefusal file n)
 
 unfoldable pub profileReport : List ℕ → ℕ → Report
 profileReport file n = ite (eqb (profileRefusal file n) 0) (reportOf (profileAfter file (countOf file))) (refusedReport (profileRefusal file n))

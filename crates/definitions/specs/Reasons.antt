@@ -37,7 +37,7 @@ succeeded (suc _) t b b' d = upd d t false
 -- ---- what is claimed of a row
 
 -- the places that a split or join answers at: "4 a swap lost at places 10 to 13 or 25, or the base gone from its parent there or at 21,
--- 5 neighbour not replaceable [24], 6 stood down at place 38"; 7 is not given yet; 2 and 3 are given at place 3, 0 never
+-- 5 neighbour not replaceable [24], 6 stood down at place 38, 7 joins stopped [19]"; 2 and 3 are given at place 3, 0 never
 abbrev pub GivenAt : Answer → ℕ → Type 0
 GivenAt No place = ⊥
 GivenAt Yes place = Unit {0}
@@ -47,7 +47,7 @@ GivenAt Blocked place = place ≡ 3
 GivenAt Lost place = ((10 ≤ place) × (place ≤ 13)) ⊎ ((place ≡ 21) ⊎ (place ≡ 25))
 GivenAt NeighbourBlocked place = place ≡ 24
 GivenAt StoodDown place = place ≡ 38
-GivenAt Stopped place = ⊥
+GivenAt Stopped place = place ≡ 19
 
 -- the answer a of an operation whose last step is taken at `place`; d: it has made its change.
 -- 2 to 7 only to splits and joins; they say yes exactly if their change was made
@@ -76,5 +76,6 @@ abbrev pub ReasonsFrom : List Rec → Bench → (ℕ → Bool) → Type 0
 ReasonsFrom [] b d = Unit {0}
 ReasonsFrom (r ∷ rs) b d = ReasonsOnward (recordStep b (r .last) (r .first) (r .second) (r .extra)) b r d (λ b' d'. ReasonsFrom rs b' d')
 
+-- every list of records, with the stop off or on
 abbrev pub ReasonsRule : Type 0
-ReasonsRule = (rs : List Rec) → ReasonsFrom rs fresh (λ _. false)
+ReasonsRule = (on : Bool) (rs : List Rec) → ReasonsFrom rs (fresh on) (λ _. false)

@@ -9,7 +9,7 @@ use Rattle.definitions.specs.Bench.{Bench, fresh}
 use Rattle.definitions.specs.Records.{Row, noRow, row, Result, refused, carried, recordStep}
 use Rattle.definitions.specs.Answers.{said}
 use Rattle.definitions.specs.Tree.{treeSet}
-use Rattle.definitions.specs.Schedule.{Rec, recordsOf, countOf}
+use Rattle.definitions.specs.Schedule.{Rec, stopOf, recordsOf, countOf}
 use Rattle.definitions.specs.Run.{runRefusal, runReport}
 use Rattle.definitions.specs.Plain.{wasRefused, wasCarried}
 use Rattle.definitions.specs.PlainSet.{Operation, noOperation, doing, Plain, empty, feed}
@@ -35,8 +35,9 @@ plainAt (r ∷ rs) (suc k) b P = plainBy (recordStep b (r .last) (r .first) (r .
 abbrev pub Moments : Type 0
 Moments = ℕ → ℕ → Bool
 
-abbrev pub moments : List Rec → Moments
-moments rs k = plainAt rs k fresh empty .set
+-- from the fresh bench, with the stop off or on
+abbrev pub moments : Bool → List Rec → Moments
+moments on rs k = plainAt rs k (fresh on) empty .set
 
 -- ---- what is claimed at a moment and of a row
 
@@ -78,14 +79,14 @@ From (r ∷ rs) b P H f k =
     × Onward (recordStep b (r .last) (r .first) (r .second) (r .extra)) b r P H (firstSteps (r .first % 16) (r .first / 16) k f) k
     (λ b' P'. From rs b' P' H (firstSteps (r .first % 16) (r .first / 16) k f) (suc k))
 
--- every list of records, "from a fresh bench: root 0, all threads idle, used 1"
-abbrev pub Claim : List Rec → Type 0
-Claim rs = From rs fresh empty (moments rs) (λ _. Nil) 0
+-- every list of records, "from a fresh bench: root 0, all threads idle, used 1", with the stop off or on
+abbrev pub Claim : Bool → List Rec → Type 0
+Claim on rs = From rs (fresh on) empty (moments on rs) (λ _. Nil) 0
 
 -- "Run's set [is compared] at the last [moment], unless Run refused the file with 1 to 5"; n is the row buffer's length
 abbrev pub RunClaim : List ℕ → ℕ → Type 0
-RunClaim file n = runRefusal file n ≡ 0 → (s : ℕ) → s < 64 → has (runReport file n .set) s ≡ moments (recordsOf file (countOf file)) (countOf file) s
+RunClaim file n = runRefusal file n ≡ 0 → (s : ℕ) → s < 64 → has (runReport file n .set) s ≡ moments (stopOf file) (recordsOf file (countOf file)) (countOf file) s
 
 -- demand 3 over the plain set
 abbrev pub SetRule : Type 0
-SetRule = ((rs : List Rec) → Claim rs) × ((file : List ℕ) (n : ℕ) → RunClaim file n)
+SetRule = ((on : Bool) (rs : List Rec) → Claim on rs) × ((file : List ℕ) (n : ℕ) → RunClaim file n)

@@ -2,6 +2,7 @@
 -- It stands beside demand 3 (Claim.antt), with the same moments. The proof is in crate answers.
 use Prim.Native.Nat.{ℕ}
 use mathlib.Core.Path.{_≡_}
+use mathlib.Core.Bool.{Bool}
 use mathlib.Core.List.{List, [], _∷_}
 use Rattle.container.specs.Container.{size}
 use Rattle.definitions.specs.Bench.{Bench, fresh}
@@ -23,6 +24,7 @@ abbrev pub CountedFrom : List Rec → Bench → Type 0
 CountedFrom [] b = Counted b
 CountedFrom (r ∷ rs) b = Counted b × CountedOnward (recordStep b (r .last) (r .first) (r .second) (r .extra)) b (λ b'. CountedFrom rs b')
 
--- every list of records from a fresh bench, and what Run hands back for every file, refused ones too; n is the row buffer's length
+-- every list of records from a fresh bench, with the stop off or on, and what Run hands back for every file, refused ones too; n is the row
+-- buffer's length
 abbrev pub StoredRule : Type 0
-StoredRule = ((rs : List Rec) → CountedFrom rs fresh) × ((file : List ℕ) (n : ℕ) → runReport file n .stored ≡ size (runReport file n .set))
+StoredRule = ((on : Bool) (rs : List Rec) → CountedFrom rs (fresh on)) × ((file : List ℕ) (n : ℕ) → runReport file n .stored ≡ size (runReport file n .set))

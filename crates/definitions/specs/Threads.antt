@@ -39,8 +39,10 @@ pub record Thread : Type 0 where
   -- of an insert its depth, of a query its upper end
   pub extra : ℕ
   pub place : ℕ
-  -- 2, 23, 32: the route reached
+  -- 2, 23, 32: the route reached; 4: the child read
   pub route : ℕ
+  -- with the stop on: the routes whose child was read since 1, 9 for more than 8; a search at 2 with 8 or 9 is counted
+  pub read : ℕ
   -- the base reached
   pub base : ℕ
   -- of a join: the base's parent, and whether the base is its left child
@@ -60,11 +62,11 @@ pub record Thread : Type 0 where
 
 -- a thread that has noted an operation, at a place, and nothing else
 abbrev pub begun : Action → ℕ → ℕ → ℕ → Thread
-begun a s d p = record { action = a; station = s; extra = d; place = p; route = 0; base = 0; parent = 0; left = true; found = 0; neighbour = 0; main = 0; owner = false; grandparent = Nil; other = 0; frames = [] }
+begun a s d p = record { action = a; station = s; extra = d; place = p; route = 0; read = 0; base = 0; parent = 0; left = true; found = 0; neighbour = 0; main = 0; owner = false; grandparent = Nil; other = 0; frames = [] }
 
 -- "A query starts with one: its own ends, no store, at place 60"
 abbrev pub asking : ℕ → ℕ → Thread
-asking l h = record { action = Query; station = l; extra = h; place = 60; route = 0; base = 0; parent = 0; left = true; found = 0; neighbour = 0; main = 0; owner = false; grandparent = Nil; other = 0; frames = newFrame l h Nil ∷ [] }
+asking l h = record { action = Query; station = l; extra = h; place = 60; route = 0; read = 0; base = 0; parent = 0; left = true; found = 0; neighbour = 0; main = 0; owner = false; grandparent = Nil; other = 0; frames = newFrame l h Nil ∷ [] }
 
 abbrev pub idle : Thread
 idle = begun Lookup 0 0 0

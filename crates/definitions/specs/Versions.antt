@@ -1,5 +1,5 @@
--- The versions of the schedule file: 1 is 01's, 2 has a depth beside each station (02, request a) and range queries (b). All that differs
--- between them stands here, a line for each, version 1 first.
+-- The versions of the schedule file: 1 is 01's, 2 has a depth beside each station (02, request a) and range queries (b), 3 is 2 with the stop
+-- on (h). All that differs between them stands here, a line for each, version 1 first.
 use Prim.Native.Nat.{ℕ, _*_}
 use mathlib.Core.Bool.{Bool, _||_}
 use mathlib.Core.List.{List, []}
@@ -10,11 +10,15 @@ use Rattle.container.specs.Choice.{ite}
 abbrev pub version : List ℕ → ℕ
 version file = getD file 0 0
 
--- "refusal 2 is now for any other version"
+-- "refusal 2 is now for any other version"; "Refusal 2 now lets 3 through"
 abbrev pub known : List ℕ → Bool
-known file = eqb (version file) 1 || eqb (version file) 2
+known file = eqb (version file) 1 || (eqb (version file) 2 || eqb (version file) 3)
 
--- a choice by version: 1 or 2
+-- "Version 3 files are version 2 with this on": the stop
+abbrev pub stopOf : List ℕ → Bool
+stopOf file = eqb (version file) 3
+
+-- a choice by version: 1, or 2 and 3
 abbrev pub by : {A : Type 0} → List ℕ → A → A → A
 by file a b = ite (eqb (version file) 1) a b
 

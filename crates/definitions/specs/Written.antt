@@ -11,7 +11,7 @@ use Rattle.definitions.specs.Bench.{Bench, fresh}
 use Rattle.definitions.specs.Answers.{answerNumber}
 use Rattle.definitions.specs.Records.{Row, noRow, row, Result, refused, carried, recordStep, actionNumber, isIdle}
 use Rattle.definitions.specs.Run.{Progress, ended, overlay}
-use Rattle.definitions.specs.Schedule.{Rec, version, recordsOf, countOf}
+use Rattle.definitions.specs.Schedule.{Rec, version, stopOf, recordsOf, countOf}
 use Rattle.definitions.specs.Merge.{fault}
 use Rattle.definitions.specs.History.{Event}
 use Rattle.definitions.specs.Judgement.{Judgement}
@@ -44,7 +44,7 @@ eventsFrom (r ∷ rs) b = eventsBy (recordStep b (r .last) (r .first) (r .second
 
 -- the events of a schedule's run
 abbrev pub runEvents : List ℕ → List Event
-runEvents file = eventsFrom (recordsOf file (countOf file)) fresh
+runEvents file = eventsFrom (recordsOf file (countOf file)) (fresh (stopOf file))
 
 -- ---- as a file: "version byte 1, two-byte big-endian count of events, each event four bytes"
 

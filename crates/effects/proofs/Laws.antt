@@ -49,10 +49,10 @@ upd-own d x y = elim (ℕ-discrete y x) [ yes e ↦ rw (eq-eqb y x e) | no e ↦
 -- ---- a node is put at a spot: t' is the table after it
 module _ (t : Shapes) (o x : ℕ) {v : Spot} where
   pub hang-root : v ≡ Root → Hung t o v x t x
-  hang-root q d u k j = rw q
+  hang-root q d u k j z = rw q
 
   pub hang-under : {t' : Shapes} (r : ℕ) (b : Bool) → v ≡ Under r b → t' ≡ upd t r (withKid b x (t r)) → Hung t o v x t' o
-  hang-under r b q h d u k j = rw (q, h) (ap (λ n. store n o u k j) (full-same t d r (withKid b x (t r))))
+  hang-under r b q h d u k j z = rw (q, h) (ap (λ n. store n o u k j z) (full-same t d r (withKid b x (t r))))
 
 -- ---- the set of a new base: n is the node y
 module _ (t : Shapes) {c : Content} {n : Node} where
@@ -111,45 +111,45 @@ module _ (u : ℕ) {e : Write} where
 -- ---- on the nodes, whatever the stores: t₁ is the table with the new nodes, t' and y the table and the root after it
 module _ (t : Shapes) (o u : ℕ) (k : Stores) (j : ℕ) {e : Write} where
   pub apply-quiet : e ≡ Quiet → Applied t o u k j (effectOf e) t o k
-  apply-quiet q = record { stored = λ d. rw q }
+  apply-quiet q = record { stored = λ d z'. rw q }
 
   pub apply-mark : {t' : Shapes} (r : ℕ) (l : Link) → e ≡ Mark r l → t' ≡ upd t r (withMark l (t r)) → Applied t o u k j (effectOf e) t' o k
-  apply-mark r l q h = record { stored = λ d. rw (q, h) (ap (λ n. store n o u k j) (full-same t d r _)) }
+  apply-mark r l q h = record { stored = λ d z'. rw (q, h) (ap (λ a. store a o u k j z') (full-same t d r _)) }
 
   pub apply-settle : {t' : Shapes} (m : ℕ) (s : Stage) → e ≡ Settle m s → t' ≡ upd t m (withStage s (t m)) → Applied t o u k j (effectOf e) t' o k
-  apply-settle m s q h = record { stored = λ d. rw (q, h) (ap (λ n. store n o u k j) (full-same t d m _)) }
+  apply-settle m s q h = record { stored = λ d z'. rw (q, h) (ap (λ a. store a o u k j z') (full-same t d m _)) }
 
   pub apply-invalid : {t' : Shapes} (r : ℕ) → e ≡ Invalid r → t' ≡ upd t r (withValid false (t r)) → Applied t o u k j (effectOf e) t' o k
-  apply-invalid r q h = record { stored = λ d. rw (q, h) (ap (λ n. store n o u k j) (full-same t d r _)) }
+  apply-invalid r q h = record { stored = λ d z'. rw (q, h) (ap (λ a. store a o u k j z') (full-same t d r _)) }
 
   pub apply-swing : {t' : Shapes} {y : ℕ} (v : Spot) (x : ℕ) → e ≡ Swing v x → Hung t o v x t' y → Applied t o u k j (effectOf e) t' y k
-  apply-swing v x q h = record { stored = λ d. rw q (h d u k j) }
+  apply-swing v x q h = record { stored = λ d z'. rw q (h d u k j z') }
 
   pub apply-base : {t₁ t' : Shapes} {y w : ℕ} (v : Spot) (x : ℕ) (i : Kind) (p : Link) (c : Content) (m : ℕ) → e ≡ Base v x i p c m → w ≡ setOf c t → t₁ ≡ upd t x (baseShape i p w m) → Hung t₁ o v x t' y → Applied t o u k j (effectOf e) t' y k
   apply-base {t₁} {t'} {y} {w} v x i p c m q f h g = record {
-    stored = λ d. rw q (
-        g (upd d x (depthsOf c d)) (x + 1) k j
+    stored = λ d z'. rw q (
+        g (upd d x (depthsOf c d)) (x + 1) k j z'
         ∙ rw (h, f, full-new t d x (baseShape i p (setOf c t) m) (depthsOf c d), ← content-made c t d, add-one)
         );
   }
 
   pub apply-fork : {t₁ t' : Shapes} {y : ℕ} {n : Node} (v : Spot) (x l r i z : ℕ) → e ≡ Fork v x l r i z → n ≡ t z → t₁ ≡ forkShapes x l r i (n .container) t → Hung t₁ o v x t' y → Applied t o u k j (effectOf e) t' y k
   apply-fork {t₁} {t'} {y} {n} v x l r i z q f h g = record {
-    stored = λ d. rw q (
-        g (upd (upd (upd d x (d z)) l (d z)) r (d z)) (x + 3) k j
-        ∙ rw (h, f) (ap (λ a. hang v x (store a o (x + 3) k j)) (fork-made t d x l r i z))
+    stored = λ d z'. rw q (
+        g (upd (upd (upd d x (d z)) l (d z)) r (d z)) (x + 3) k j z'
+        ∙ rw (h, f) (ap (λ a. hang v x (store a o (x + 3) k j z')) (fork-made t d x l r i z))
         );
   }
 
   pub apply-commit : {t₁ t' : Shapes} {c : ℕ} {a z : Node} (m x : ℕ) (p : Link) (b : ℕ) (g : Link) (w : ℕ) → e ≡ Commit m x p b g w → a ≡ t m → z ≡ t b → c ≡ union (a .container) (z .container)
       → t₁ ≡ upd t x (baseShape Neighbour p c m) → t' ≡ upd t₁ m (committed x b g w (t₁ m)) → Applied t o u k j (effectOf e) t' o k
   apply-commit {t₁} {t'} {c} {a} {z} m x p b g w q e₁ e₂ e₃ h l = record {
-    stored = λ d.
+    stored = λ d z'.
         let s : ℕ → ℕ = selected (t m .container) (d m) (d b) in
         let f : full t₁ (upd d x s) ≡ upd (full t d) x (newBase Neighbour p (merge (full t d m .container) (full t d b .container)) m) = rw (h, e₃, e₁, e₂) (union-made t d x p m b) in
         rw (q, l) (
-        ap (λ n. store n o (x + 1) k j) (full-same t₁ (upd d x s) m (committed x b g w (t₁ m)))
-        ∙ ap (λ n. store (upd n m (over (committed x b g w) (n m))) o (x + 1) k j) f
+        ap (λ v. store v o (x + 1) k j z') (full-same t₁ (upd d x s) m (committed x b g w (t₁ m)))
+        ∙ ap (λ v. store (upd v m (over (committed x b g w) (v m))) o (x + 1) k j z') f
         ∙ rw add-one
         );
   }
@@ -158,9 +158,9 @@ module _ (t : Shapes) (o u : ℕ) (k : Stores) (j : ℕ) {e : Write} where
 module _ (t : Shapes) (o u : ℕ) (k : Stores) (j : ℕ) where
   pub apply-ask : {t₁ t' : Shapes} {y c : ℕ} (v : Spot) (x : ℕ) (p : Link) (z l h i : ℕ) (new : Bool) → c ≡ t z .container → t₁ ≡ upd t x (rangeShape p c l h i) → Hung t₁ o v x t' y → Applied t o u k j (Ask v x p z l h i new) t' y k
   apply-ask {t₁} {t'} {y} {c} v x p z l h i new f g r = record {
-    stored = λ d.
-        r (upd d x (d z)) (x + 1) k (cond new (i + 1) j)
-        ∙ rw (g, f) (ap (λ a. hang v x (store a o (x + 1) k (cond new (i + 1) j))) (range-made t d x p z l h i) ∙ rw (add-one x, add-one i));
+    stored = λ d z'.
+        r (upd d x (d z)) (x + 1) k (cond new (i + 1) j) z'
+        ∙ rw (g, f) (ap (λ a. hang v x (store a o (x + 1) k (cond new (i + 1) j) z')) (range-made t d x p z l h i) ∙ rw (add-one x, add-one i));
   }
 
 -- the stores shown after it

@@ -10,6 +10,7 @@ use Rattle.depths.specs.Rows.{Rows, full, changed, selected}
 use Rattle.definitions.specs.Nodes.{Shapes, Stores, shape, newBase, newRoute, newRange}
 use Rattle.definitions.specs.Bench.{store}
 use Rattle.definitions.specs.Effects.{hang, perform}
+use Rattle.definitions.specs.declared.Stop.{Stop}
 use Rattle.definitions.specs.declared.Spot.{Spot}
 use Rattle.definitions.specs.declared.Kind.{Kind}
 use Rattle.definitions.specs.declared.Kind.the-variants.{Normal}
@@ -19,7 +20,7 @@ use Rattle.definitions.specs.declared.Node.{Node}
 use Rattle.definitions.specs.declared.Content.{Content}
 use Rattle.definitions.specs.declared.Content.the-variants.{Of, With, Without}
 use Rattle.definitions.specs.declared.Effect.{Effect}
-use Rattle.definitions.specs.declared.Effect.the-variants.{Quiet, Mark, Settle, Invalid, Swing, Base, Fork, Commit, Ask, Fill}
+use Rattle.definitions.specs.declared.Effect.the-variants.{Quiet, Mark, Settle, Invalid, Swing, Raise, Lower, Base, Fork, Commit, Ask, Fill}
 
 -- the numbers used after an effect: the new nodes' numbers follow those used before
 abbrev pub usedAfter : ℕ → Effect → ℕ
@@ -28,6 +29,8 @@ usedAfter u (Mark r l) = u
 usedAfter u (Settle m v) = u
 usedAfter u (Invalid r) = u
 usedAfter u (Swing v x) = u
+usedAfter u Raise = u
+usedAfter u Lower = u
 usedAfter u (Base v x k p c m) = x + 1
 usedAfter u (Fork v x l r k y) = x + 3
 usedAfter u (Commit m x p n g o) = x + 1
@@ -41,6 +44,8 @@ shownAfter j (Mark r l) = j
 shownAfter j (Settle m v) = j
 shownAfter j (Invalid r) = j
 shownAfter j (Swing v x) = j
+shownAfter j Raise = j
+shownAfter j Lower = j
 shownAfter j (Base v x k p c m) = j
 shownAfter j (Fork v x l r k y) = j
 shownAfter j (Commit m x p n g o) = j
@@ -67,9 +72,9 @@ setOf (Without y s) t = remove (t y .container) s
 abbrev pub forkShapes : ℕ → ℕ → ℕ → ℕ → ℕ → Shapes → Shapes
 forkShapes x l r k c t = upd (upd (upd t x (newRoute k l r)) l (baseShape Normal (To x) (lowerHalf c) 0)) r (baseShape Normal (To x) (upperHalf c) 0)
 
--- node x is put at the spot v: the table t with root o becomes t' with root y, whatever the depths, the numbers used and the stores
+-- node x is put at the spot v: the table t with root o becomes t' with root y, whatever the depths, the numbers used, the stores and the stop
 abbrev pub Hung : Shapes → ℕ → Spot → ℕ → Shapes → ℕ → Type 0
-Hung t o v x t' y = (d : Rows) (u : ℕ) (k : Stores) (j : ℕ) → store (full t' d) y u k j ≡ hang v x (store (full t d) o u k j)
+Hung t o v x t' y = (d : Rows) (u : ℕ) (k : Stores) (j : ℕ) (z : Stop) → store (full t' d) y u k j z ≡ hang v x (store (full t d) o u k j z)
 
 -- ---- the depths
 
@@ -86,15 +91,18 @@ deepened (Mark r l) t d = d
 deepened (Settle m v) t d = d
 deepened (Invalid r) t d = d
 deepened (Swing v x) t d = d
+deepened Raise t d = d
+deepened Lower t d = d
 deepened (Base v x k p c m) t d = upd d x (depthsOf c d)
 deepened (Fork v x l r k y) t d = upd (upd (upd d x (d y)) l (d y)) r (d y)
 deepened (Commit m x p n g o) t d = upd d x (selected (t m .container) (d m) (d n))
 deepened (Ask v x p y l h k new) t d = upd d x (d y)
 deepened (Fill k c) t d = d
 
--- ---- both: the effect e takes the table t with root o and the stores k to t' with root y and k', whatever the depths
+-- ---- both: the effect e takes the table t with root o and the stores k to t' with root y and k', whatever the depths and the stop, which it
+-- leaves
 pub record Applied (t : Shapes) (o u : ℕ) (k : Stores) (j : ℕ) (e : Effect) (t' : Shapes) (y : ℕ) (k' : Stores) : Type 0 where
-  pub stored : (d : Rows) → store (full t' (deepened e t d)) y (usedAfter u e) k' (shownAfter j e) ≡ perform e (store (full t d) o u k j)
+  pub stored : (d : Rows) (z : Stop) → store (full t' (deepened e t d)) y (usedAfter u e) k' (shownAfter j e) z ≡ perform e (store (full t d) o u k j z)
 
 -- whatever the stores, which stay as they are
 abbrev pub Applies : Shapes → ℕ → ℕ → Effect → Shapes → ℕ → Type 0

@@ -2,7 +2,7 @@
 -- (docs/RANGE.md). Each is the definitions' own word of it, over a node that has what is read and nothing else.
 use Prim.Native.Nat.{ℕ, _≤_}
 use mathlib.Core.Path.{_≡_}
-use mathlib.Core.Bool.{Bool, true}
+use mathlib.Core.Bool.{Bool, true, false}
 use mathlib.Core.List.{List, _∷_}
 use lib.Dec.{leb}
 use Rattle.container.specs.Choice.{upd, ite}
@@ -20,7 +20,7 @@ use Rattle.definitions.specs.declared.Quarter.the-variants.{ReadLeft}
 use Rattle.definitions.specs.declared.Effect.{Effect}
 use Rattle.definitions.specs.declared.Effect.the-variants.{Quiet, Fill}
 use Rattle.definitions.specs.Nodes.{newRoute, withValid}
-use Rattle.definitions.specs.Bench.{Sight, sight}
+use Rattle.definitions.specs.Bench.{Sight, sight, stop}
 use Rattle.definitions.specs.Threads.{Frame, Thread, Turn, Moves, goes}
 use Rattle.definitions.specs.Places.{swap, opening, next, at, atBase, atFrames, p15, p60, toFrames}
 use Rattle.definitions.specs.Frames.{adding, foundFirst, backIn, storeOf, inHand, asks, tailOf, inFrame}
@@ -106,7 +106,7 @@ passTurn free f fs th = ite free (goes (at (swap next ReadLeft) (having f fs th)
 
 -- 64 to 67, 77 to 80: w is what the comparison found, l the parent of the base in hand and c its container, u the numbers used, k the stores shown
 abbrev pub counts : ℕ → ℕ → Sight
-counts u k = sight (λ _. baseWith Normal Nil 0 0) 0 u (λ _. Unset) k
+counts u k = sight (λ _. baseWith Normal Nil 0 0) 0 u (λ _. Unset) k (stop false 0)
 
 unfoldable pub openTurn : Probe → Link → ℕ → ℕ → ℕ → Frame → List Frame → Thread → Turn
 openTurn w l c u k f fs th = openedBy w (baseWith Normal l c 0) (counts u k) f fs (having f fs th)

@@ -1,7 +1,7 @@
 -- A job run alone from a reachable state with all threads idle ends, in one way: from the start record (Solo.antt, place by place) to its row.
 use mathlib.Core.Path.{_≡_, refl, sym, _∙_, ap, subst}
 use mathlib.Core.Logic.{_≢_}
-use mathlib.Core.Bool.{false, not}
+use mathlib.Core.Bool.{Bool, true, false, not, cond}
 use Prim.Native.Nat.{ℕ, zero, suc, _+_, _*_, _/_, _<_, _≤_}
 use native.Mathlib.Omega.{arith}
 use borrow.Author.Tests.{eq-eqb, ne-eqb}
@@ -12,7 +12,7 @@ use Rattle.definitions.specs.declared.Action.the-variants.{Lookup, Insert, Remo
 use Rattle.definitions.specs.declared.Answer.{Answer}
 use Rattle.definitions.specs.Threads.{begun, idle, Turn, Moves, Finishes, Finds, Full, NoStore}
 use Rattle.definitions.specs.Bench.{Bench, bench, sightOf}
-use Rattle.definitions.specs.Effects.{perform}
+use Rattle.definitions.specs.Effects.{recount, perform}
 use Rattle.definitions.specs.Places.{placeOf}
 use Rattle.definitions.specs.Steps.{step}
 use Rattle.definitions.specs.Tree.{treeHeld}
@@ -26,7 +26,7 @@ use Rattle.laws.specs.Jobs.{last, Reachable, past, Job, Updating, Steps,
 use Rattle.laws.specs.Laws.{longest, Ends, UpdatesEnd, OneEnd}
 use Rattle.laws.proofs.OneRecord.{opening, stepOf, step-thread, step-action, step-record, start-thread, start-action, action-low, start-record}
 use Rattle.laws.proofs.Kept.{Kept, Says, Said, kept-next, kept-table}
-use Rattle.laws.proofs.Calm.{Known, known, Calm, idle-calm}
+use Rattle.laws.proofs.Calm.{Known, known, Calm, calm-counted, idle-calm}
 use Rattle.laws.proofs.Solo.{Solo, at1, SoloTurn, updating, solo, solo-some, solo-busy}
 
 -- ---- past a step record of thread t
@@ -69,12 +69,12 @@ run (suc n) b P t low a =
     (step-record b last t low (ne-eqb _ _ (solo-busy _ _ _ (a .solo)))) (λ c i. run n c P t low i)
   where
     go : (o : Turn) → SoloTurn (b .store) n o → recordStep b last (16 * t) 0 0 ≡ taken b t o → ((c : Bench) → Amid c P t n → Ran t n c P) → Ran t (suc n) b P
-    go (Moves th' e) (q, v, y) r ih =
-        let r' : recordStep b last (16 * t) 0 0 ≡ carried (bench (b .store) (upd (b .threads) t th')) noRow = r ∙ ap (λ i. carried (bench i (upd (b .threads) t th')) noRow) q in
-        let o = ih (bench (b .store) (upd (b .threads) t th')) (record {
+    go (Moves th' e) (c, q, v, y) r ih =
+        let r' : recordStep b last (16 * t) 0 0 ≡ carried (bench (recount c (b .store)) (upd (b .threads) t th')) noRow = r ∙ ap (λ i. carried (bench i (upd (b .threads) t th')) noRow) q in
+        let o = ih (bench (recount c (b .store)) (upd (b .threads) t th')) (record {
           reached = past b (stepRec t) noRow (a .reached) r';
           kept = kept-step b _ P t noRow (a .kept) r' .0;
-          calm = a .calm;
+          calm = calm-counted c (b .store) (a .calm);
           update = rw (eq-eqb t t refl) v;
           room = a .room;
           solo = rw (eq-eqb t t refl) y;
@@ -156,17 +156,21 @@ low-number : (a : Action) → Updating a → actionNumber a ≤ 5
 low-number = updating (λ a. actionNumber a ≤ 5) (omega arith) (omega arith)
 
 pub updates-end : UpdatesEnd
-updates-end b j z h p f = finished (run longest (opens b j) (underway j (k .plain)) (j .thread) (p .thread) (record {
+updates-end b j z h p f = finished (run (longest (b .store .stop .on)) (opens b j) (underway j (k .plain)) (j .thread) (p .thread) (record {
   reached = past b (startRec j) noRow z started;
   kept = kept-start b _ (k .plain) j (k .kept) started;
   calm = idle-calm b k h;
   update = rw (eq-eqb (j .thread) (j .thread) refl) (p .action);
   room = f;
-  solo = rw (eq-eqb (j .thread) (j .thread) refl) (at1 refl (omega arith));
+  solo = rw (eq-eqb (j .thread) (j .thread) refl) (at1 refl (long (b .store .stop .on)));
 }))
   where
     k : Known b
     k = known b z
+
+    long : (on : Bool) → 68 + cond on 2 0 ≤ longest on
+    long false = omega arith
+    long true = omega arith
 
     started : stepOf b (startRec j) ≡ carried (opens b j) noRow
     started = start-record b last (j .thread) (j .action) (j .station) (j .depth) (low-number (j .action) (p .action)) (low-number (j .action) (p .action)) (p .thread) (p .station) (p .depth) (h (j .thread) (p .thread))
@@ -174,7 +178,7 @@ updates-end b j z h p f = finished (run longest (opens b j) (underway j (k .plai
     opened : underway j (k .plain) .operation (j .thread) ≡ doing (j .action) (j .station) (j .depth)
     opened = rw (eq-eqb (j .thread) (j .thread) refl)
 
-    finished : Ran (j .thread) longest (opens b j) (underway j (k .plain)) → Ends j b
+    finished : Ran (j .thread) (longest (b .store .stop .on)) (opens b j) (underway j (k .plain)) → Ends j b
     finished o = record {
       steps = suc (o .steps);
       answer = o .answer;

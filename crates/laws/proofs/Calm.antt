@@ -19,9 +19,10 @@ use Rattle.definitions.specs.declared.Shared.{Shared}
 use Rattle.definitions.specs.declared.Shared.the-variants.{Unset, Set}
 use Rattle.definitions.specs.Nodes.{Nodes, shape, kidOf, checkStage, checkStore, checkAs, check, isReplaceable, replaceable}
 use Rattle.definitions.specs.Bench.{Store, Bench, fresh, sightOf}
+use Rattle.definitions.specs.Effects.{recount}
 use Rattle.definitions.specs.Places.{nowhere, placeOf}
 use Rattle.definitions.specs.Records.{Result, refused, carried}
-use Rattle.definitions.specs.Schedule.{Rec, recordAt}
+use Rattle.definitions.specs.Schedule.{Rec, stopOf, recordAt}
 use Rattle.definitions.specs.Run.{Progress, advanceBy, advance, after}
 use Rattle.definitions.specs.Plain.{Plain, empty}
 use Rattle.answers.specs.Reachable.{Reached}
@@ -45,11 +46,11 @@ pub record Known (b : Bench) : Type 0 where
   pub kept : Kept b plain
   pub sound : Sound b
 
-known-fresh : Known fresh
-known-fresh = record { plain = empty; kept = kept-fresh; sound = sound-fresh }
+known-fresh : (on : Bool) → Known (fresh on)
+known-fresh on = record { plain = empty; kept = kept-fresh on; sound = sound-fresh on }
 
 pub known : (b : Bench) → Reachable b → Known b
-known b (begins e) = subst Known (sym e) known-fresh
+known b (begins on e) = subst Known (sym e) (known-fresh on)
 known b (past c r w z e) = let k = known c z in
     record { plain = _; kept = kept-next c b (k .plain) r w (k .kept) e .0; sound = sound-next c b r w (k .sound) e }
 
@@ -68,7 +69,7 @@ runs-on file p r z = go (eqb (p .refusal) 0)
 
 pub runs-reach : RunsReach
 unfolding after
-runs-reach file zero = begins refl
+runs-reach file zero = begins (stopOf file) refl
 runs-reach file (suc k) = runs-on file (after file k) (recordAt file k) (runs-reach file k)
 
 -- ---- Calm
@@ -82,6 +83,14 @@ pub record Calm (s : Store) : Type 0 where
   pub depth : (d x lo hi : ℕ) → Reached (s .nodes) (s .root) d x lo hi → d ≤ 63
   pub free : (d x lo hi : ℕ) → Reached (s .nodes) (s .root) d x lo hi → s .nodes x .kind ≢ Route → replaceable (sightOf s .nodes) (s .stores) x ≡ true
   pub hangs : (d x lo hi : ℕ) → Reached (s .nodes) (s .root) d x lo hi → s .nodes x .kind ≢ Route → Hangs s x
+
+-- the count of the stop is no part of the tree
+pub calm-counted : (c : ℕ) (s : Store) → Calm s → Calm (recount c s)
+calm-counted c s h = record { depth = h .depth; free = h .free; hangs = λ d x lo hi r k. again (h .hangs d x lo hi r k) }
+  where
+    again : {x : ℕ} → Hangs s x → Hangs (recount c s) x
+    again (first i j) = first i j
+    again (under r f i j) = under r f i j
 
 -- a main that is preparing or completing
 needs-open : (n : Nodes) (x : ℕ) (v : Stage) → n x .kind ≡ Main → n x .stage ≡ v → isOver v ≡ false → Needs n x

@@ -1,6 +1,6 @@
 -- The invariant of crate answers at every reachable state, free of the list that led there: whatever the plain table will be later.
 use mathlib.Core.Path.{_≡_, refl, _∙_, subst}
-use mathlib.Core.Bool.{not, cond}
+use mathlib.Core.Bool.{Bool, not, cond}
 use Prim.Native.Nat.{ℕ, suc, _/_, _%_, _<_, _≤_}
 use native.Mathlib.Omega.{arith}
 use lib.Dec.{leb}
@@ -115,5 +115,5 @@ kept-record b P r z = go (stepOf b r) (λ H e. step-ok P (z .inv H e) (z .tied) 
 pub kept-next : (b b' : Bench) (P : Plain) (r : Rec) (w : Row) → Kept b P → stepOf b r ≡ carried b' w → Kept b' (fed r w P) × Said w (P .operation (r .first / 16)) P
 kept-next b b' P r w z e = subst (KeptAfter P r) e (kept-record b P r z)
 
-pub kept-fresh : Kept fresh empty
-kept-fresh = record { past = λ _ _. absent; now = 0; first = λ _. Nil; inv = λ H e. fresh-ok H (λ s. e 0 s (omega arith)); tied = fresh-tied; counts = fresh-counts; table = λ s. refl }
+pub kept-fresh : (on : Bool) → Kept (fresh on) empty
+kept-fresh on = record { past = λ _ _. absent; now = 0; first = λ _. Nil; inv = λ H e. fresh-ok on H (λ s. e 0 s (omega arith)); tied = fresh-tied on; counts = fresh-counts on; table = λ s. refl }

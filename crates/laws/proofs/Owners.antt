@@ -15,7 +15,7 @@ use Rattle.definitions.specs.declared.Spot.{Spot}
 use Rattle.definitions.specs.declared.Spot.the-variants.{Root, Under}
 use Rattle.definitions.specs.Threads.{Thread, Turn, Moves, Finishes, Finds, Full, NoStore}
 use Rattle.definitions.specs.declared.Effect.{Effect}
-use Rattle.definitions.specs.declared.Effect.the-variants.{Quiet, Mark, Settle, Invalid, Swing, Base, Fork, Commit, Ask, Fill}
+use Rattle.definitions.specs.declared.Effect.the-variants.{Quiet, Mark, Settle, Invalid, Swing, Raise, Lower, Base, Fork, Commit, Ask, Fill}
 use Rattle.definitions.specs.Nodes.{Nodes, Entry, isPreparing, newBase, newRange}
 use Rattle.definitions.specs.Bench.{Store, store, Bench, fresh}
 use Rattle.definitions.specs.Effects.{hang, push, contentOf, forked, perform}
@@ -61,13 +61,13 @@ preparing-not Done e = absurd (false≢true e)
 
 -- the store with a split's three nodes, a commit's neighbour, and the store with a query's range base
 abbrev trio : ℕ → ℕ → ℕ → ℕ → Container → Store → Store
-trio x l r k c s = store (forked x l r k c (s .nodes)) (s .root) (x + 3) (s .stores) (s .shown)
+trio x l r k c s = store (forked x l r k c (s .nodes)) (s .root) (x + 3) (s .stores) (s .shown) (s .stop)
 
 abbrev united : Store → Link → ℕ → ℕ → Entry
 united s p m n = newBase Neighbour p (merge (s .nodes m .container) (s .nodes n .container)) m
 
 abbrev ranged : Store → ℕ → Link → ℕ → ℕ → ℕ → ℕ → Bool → Store
-ranged s x p y l h k new = store (upd (s .nodes) x (newRange p (s .nodes y .container) l h k)) (s .root) (suc x) (s .stores) (cond new (suc k) (s .shown))
+ranged s x p y l h k new = store (upd (s .nodes) x (newRange p (s .nodes y .container) l h k)) (s .root) (suc x) (s .stores) (cond new (suc k) (s .shown)) (s .stop)
 
 -- a main that needs its thread after an effect did so before it, or is new
 needs-was : (s : Store) (e : Effect) → Apt s e → (y : ℕ) → Needs (perform e s .nodes) y → Needs (s .nodes) y ⊎ NewMain e y
@@ -79,6 +79,8 @@ needs-was s (Settle m v) a y h = elim (y ==? m) [
 ]
 needs-was s (Invalid r) a y h = inl (as-before _ _ y (upd-keeps (λ n. n .kind) (s .nodes) r y _ refl) (upd-keeps (λ n. n .stage) (s .nodes) r y _ refl) h)
 needs-was s (Swing v x) a y h = inl (as-before _ _ y (hang-kind v x s y) (hang-stage v x s y) h)
+needs-was s Raise a y h = inl h
+needs-was s Lower a y h = inl h
 needs-was s (Base v x k p c m) a y h = elim (y ==? x) [
   | yes q ↦ inr (sym (hang-kind v x (push x (newBase k p (contentOf c (s .nodes)) m) s) y ∙ rw (eq-eqb y x q)) ∙ h .kind, sym q)
   | no q ↦ inl (as-before _ _ y (hang-kind v x _ y ∙ rw (ne-eqb y x q)) (hang-stage v x _ y ∙ rw (ne-eqb y x q)) h)
@@ -172,5 +174,5 @@ sound-record b r z = by-record b r SoundAfter (λ _. tt)
 pub sound-next : (b b' : Bench) (r : Rec) (w : Row) → Sound b → stepOf b r ≡ carried b' w → Sound b'
 sound-next b b' r w z e = subst SoundAfter e (sound-record b r z)
 
-pub sound-fresh : Sound fresh
-sound-fresh = record { tended = λ x h. absurd (normal-main (h .kind)); low = λ t. inr refl }
+pub sound-fresh : (on : Bool) → Sound (fresh on)
+sound-fresh on = record { tended = λ x h. absurd (normal-main (h .kind)); low = λ t. inr refl }

@@ -9,7 +9,7 @@ use Rattle.definitions.specs.declared.Stage.{Stage}
 use Rattle.definitions.specs.declared.Stage.the-variants.{Preparing, Completing, Aborted, Done}
 use Rattle.definitions.specs.Threads.{Thread, Turn, Moves, Finishes, Finds, Full, NoStore}
 use Rattle.definitions.specs.declared.Effect.{Effect}
-use Rattle.definitions.specs.declared.Effect.the-variants.{Quiet, Mark, Settle, Invalid, Swing, Base, Fork, Commit, Ask, Fill}
+use Rattle.definitions.specs.declared.Effect.the-variants.{Quiet, Mark, Settle, Invalid, Swing, Raise, Lower, Base, Fork, Commit, Ask, Fill}
 use Rattle.definitions.specs.Nodes.{isPreparing}
 use Rattle.definitions.specs.Bench.{Store}
 use Rattle.definitions.specs.Effects.{perform}
@@ -40,6 +40,8 @@ Apt s (Mark r l) = Unit {0}
 Apt s (Settle m v) = isOver v ≡ true
 Apt s (Invalid r) = Unit {0}
 Apt s (Swing v x) = Unit {0}
+Apt s Raise = Unit {0}
+Apt s Lower = Unit {0}
 Apt s (Base v x k p c m) = Unit {0}
 Apt s (Fork v x l r k y) = Unit {0}
 Apt s (Commit m x p n g o) = isPreparing (s .nodes m .stage) ≡ true
@@ -53,6 +55,8 @@ NewMain (Mark r l) y = ⊥
 NewMain (Settle m v) y = ⊥
 NewMain (Invalid r) y = ⊥
 NewMain (Swing v x) y = ⊥
+NewMain Raise y = ⊥
+NewMain Lower y = ⊥
 NewMain (Base v x k p c m) y = (k ≡ Main) × (x ≡ y)
 NewMain (Fork v x l r k z) y = ⊥
 NewMain (Commit m x p n g o) y = ⊥

@@ -3,7 +3,7 @@
 use mathlib.Core.Path.{_≡_, refl, sym, _∙_}
 use mathlib.Core.Bool.{Bool, true, false, false≢true}
 use mathlib.Core.List.{List, [], _∷_}
-use Prim.Native.Nat.{ℕ}
+use Prim.Native.Nat.{ℕ, suc}
 use borrow.Author.Tests.{eq-eqb}
 use Rattle.container.specs.Choice.{ite}
 use Rattle.definitions.specs.declared.Link.{Link}
@@ -25,12 +25,12 @@ use Rattle.definitions.specs.declared.Shared.the-variants.{Unset, Set}
 use Rattle.definitions.specs.Threads.{Frame, Thread, Turn, Moves}
 use Rattle.definitions.specs.Frames.{tailOf, storeOf, inFrame, nextFrom, adding, foundFirst, backIn, back}
 use Rattle.definitions.specs.declared.Effect.{Effect}
-use Rattle.definitions.specs.declared.Effect.the-variants.{Quiet, Settle, Fill}
+use Rattle.definitions.specs.declared.Effect.the-variants.{Raise, Quiet, Settle, Fill}
 use Rattle.definitions.specs.Nodes.{childFor, check, isDone}
 use Rattle.definitions.specs.Bench.{Store, sightOf}
 use Rattle.definitions.specs.Effects.{perform}
-use Rattle.definitions.specs.Places.{own, found, united, opening, next, Place, nowhere, p1, p2, p3, p15, p16, p20, p21, p22, p23, p24, p25, p30, p31, p32, p33, p34, p35, p36, p37, p38, p40, p45, p46, p47, p48, p49, p50, p51, p60, p61, p62, p70, p71, p72, p73, p74, p76, p81, p82, swap, placeOf, number, at}
-use Rattle.definitions.specs.Steps.{goes, says, hooked, marking, atLeaf, reached, lostAs, lost, joinUnder, clearedAs, cleared, probe, replacedAs, replaced, ownBy, foundBy, unitedBy, helpBy, blockedAs, blocked, beside, grandMarking, backOut, cutAt, cutOn, cutRight, freeing, ended, unmark, invalid, reachedFirst, reachedNext, openedBy, extendedBy, popOn, metBy, filling, readOut, step}
+use Rattle.definitions.specs.Places.{own, found, united, opening, next, reading, Place, nowhere, p1, p2, p3, p4, p5, p15, p16, p19, p20, p21, p22, p23, p24, p25, p30, p31, p32, p33, p34, p35, p36, p37, p38, p40, p45, p46, p47, p48, p49, p50, p51, p60, p61, p62, p70, p71, p72, p73, p74, p76, p81, p82, swap, placeOf, number, at}
+use Rattle.definitions.specs.Steps.{goes, says, hooked, marking, atLeaf, reached, onward, oneMore, followed, released, lostAs, lost, joinUnder, clearedAs, cleared, probe, replacedAs, replaced, ownBy, foundBy, unitedBy, helpBy, blockedAs, blocked, beside, grandMarking, backOut, cutAt, cutOn, cutRight, freeing, ended, unmark, invalid, reachedFirst, reachedNext, openedBy, extendedBy, popOn, metBy, filling, readOut, step}
 use Rattle.laws.proofs.Tending.{isOver, tending, Tends, Apt, NewMain, Turned, normal-main, neighbour-main}
 
 done-over : (v : Stage) → isDone v ≡ true → isOver v ≡ true
@@ -114,17 +114,36 @@ module _ (s : Store) (p : Place) (th : Thread) where
     ends : Turned s p th (says No)
     ends = (tt, λ y z. z, λ z. absurd (out z))
 
-    leaf : (a : Action) (x : ℕ) → Turned s p th (atLeaf a (sightOf s .nodes) th x)
-    leaf Lookup x = ends
-    leaf Insert x = moves _
-    leaf Remove x = moves _
-    leaf Split x = moves _
-    leaf Join x = moves _
-    leaf Query x = tt
+    -- th' is th with the routes read
+    leaf : (a : Action) (th' : Thread) (x : ℕ) → Turned s p th (atLeaf a (sightOf s .nodes) th' x)
+    leaf Lookup th' x = ends
+    leaf Insert th' x = moves _
+    leaf Remove th' x = moves _
+    leaf Split th' x = moves _
+    leaf Join th' x = moves _
+    leaf Query th' x = tt
 
-    reach : (x : ℕ) → Turned s p th (reached (sightOf s .nodes) th x)
+    reach : (th' : Thread) (x : ℕ) → Turned s p th (reached (sightOf s .nodes) th' x)
     unfolding reached
-    reach x = fork _ _ _ (moves _) (leaf (th .action) x)
+    reach th' x = fork _ _ _ (moves _) (leaf (th' .action) th' x)
+
+    -- the stop: the count is no node
+    counts : (e : Effect) → Apt s e → ((y : ℕ) → NewMain e y → ⊥) → (th' : Thread) (x : ℕ) → Turned s p th (onward e (sightOf s .nodes) th' x)
+    unfolding onward
+    counts e a n th' x = fork _ _ _ (a, λ y z. absurd (n y z), λ z. absurd (out z)) (a, λ y z. absurd (n y z), λ z. absurd (out z))
+
+    follow : (on : Bool) (th' : Thread) (x : ℕ) → Turned s p th (followed on (sightOf s .nodes) th' x)
+    unfolding followed
+    follow false th' x = reach th' x
+    follow true th' x = fork _ _ _ (reach th' x) (fork _ _ _ (moves _) (counts Quiet tt (λ y z. z) th' x))
+
+    release : (a : Action) → Turned s p th (released a (sightOf s .nodes) th)
+    release Lookup = (tt, λ y z. z, λ z. absurd (out z))
+    release Insert = (tt, λ y z. absurd z, λ z. absurd (out z))
+    release Remove = (tt, λ y z. absurd z, λ z. absurd (out z))
+    release Split = (tt, λ y z. absurd z, λ z. absurd (out z))
+    release Join = (tt, λ y z. absurd z, λ z. absurd (out z))
+    release Query = tt
 
     lose : (a : Action) → Turned s p th (lostAs a th)
     lose Lookup = ends
@@ -134,16 +153,17 @@ module _ (s : Store) (p : Place) (th : Thread) where
     lose Join = ends
     lose Query = tt
 
-    link : (l : Link) → Turned s p th (joinUnder l th)
-    link Nil = ends
-    link (To q) = moves _
+    link : (on : Bool) (l : Link) → Turned s p th (joinUnder on l th)
+    link on Nil = ends
+    link false (To q) = moves _
+    link true (To q) = moves _
 
-    clear : (a : Action) → Turned s p th (clearedAs a (sightOf s .nodes (th .base)) th)
+    clear : (a : Action) → Turned s p th (clearedAs a (s .stop .on) (sightOf s .nodes (th .base)) th)
     clear Lookup = ends
     clear Insert = moves _
     clear Remove = moves _
     clear Split = moves _
-    clear Join = link (s .nodes (th .base) .parent)
+    clear Join = link (s .stop .on) (s .nodes (th .base) .parent)
     clear Query = tt
 
     replace : (a : Action) (v : Spot) → Turned s p th (replacedAs a v (sightOf s .nodes (th .base)) (s .used) th)
@@ -291,12 +311,15 @@ module _ (s : Store) (p : Place) (th : Thread) where
 pub turned : (s : Store) (th : Thread) (p : Place) → Turned s p th (step p (sightOf s) th)
 unfolding step beside cleared blocked
 turned s th nowhere = moves s nowhere th refl th
-turned s th p1 = reach s p1 th refl (s .root)
-turned s th p2 = reach s p2 th refl (childFor (th .station) (sightOf s .nodes (th .route)))
+turned s th p1 = reach s p1 th refl (reading (s .stop .on) 0 th) (s .root)
+turned s th p2 = follow s p2 th refl (s .stop .on) (reading (s .stop .on) (oneMore (th .read)) th) (childFor (th .station) (sightOf s .nodes (th .route)))
 turned s th p3 = fork s p3 th _ _ _ (ends s p3 th refl) (fork s p3 th _ _ _ (clear s p3 th refl (th .action)) (block s p3 th refl (th .action) (check (sightOf s .nodes) (s .stores) (th .base))))
+turned s th p4 = counts s p4 th refl Raise tt (λ y z. z) th (th .route)
+turned s th p5 = release s p5 th refl (th .action)
 turned s th (swap own q) = by-own s (swap own q) th (own-away q) (probe q (s .nodes (th .base) .parent) (sightOf s .nodes) (s .root) (th .base))
 turned s th p15 = help s p15 th refl (check (sightOf s .nodes) (s .stores) (th .base))
 turned s th p16 = fork s p16 th _ _ _ (goes-back s p16 th refl (Settle (th .main) Aborted) refl (λ y z. z)) (goes-back s p16 th refl Quiet tt (λ y z. z))
+turned s th p19 = fork s p19 th _ _ _ (moves s p19 th refl _) (ends s p19 th refl)
 turned s th p20 = fork s p20 th _ _ _ (moves s p20 th refl _) (moves s p20 th refl _)
 turned s th p21 = fork s p21 th _ _ _ (moves s p21 th refl _) (ends s p21 th refl)
 turned s th p22 = fork s p22 th _ _ _ (moves s p22 th refl _) (moves s p22 th refl _)

@@ -13,9 +13,9 @@ use Rattle.definitions.specs.declared.Answer.{Answer}
 
 -- ---- states
 
--- a "reachable state": the fresh bench, or what a record that is not refused makes of a reachable one. A record of version 1 has depth 0
+-- a "reachable state": a fresh bench, with the stop off or on, or what a record that is not refused makes of a reachable one. A record of version 1 has depth 0
 pub data Reachable : Bench → Type 0 where
-  begins : {b : Bench} → b ≡ fresh → Reachable b
+  begins : {b : Bench} (on : Bool) → b ≡ fresh on → Reachable b
   past : {b : Bench} (c : Bench) (r : Rec) (w : Row) → Reachable c → recordStep c (r .last) (r .first) (r .second) (r .extra) ≡ carried b w → Reachable b
 
 -- "with all threads idle"

@@ -3,7 +3,7 @@
 use Prim.Native.Nat.{ℕ, suc, _+_, _%_, _<_, _≤_}
 use mathlib.Core.Path.{_≡_}
 use mathlib.Core.Logic.{_≢_}
-use mathlib.Core.Bool.{true}
+use mathlib.Core.Bool.{Bool, cond, true}
 use mathlib.Core.List.{List, [], _∷_}
 use lib.ListN.{length}
 use Rattle.container.specs.Depths.{Container, isIn, find, merge, lower, upper}
@@ -46,9 +46,9 @@ EveryVersion = (b : Bench) (l x y d : ℕ) → last ≤ l → x % 16 ≤ last �
 
 -- ---- a job run alone
 
--- 1 reads the root, 2 at most 63 routes; then 3, 10, 12 and 13
-abbrev pub longest : ℕ
-longest = 68
+-- 1 reads the root, 2 at most 63 routes; then 3, 10, 12 and 13; with the stop on also 4 and 5
+abbrev pub longest : Bool → ℕ
+longest on = cond on 70 68
 
 -- job j, run alone from b, ends: one number is used, the answer tells whether the station was in, and what the tree holds changes at that
 -- station only
@@ -57,7 +57,7 @@ pub record Ends (j : Job) (b : Bench) : Type 0 where
   pub answer : Answer
   pub after : Bench
   pub alone : Alone j steps b answer after
-  pub short : steps ≤ longest
+  pub short : steps ≤ longest (b .store .stop .on)
   pub reached : Reachable after
   pub idle : AllIdle after
   pub used : after .store .used ≡ suc (b .store .used)

@@ -179,7 +179,7 @@ module _ (t : Shapes) (l : List ℕ) (root used : ℕ) (w : Write) {writes : Boo
   enact-writes h f q k j = rw h (record { nodes = q k j; depths = f })
 
   pub enact-quiet : writes ≡ false → Enacts t l root used (written writes w) t l root
-  enact-quiet h k j = rw h (record { nodes = record { stored = λ d. refl }; depths = record { rows = λ _. refl } })
+  enact-quiet h k j = rw h (record { nodes = record { stored = λ d z. refl }; depths = record { rows = λ _. refl } })
 
 pub used-writes : (used : ℕ) (w : Write) {writes : Bool} {u : ℕ} → writes ≡ true → u ≡ usedAfter used (effectOf w) → u ≡ usedAfter used (written writes w)
 used-writes used w h q = rw h q

@@ -31,4 +31,4 @@ pub record Noted (th r : Notes) (n : Note) (p v : ℕ) : Type 0 where
   pub after : (f : Frame) (fs : List Frame) → thread r (framesAfter n f fs) ≡ noted n f p v (thread th fs)
 
 unfoldable pub withGrandparent : Link → Notes → Notes
-withGrandparent g n = record { action = n .action; station = n .station; extra = n .extra; place = n .place; route = n .route; base = n .base; parent = n .parent; left = n .left; found = n .found; neighbour = n .neighbour; main = n .main; owner = n .owner; grandparent = g; other = n .other }
+withGrandparent g n = record { action = n .action; station = n .station; extra = n .extra; place = n .place; route = n .route; read = n .read; base = n .base; parent = n .parent; left = n .left; found = n .found; neighbour = n .neighbour; main = n .main; owner = n .owner; grandparent = g; other = n .other }

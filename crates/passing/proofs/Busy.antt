@@ -2,7 +2,7 @@
 use mathlib.Core.Path.{_≡_, refl}
 use mathlib.Core.Bool.{Bool, true, false}
 use mathlib.Core.List.{List, [], _∷_}
-use Prim.Native.Nat.{ℕ, _+_}
+use Prim.Native.Nat.{ℕ, suc, _+_}
 use native.Mathlib.Omega.{arith}
 use lib.Dec.{eqb}
 use borrow.Author.Tests.{ne-eqb}
@@ -26,8 +26,8 @@ use Rattle.definitions.specs.Threads.{Frame, Thread, Turn, Moves, Finishes, Fin
 use Rattle.definitions.specs.Frames.{tailOf, storeOf, inFrame, nextFrom, adding, foundFirst, backIn, back}
 use Rattle.definitions.specs.Nodes.{childFor, check}
 use Rattle.definitions.specs.Bench.{Sight}
-use Rattle.definitions.specs.Places.{Swap, own, found, united, opening, next, quarterNumber, firstOf, number, Place, nowhere, p1, p2, p3, p15, p16, p20, p21, p22, p23, p24, p25, p30, p31, p32, p33, p34, p35, p36, p37, p38, p40, p45, p46, p47, p48, p49, p50, p51, p60, p61, p62, p70, p71, p72, p73, p74, p76, p81, p82, swap}
-use Rattle.definitions.specs.Steps.{backOut, atLeaf, reached, helpBy, blockedAs, blocked, lostAs, lost, joinUnder, clearedAs, cleared, probe, replacedAs, replaced, ownBy, foundBy, unitedBy, beside, grandMarking, cutAt, cutOn, cutRight, freeing, reachedFirst, reachedNext, openedBy, extendedBy, popOn, metBy, filling, readOut, step}
+use Rattle.definitions.specs.Places.{Swap, own, found, united, opening, next, quarterNumber, firstOf, number, reading, Place, nowhere, p1, p2, p3, p4, p5, p15, p16, p19, p20, p21, p22, p23, p24, p25, p30, p31, p32, p33, p34, p35, p36, p37, p38, p40, p45, p46, p47, p48, p49, p50, p51, p60, p61, p62, p70, p71, p72, p73, p74, p76, p81, p82, swap}
+use Rattle.definitions.specs.Steps.{backOut, atLeaf, reached, onward, oneMore, followed, released, helpBy, blockedAs, blocked, lostAs, lost, joinUnder, clearedAs, cleared, probe, replacedAs, replaced, ownBy, foundBy, unitedBy, beside, grandMarking, cutAt, cutOn, cutRight, freeing, reachedFirst, reachedNext, openedBy, extendedBy, popOn, metBy, filling, readOut, step}
 
 abbrev pub Stays : Turn → Type 0
 Stays (Moves th' e) = isIdle th' ≡ false
@@ -79,17 +79,35 @@ in-frame [] k h = tt
 in-frame (f ∷ fs) k h = h f fs
 
 module _ (s : Sight) (th : Thread) (busy : isIdle th ≡ false) where
-  leaf : (a : Action) (x : ℕ) → Stays (atLeaf a (s .nodes) th x)
-  leaf Lookup x = tt
-  leaf Insert x = refl
-  leaf Remove x = refl
-  leaf Split x = refl
-  leaf Join x = refl
-  leaf Query x = tt
+  -- th' is th with the routes read
+  leaf : (a : Action) (th' : Thread) (x : ℕ) → Stays (atLeaf a (s .nodes) th' x)
+  leaf Lookup th' x = tt
+  leaf Insert th' x = refl
+  leaf Remove th' x = refl
+  leaf Split th' x = refl
+  leaf Join th' x = refl
+  leaf Query th' x = tt
 
-  reach : (x : ℕ) → Stays (reached (s .nodes) th x)
+  reach : (th' : Thread) (x : ℕ) → Stays (reached (s .nodes) th' x)
   unfolding reached
-  reach x = fork th _ _ _ refl (leaf (th .action) x)
+  reach th' x = fork th _ _ _ refl (leaf (th' .action) th' x)
+
+  carry-on : (e : Effect) (th' : Thread) (x : ℕ) → Stays (onward e (s .nodes) th' x)
+  unfolding onward
+  carry-on e th' x = fork th _ _ _ refl refl
+
+  follow : (on : Bool) (th' : Thread) (x : ℕ) → Stays (followed on (s .nodes) th' x)
+  unfolding followed
+  follow false th' x = reach th' x
+  follow true th' x = fork th _ _ _ (reach th' x) (fork th _ _ _ refl (carry-on Quiet th' x))
+
+  release : (a : Action) → Stays (released a (s .nodes) th)
+  release Lookup = tt
+  release Insert = refl
+  release Remove = refl
+  release Split = refl
+  release Join = refl
+  release Query = tt
 
   lose : (a : Action) → Stays (lostAs a th)
   lose Lookup = tt
@@ -114,16 +132,17 @@ module _ (s : Sight) (th : Thread) (busy : isIdle th ≡ false) where
   block Join c = tt
   block Query c = tt
 
-  link : (l : Link) → Stays (joinUnder l th)
-  link Nil = tt
-  link (To p) = refl
+  link : (on : Bool) (l : Link) → Stays (joinUnder on l th)
+  link on Nil = tt
+  link false (To p) = refl
+  link true (To p) = refl
 
-  clear : (a : Action) → Stays (clearedAs a (s .nodes (th .base)) th)
+  clear : (a : Action) → Stays (clearedAs a (s .stop .on) (s .nodes (th .base)) th)
   clear Lookup = tt
   clear Insert = refl
   clear Remove = refl
   clear Split = refl
-  clear Join = link (s .nodes (th .base) .parent)
+  clear Join = link (s .stop .on) (s .nodes (th .base) .parent)
   clear Query = tt
 
   replace : (a : Action) (v : Spot) → Stays (replacedAs a v (s .nodes (th .base)) (s .used) th)
@@ -209,12 +228,15 @@ module _ (s : Sight) (th : Thread) (busy : isIdle th ≡ false) where
   pub stays-busy : (p : Place) → Stays (step p s th)
   unfolding step beside cleared blocked lost
   stays-busy nowhere = busy
-  stays-busy p1 = reach (s .root)
-  stays-busy p2 = reach (childFor (th .station) (s .nodes (th .route)))
+  stays-busy p1 = reach (reading (s .stop .on) 0 th) (s .root)
+  stays-busy p2 = follow (s .stop .on) (reading (s .stop .on) (oneMore (th .read)) th) (childFor (th .station) (s .nodes (th .route)))
   stays-busy p3 = fork th _ _ _ tt (fork th _ _ _ (clear (th .action)) (block (th .action) (check (s .nodes) (s .stores) (th .base))))
+  stays-busy p4 = carry-on _ th (th .route)
+  stays-busy p5 = release (th .action)
   stays-busy (swap own q) = by-own (probe q (s .nodes (th .base) .parent) (s .nodes) (s .root) (th .base))
   stays-busy p15 = help (check (s .nodes) (s .stores) (th .base))
   stays-busy p16 = fork th _ _ _ (returns _ th) (returns _ th)
+  stays-busy p19 = fork th _ _ _ refl tt
   stays-busy p20 = fork th _ _ _ refl refl
   stays-busy p21 = fork th _ _ _ refl tt
   stays-busy p22 = fork th _ _ _ refl refl

@@ -26,8 +26,8 @@ pub data Slot (th : Thread) (o : plain.Operation) (k : Link) (ops : ℕ → Oper
 abbrev pub Linked : Bench → Plain → Reading → Type 0
 Linked b P R = (t : ℕ) → Slot (b .threads t) (P .operation t) (R .busy t) (R .all .operation)
 
-pub linked-fresh : Linked fresh empty unread
-linked-fresh t = rests refl refl refl
+pub linked-fresh : (on : Bool) → Linked (fresh on) empty unread
+linked-fresh on t = rests refl refl refl
 
 -- what a busy thread has open
 pub record Open (b : Bench) (P : Plain) (R : Reading) (t : ℕ) : Type 0 where

@@ -7,7 +7,7 @@ use borrow.Author.Tests.{eq-eqb, ne-eqb}
 use Rattle.container.specs.Choice.{ite}
 use Rattle.definitions.specs.Bench.{Bench, fresh}
 use Rattle.definitions.specs.Records.{Result, refused, carried, recordStep}
-use Rattle.definitions.specs.Schedule.{Rec, recordAt, recordsOf}
+use Rattle.definitions.specs.Schedule.{stopOf, Rec, recordAt, recordsOf}
 use Rattle.definitions.specs.Run.{Progress, begin, advanceBy, advance, after}
 use Rattle.definitions.specs.History.{Event}
 use Rattle.definitions.specs.Written.{eventOf, eventsBy, eventsFrom}
@@ -42,7 +42,7 @@ snoc file (q ∷ rs) r p e = go (recordStep (p .bench) (q .last) (q .first) (q .
 
 -- the events of the first k records
 abbrev pub eventsTo : List ℕ → ℕ → List Event
-eventsTo file k = eventsFrom (recordsOf file k) fresh
+eventsTo file k = eventsFrom (recordsOf file k) (fresh (stopOf file))
 
 pub events-none : (file : List ℕ) → eventsTo file 0 ≡ []
 unfolding recordsOf
@@ -50,4 +50,4 @@ events-none file = refl
 
 pub events-next : (file : List ℕ) (k : ℕ) → eventsTo file (suc k) ≡ eventsTo file k ++ added (after file k) (recordAt file k)
 unfolding recordsOf
-events-next file k = snoc file (recordsOf file k) (recordAt file k) begin refl ∙ ap (λ p. eventsTo file k ++ added p (recordAt file k)) (sym (walk-is file k))
+events-next file k = snoc file (recordsOf file k) (recordAt file k) (begin (stopOf file)) refl ∙ ap (λ p. eventsTo file k ++ added p (recordAt file k)) (sym (walk-is file k))

@@ -12,7 +12,7 @@ use borrow.Author.Tests.{lt-ltb, le-ltb}
 use Rattle.definitions.specs.declared.Link.the-variants.{Nil}
 use Rattle.definitions.specs.Bench.{fresh}
 use Rattle.definitions.specs.PlainSet.{empty}
-use Rattle.definitions.specs.Schedule.{Rec, recordsOf, countOf}
+use Rattle.definitions.specs.Schedule.{Rec, stopOf, recordsOf, countOf}
 use Rattle.definitions.specs.SetClaim.{moments}
 use Rattle.answers.proofs.SetRule.{set-rule}
 use Rattle.passing.proofs.Standing.{at-start, now-is}
@@ -30,18 +30,18 @@ use Rattle.passing.proofs.Pass.{Passed}
 use Rattle.passing.proofs.Course.{pass}
 use Rattle.passing.proofs.Bytes.{bytes-length, reading-back, not-refused, file-bytes}
 
-module _ (rs : List Rec) (ok : Eligible rs) where
+module _ (on : Bool) (rs : List Rec) (ok : Eligible on rs) where
   abbrev es : List Event
-  es = eventsFrom rs fresh
+  es = eventsFrom rs (fresh on)
 
   abbrev file : List ℕ
-  file = historyOf (eventsFrom rs fresh)
+  file = historyOf (eventsFrom rs (fresh on))
 
-  pub passed : Passed (moments rs) es unread (λ _. Nil) 0
-  passed = pass (moments rs) rs fresh empty (λ _. Nil) 0 unread (at-start rs (set-rule .0 rs)) linked-fresh tidy-unread (ok .three) (ok .finished)
+  pub passed : Passed (moments on rs) es unread (λ _. Nil) 0
+  passed = pass (moments on rs) rs (fresh on) empty (λ _. Nil) 0 unread (at-start on rs (set-rule .0 on rs)) (linked-fresh on) tidy-unread (ok .three) (ok .finished)
 
-  nothing-in : moments rs 0 ≡ (λ _. false)
-  nothing-in = fun-ext (λ s. now-is (moments rs) rs fresh empty (λ _. Nil) 0 (at-start rs (set-rule .0 rs)) s)
+  nothing-in : moments on rs 0 ≡ (λ _. false)
+  nothing-in = fun-ext (λ s. now-is (moments on rs) rs (fresh on) empty (λ _. Nil) 0 (at-start on rs (set-rule .0 on rs)) s)
 
   pub run-order : Order (readAll es unread .all) (passed .list)
   run-order = record {
@@ -73,17 +73,17 @@ module _ (rs : List Rec) (ok : Eligible rs) where
 
   -- its numbers are bytes, where the list is no longer than a schedule can be
   pub run-bytes : length rs ≤ 4096 → (j : ℕ) → getD file j 0 < 256
-  run-bytes h = file-bytes es (passed .in-place) (omega (arith, events-few rs fresh))
+  run-bytes h = file-bytes es (passed .in-place) (omega (arith, events-few rs (fresh on)))
 
 -- ---- the run of a schedule file
 pub runs-pass : RunsPass
 unfolding written
 runs-pass file one three few fin =
     let rs = recordsOf file (countOf file) in
-    let ok : Eligible rs = record { three = three; few = few; finished = subst (λ b. AllFinished b) (run-bench file) fin } in
-    record { rows = run-rows file one; judged = run-passes rs ok }
+    let ok : Eligible (stopOf file) rs = record { three = three; few = few; finished = subst (λ b. AllFinished b) (run-bench file) fin } in
+    record { rows = run-rows file one; judged = run-passes (stopOf file) rs ok }
 
 -- the history of every run has room
 pub room-enough : (count : ℕ) → Enough count (3 + 4 * count)
 unfolding written
-room-enough count file e = omega (arith, bytes-length (runEvents file), events-few (recordsOf file (countOf file)) fresh, records-length file (countOf file), e)
+room-enough count file e = omega (arith, bytes-length (runEvents file), events-few (recordsOf file (countOf file)) (fresh (stopOf file)), records-length file (countOf file), e)

@@ -11,7 +11,7 @@ use Rattle.container.specs.Choice.{ite}
 use Rattle.definitions.specs.declared.Answer.{Answer}
 use Rattle.definitions.specs.Bench.{Bench, fresh}
 use Rattle.definitions.specs.Records.{Row, noRow, row, Result, refused, carried, recordStep}
-use Rattle.definitions.specs.Schedule.{Rec, version, recordAt, recordsOf, countOf}
+use Rattle.definitions.specs.Schedule.{stopOf, Rec, version, recordAt, recordsOf, countOf}
 use Rattle.definitions.specs.Run.{Progress, begin, rowBytes, advanceBy, advance, after, ended}
 use Rattle.definitions.specs.History.{Event}
 use Rattle.definitions.specs.Written.{eventOf, eventsBy, eventsFrom, rowOf, rowsOf}
@@ -28,10 +28,10 @@ unfolding walk
 walk-last file [] r p = refl
 walk-last file (q ∷ rs) r p = walk-last file rs r (advance file p q)
 
-pub walk-is : (file : List ℕ) (k : ℕ) → after file k ≡ walk file (recordsOf file k) begin
+pub walk-is : (file : List ℕ) (k : ℕ) → after file k ≡ walk file (recordsOf file k) (begin (stopOf file))
 unfolding after recordsOf walk
 walk-is file zero = refl
-walk-is file (suc k) = ap (λ p. advance file p (recordAt file k)) (walk-is file k) ∙ sym (walk-last file (recordsOf file k) _ begin)
+walk-is file (suc k) = ap (λ p. advance file p (recordAt file k)) (walk-is file k) ∙ sym (walk-last file (recordsOf file k) _ (begin (stopOf file)))
 
 pub advance-on : (file : List ℕ) (p : Progress) (r : Rec) → p .refusal ≡ 0 → advance file p r ≡ advanceBy file p (r .first / 16) (recordStep (p .bench) (r .last) (r .first) (r .second) (r .extra))
 unfolding advance ite
@@ -92,11 +92,11 @@ module _ (file : List ℕ) where
           added (row a k c) d = one-row file (r .first % 16) (p .bench) r a k c one (d .1 .number)
 
 -- Run's rows are the rows of the history, and Run ends where it ends
-pub run-rows : (file : List ℕ) → version file ≡ 1 → ended file .rows ≡ rowsOf (eventsFrom (recordsOf file (countOf file)) fresh)
-run-rows file one = ap (λ p. p .rows) (walk-is file (countOf file)) ∙ rows-same file one (recordsOf file (countOf file)) begin refl
+pub run-rows : (file : List ℕ) → version file ≡ 1 → ended file .rows ≡ rowsOf (eventsFrom (recordsOf file (countOf file)) (fresh (stopOf file)))
+run-rows file one = ap (λ p. p .rows) (walk-is file (countOf file)) ∙ rows-same file one (recordsOf file (countOf file)) (begin (stopOf file)) refl
 
-pub run-bench : (file : List ℕ) → ended file .bench ≡ endFrom (recordsOf file (countOf file)) fresh
-run-bench file = ap (λ p. p .bench) (walk-is file (countOf file)) ∙ bench-same file (recordsOf file (countOf file)) begin refl
+pub run-bench : (file : List ℕ) → ended file .bench ≡ endFrom (recordsOf file (countOf file)) (fresh (stopOf file))
+run-bench file = ap (λ p. p .bench) (walk-is file (countOf file)) ∙ bench-same file (recordsOf file (countOf file)) (begin (stopOf file)) refl
 
 -- ---- no more events than records
 pub records-length : (file : List ℕ) (k : ℕ) → length (recordsOf file k) ≡ k

@@ -23,9 +23,9 @@ use Rattle.definitions.specs.declared.Probe.{Probe}
 use Rattle.definitions.specs.Threads.{Thread, Turn, Moves, Finishes, Finds, Full, NoStore}
 use Rattle.definitions.specs.Nodes.{newBase, childFor, shape}
 use Rattle.definitions.specs.Bench.{sightOf, Store, store, Bench}
-use Rattle.definitions.specs.Places.{p1, p2, p3, p20, p21, p22, p23, p24, swap, own, placeOf, at}
+use Rattle.definitions.specs.Places.{p1, p2, p3, p20, p21, p22, p23, p24, swap, own, placeOf, reading, at}
 use Rattle.definitions.specs.Effects.{perform, push, hang}
-use Rattle.definitions.specs.Steps.{goes, atLeaf, reached, joinUnder, isNil, lacksAs, lacks, clearedAs, cleared, replacedAs, replaced, ownBy, beside, step}
+use Rattle.definitions.specs.Steps.{goes, atLeaf, reached, oneMore, followed, joinUnder, isNil, lacksAs, lacks, clearedAs, cleared, replacedAs, replaced, ownBy, beside, step}
 use Rattle.definitions.specs.Answers.{shown}
 use Rattle.definitions.specs.Records.{row}
 use Rattle.profile.specs.Claim.{Joined}
@@ -95,11 +95,12 @@ module _ {b : Bench} {hist : Hist} {now : ℕ} {first : ℕ → Link} (inv : Inv
 
   -- ---- 1, 2
 
-  arrive : (x : ℕ) → Quiet s → (q : Spotted s x) → c ≡ q .depth → Ok (reached (λ z. shape (s .nodes z)) th x)
+  -- with i routes read where the stop is on
+  arrive : (i x : ℕ) → Quiet s → (q : Spotted s x) → c ≡ q .depth → Ok (reached (λ z. shape (s .nodes z)) (reading (s .stop .on) i th) x)
   unfolding reached
-  arrive x t q e = fork s th c _ _ _ (λ k. (t, q, ap suc e, kind-route _ k)) (λ k. leaf (th .action) refl (kind-base _ k))
+  arrive r x t q e = fork s th c _ _ _ (λ k. (t, q, ap suc e, kind-route _ k)) (λ k. leaf (th .action) refl (kind-base _ k))
     where
-      leaf : (a : Action) → th .action ≡ a → s .nodes x .kind ≢ Route → Ok (atLeaf a (λ z. shape (s .nodes z)) th x)
+      leaf : (a : Action) → th .action ≡ a → s .nodes x .kind ≢ Route → Ok (atLeaf a (λ z. shape (s .nodes z)) (reading (s .stop .on) r th) x)
       leaf Lookup i k = (t, neither s th _ (λ z. clash (cc)) (λ z. clash (cc)))
       leaf Insert i k = (t, q, ap suc e, k)
       leaf Remove i k = (t, q, ap suc e, k)
@@ -109,11 +110,15 @@ module _ {b : Bench} {hist : Hist} {now : ℕ} {first : ℕ → Link} (inv : Inv
 
   pub at-1 : Mine p1 s th c → Ok (step p1 (sightOf s) th)
   unfolding step
-  at-1 (t, e) = arrive (s .root) t (record { depth = 0; lo = 0; hi = 64; path = top refl refl refl refl }) e
+  at-1 (t, e) = arrive 0 (s .root) t (record { depth = 0; lo = 0; hi = 64; path = top refl refl refl refl }) e
 
-  pub at-2 : Mine p2 s th c → Ok (step p2 (sightOf s) th)
-  unfolding step child-of
-  at-2 (t, q, e, k) = arrive (childFor (th .station) (shape (s .nodes (th .route)))) t (child-of (th .route) (ltb (th .station) (s .nodes (th .route) .key)) q k) e
+  pub at-2 : s .stop .on ≡ false → Mine p2 s th c → Ok (step p2 (sightOf s) th)
+  unfolding step followed child-of
+  at-2 off (t, q, e, k) = subst (λ v. Ok (followed v (λ z. shape (s .nodes z)) (reading (s .stop .on) (oneMore (th .read)) th) child)) (sym off)
+      (arrive (oneMore (th .read)) child t (child-of (th .route) (ltb (th .station) (s .nodes (th .route) .key)) q k) e)
+    where
+      child : ℕ
+      child = childFor (th .station) (shape (s .nodes (th .route)))
 
   -- ---- 3
 
@@ -146,24 +151,24 @@ module _ {b : Bench} {hist : Hist} {now : ℕ} {first : ℕ → Link} (inv : Inv
       none Nil e = refl
       none (To p) e = absurd (false≢true e)
 
-  pub at-3 : Stands b 0 p3 → Mine p3 s th c → Ok (step p3 (sightOf s) th)
+  pub at-3 : s .stop .on ≡ false → Stands b 0 p3 → Mine p3 s th c → Ok (step p3 (sightOf s) th)
   unfolding step cleared lacks
-  at-3 e (t, q, n, ib) = fork s th c _ _ _ (λ z. (t, lacking (th .action) refl (number-of (th .place) p3 e (omega arith)) z))
+  at-3 off e (t, q, n, ib) = fork s th c _ _ _ (λ z. (t, lacking (th .action) refl (number-of (th .place) p3 e (omega arith)) z))
       (λ _. pick-true Ok _ _ _ (base-ready mem t (th .base) ib (live-of (th .base) q)) (go (th .action) refl))
     where
       swaps : Ok (goes (at (swap own ReadLeft) th))
       swaps = let (v, o) = base-hangs mem t (th .base) ib (live-of (th .base) q) in (t, v, o, tt, omega (arith, reached-depth mem (q .depth) (th .base) (q .lo) (q .hi) (q .path)))
 
-      link : (l : Link) → s .nodes (th .base) .parent ≡ l → th .action ≡ Join → Ok (joinUnder l th)
+      link : (l : Link) → s .nodes (th .base) .parent ≡ l → th .action ≡ Join → Ok (joinUnder false l th)
       link Nil z i = (t, ((λ _. inr (refl, number-of (th .place) p3 e (omega arith), z)), (λ y. absurd (clash (cc)))))
       link (To p) z i = let (r, k, f, h) = above (th .base) p t q ib z in (f, record { act = i; quiet = t; reach = r; route = k; here = h })
 
-      go : (a : Action) → th .action ≡ a → Ok (clearedAs a (shape (s .nodes (th .base))) th)
+      go : (a : Action) → th .action ≡ a → Ok (clearedAs a (s .stop .on) (shape (s .nodes (th .base))) th)
       go Lookup i = (t, neither s th _ (λ z. clash (cc)) (λ z. clash (cc)))
       go Insert i = swaps
       go Remove i = swaps
       go Split i = swaps
-      go Join i = link (s .nodes (th .base) .parent) refl i
+      go Join i = subst (λ v. Ok (joinUnder v (s .nodes (th .base) .parent) th)) (sym off) (link (s .nodes (th .base) .parent) refl i)
       go Query i = tt
 
   -- ---- 10 to 13
@@ -177,7 +182,7 @@ module _ {b : Bench} {hist : Hist} {now : ℕ} {first : ℕ → Link} (inv : Inv
       put Insert v i = fork s th c _ _ _ (λ _. (quiet-base s v Normal _ _ 0 (λ z. clash (cc)) (λ z. clash (cc)) t, neither s th _ (λ z. clash (cc)) (λ z. clash (cc)))) (λ _. tt)
       put Remove v i = fork s th c _ _ _ (λ _. (quiet-base s v Normal _ _ 0 (λ z. clash (cc)) (λ z. clash (cc)) t, neither s th _ (λ z. clash (cc)) (λ z. clash (cc)))) (λ _. tt)
       put Split v i = fork s th c _ _ _ (λ _. (
-        tidy-hang v (s .used) (store _ (s .root) (s .used + 3) (s .stores) (s .shown)) (tidy-used
+        tidy-hang v (s .used) (store _ (s .root) (s .used + 3) (s .stores) (s .shown) (s .stop)) (tidy-used
             (tidy-fill (tidy-fill (tidy-fill t (s .used) _ (omega arith) (λ z. clash (cc)) refl (λ z. clash (cc)) (λ z. clash (cc))) (s .used + 1) _ (omega arith) (λ z. clash (cc)) refl (λ z. clash (cc)) (λ z. clash (cc))) (s .used + 2) _ (omega arith) (λ z. clash (cc)) refl (λ z. clash (cc)) (λ z. clash (cc)))
             (s .used + 3) (omega arith)),
         ((λ z. absurd (clash (cc))), (λ _. inl refl)),

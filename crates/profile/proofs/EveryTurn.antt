@@ -15,7 +15,7 @@ use Rattle.definitions.specs.declared.Probe.{Probe}
 use Rattle.definitions.specs.Threads.{Thread}
 use Rattle.definitions.specs.Nodes.{isPreparing, shape}
 use Rattle.definitions.specs.Bench.{sightOf, Store, Bench}
-use Rattle.definitions.specs.Places.{Place, nowhere, p1, p2, p3, p15, p16, p20, p21, p22, p23, p24, p25, p30, p31, p32, p33, p34, p35, p36, p37, p38, p40, p45, p46, p47, p48, p49, p50, p51, p60, p61, p62, p70, p71, p72, p73, p74, p76, p81, p82, swap, own, found, united, opening, next as nextOf}
+use Rattle.definitions.specs.Places.{Place, nowhere, p1, p2, p3, p4, p5, p15, p16, p19, p20, p21, p22, p23, p24, p25, p30, p31, p32, p33, p34, p35, p36, p37, p38, p40, p45, p46, p47, p48, p49, p50, p51, p60, p61, p62, p70, p71, p72, p73, p74, p76, p81, p82, swap, own, found, united, opening, next as nextOf}
 use Rattle.definitions.specs.Steps.{step, isNil}
 use Rattle.definitions.specs.Records.{isIdle}
 use Rattle.profile.specs.Claim.{missed, grandTaken, rootLost, sideLost, markLost, compares, fails, updates}
@@ -45,8 +45,11 @@ upright p1 s th c m = m .0 .upright
 upright p2 s th c m = m .0 .upright
 upright p3 s th c m = m .0 .upright
 upright (swap own q) s th c m = m .0 .upright
+upright p4 s th c m = absurd m
+upright p5 s th c m = absurd m
 upright p15 s th c m = absurd m
 upright p16 s th c m = absurd m
+upright p19 s th c m = absurd m
 upright p20 s th c m = m .1 .quiet .upright
 upright p21 s th c m = m .quiet .upright
 upright p22 s th c m = m .quiet .upright
@@ -96,52 +99,55 @@ module _ {b : Bench} {hist : Hist} {now : ℕ} {first : ℕ → Link} (inv : Inv
   busy : Stands b 0 nowhere → isIdle th ≡ false → ⊥
   busy e h = true≢false (sym (eq-eqb _ _ (know-now inv 0 nowhere e .0)) ∙ h)
 
-  pub turn : (p : Place) → Stands b 0 p → isIdle th ≡ false → Mine p s th c → OkTurn s th c (step p (sightOf s) th)
-  turn nowhere e h m = absurd (busy e h)
-  turn p1 e h m = at-1 inv c m
-  turn p2 e h m = at-2 inv c m
-  turn p3 e h m = at-3 inv c e m
-  turn (swap own q) e h m = at-own inv c q m
-  turn p15 e h m = absurd m
-  turn p16 e h m = absurd m
-  turn p20 e h m = at-20 inv c m
-  turn p21 e h m = at-21 inv c m
-  turn p22 e h m = at-22 inv c m
-  turn p23 e h m = at-23 inv c m
-  turn p24 e h m = at-24 inv c m
-  turn p25 e h m = at-25 inv c e m
-  turn (swap found q) e h m = at-found inv c q m
-  turn p30 e h m = at-30 inv c e m
-  turn p31 e h m = at-31 inv c e m
-  turn p32 e h m = at-32 inv c e m
-  turn p33 e h m = at-33 inv c m
-  turn p34 e h m = at-34 inv c m
-  turn p35 e h m = at-35 inv c m
-  turn p36 e h m = absurd m
-  turn p37 e h m = absurd m
-  turn p38 e h m = absurd m
-  turn p40 e h m = at-40 s th c m
-  turn (swap united q) e h m = at-united s th c q m
-  turn p45 e h m = at-45 s th c m
-  turn p46 e h m = at-46 s th c m
-  turn p47 e h m = at-47 s th c m
-  turn p48 e h m = at-48 s th c m
-  turn p49 e h m = at-49 s th c m
-  turn p50 e h m = at-50 s th c m
-  turn p51 e h m = at-51 s th c m
-  turn p60 e h m = absurd m
-  turn p61 e h m = absurd m
-  turn p62 e h m = absurd m
-  turn p70 e h m = absurd m
-  turn p71 e h m = absurd m
-  turn p72 e h m = absurd m
-  turn p73 e h m = absurd m
-  turn p74 e h m = absurd m
-  turn p76 e h m = absurd m
-  turn p81 e h m = absurd m
-  turn p82 e h m = absurd m
-  turn (swap opening q) e h m = absurd m
-  turn (swap nextOf q) e h m = absurd m
+  pub turn : s .stop .on ≡ false → (p : Place) → Stands b 0 p → isIdle th ≡ false → Mine p s th c → OkTurn s th c (step p (sightOf s) th)
+  turn off nowhere e h m = absurd (busy e h)
+  turn off p1 e h m = at-1 inv c m
+  turn off p2 e h m = at-2 inv c off m
+  turn off p3 e h m = at-3 inv c off e m
+  turn off (swap own q) e h m = at-own inv c q m
+  turn off p4 e h m = absurd m
+  turn off p5 e h m = absurd m
+  turn off p15 e h m = absurd m
+  turn off p16 e h m = absurd m
+  turn off p19 e h m = absurd m
+  turn off p20 e h m = at-20 inv c m
+  turn off p21 e h m = at-21 inv c m
+  turn off p22 e h m = at-22 inv c m
+  turn off p23 e h m = at-23 inv c m
+  turn off p24 e h m = at-24 inv c m
+  turn off p25 e h m = at-25 inv c e m
+  turn off (swap found q) e h m = at-found inv c q m
+  turn off p30 e h m = at-30 inv c e m
+  turn off p31 e h m = at-31 inv c e m
+  turn off p32 e h m = at-32 inv c e m
+  turn off p33 e h m = at-33 inv c m
+  turn off p34 e h m = at-34 inv c m
+  turn off p35 e h m = at-35 inv c m
+  turn off p36 e h m = absurd m
+  turn off p37 e h m = absurd m
+  turn off p38 e h m = absurd m
+  turn off p40 e h m = at-40 s th c m
+  turn off (swap united q) e h m = at-united s th c q m
+  turn off p45 e h m = at-45 s th c m
+  turn off p46 e h m = at-46 s th c m
+  turn off p47 e h m = at-47 s th c m
+  turn off p48 e h m = at-48 s th c m
+  turn off p49 e h m = at-49 s th c m
+  turn off p50 e h m = at-50 s th c m
+  turn off p51 e h m = at-51 s th c m
+  turn off p60 e h m = absurd m
+  turn off p61 e h m = absurd m
+  turn off p62 e h m = absurd m
+  turn off p70 e h m = absurd m
+  turn off p71 e h m = absurd m
+  turn off p72 e h m = absurd m
+  turn off p73 e h m = absurd m
+  turn off p74 e h m = absurd m
+  turn off p76 e h m = absurd m
+  turn off p81 e h m = absurd m
+  turn off p82 e h m = absurd m
+  turn off (swap opening q) e h m = absurd m
+  turn off (swap nextOf q) e h m = absurd m
 
   side-found : (d : Bool) (P G : ℕ) → Close s (th .action) (th .owner) (th .main) P → s .nodes (th .main) .grandparent ≡ To G → OnSide s (th .main) P G d → sideLost d (s .nodes (th .main) .grandparent) (shape (s .nodes (th .main))) (sightOf s) ≡ false
   side-found d P G k e i = subst (λ z. sideLost d z (shape (s .nodes (th .main))) (sightOf s) ≡ false) (sym e) (ap not (names-it (s .nodes (th .main) .parent) P (kidAt d (s .nodes G)) (k .parent) (i .0)))
@@ -154,8 +160,11 @@ module _ {b : Bench} {hist : Hist} {now : ℕ} {first : ℕ → Link} (inv : Inv
   finds p2 e m = refl
   finds p3 e m = refl
   finds (swap own q) e (t, v, o, h, n) = not-missed _ (probed s (th .base) q v o h)
+  finds p4 e m = refl
+  finds p5 e m = refl
   finds p15 e m = refl
   finds p16 e m = absurd m
+  finds p19 e m = refl
   finds p20 e m = refl
   finds p21 e m = ap not (eq-eqb _ _ (m .here))
   finds p22 e m = refl
@@ -209,8 +218,11 @@ module _ {b : Bench} {hist : Hist} {now : ℕ} {first : ℕ → Link} (inv : Inv
   brief p2 e h (t, q, n, k) a = omega (arith, reached-depth (mem inv c) (q .depth) (th .route) (q .lo) (q .hi) (q .path))
   brief p3 e h (t, q, n, k) a = omega (arith, reached-depth (mem inv c) (q .depth) (th .base) (q .lo) (q .hi) (q .path))
   brief (swap own q) e h (t, v, o, i, n) a = omega (arith, one-left q)
+  brief p4 e h m a = absurd m
+  brief p5 e h m a = absurd m
   brief p15 e h m a = absurd m
   brief p16 e h m a = absurd m
+  brief p19 e h m a = absurd m
   brief p20 e h m a = joins (m .1 .act) a
   brief p21 e h m a = joins (m .act) a
   brief p22 e h m a = joins (m .act) a

@@ -17,14 +17,14 @@ use Rattle.definitions.specs.declared.Probe.{Probe}
 use Rattle.definitions.specs.declared.Probe.the-variants.{Hit, Next, Miss}
 use Rattle.definitions.specs.declared.Spot.{Spot}
 use Rattle.definitions.specs.declared.Effect.{Effect}
-use Rattle.definitions.specs.declared.Effect.the-variants.{Quiet, Mark, Settle, Invalid, Swing, Base, Fork, Commit, Ask, Fill}
+use Rattle.definitions.specs.declared.Effect.the-variants.{Quiet, Mark, Settle, Invalid, Swing, Raise, Lower, Base, Fork, Commit, Ask, Fill}
 use Rattle.definitions.specs.Threads.{Frame, Thread, Turn, Moves, Finishes, Finds, Full, NoStore}
 use Rattle.definitions.specs.Frames.{nextFrom, backIn, back}
 use Rattle.definitions.specs.declared.Node.{Node}
 use Rattle.definitions.specs.declared.Action.{Action}
 use Rattle.definitions.specs.declared.Action.the-variants.{Lookup, Insert, Remove, Split, Join, Query}
 use Rattle.definitions.specs.Bench.{Sight}
-use Rattle.definitions.specs.Places.{nowhere, p1, p2, p3, p15, p16, p20, p21, p22, p23, p24, p25, p30, p31, p32, p33, p34, p35, p36, p37, p38, p40, p45, p46, p47, p48, p49, p50, p51, p60, p61, p62, p70, p71, p72, p73, p74, p76, p81, p82, swap, own, found, united, opening, next as nextOf, quarterNumber, at, atFrames}
+use Rattle.definitions.specs.Places.{nowhere, p1, p2, p3, p4, p5, p15, p16, p19, p20, p21, p22, p23, p24, p25, p30, p31, p32, p33, p34, p35, p36, p37, p38, p40, p45, p46, p47, p48, p49, p50, p51, p60, p61, p62, p70, p71, p72, p73, p74, p76, p81, p82, swap, own, found, united, opening, next as nextOf, quarterNumber, at, atFrames}
 use Rattle.definitions.specs.Steps.{goes, room, lostAs, lost, backOut, probe, replacedAs, replaced, ownBy, foundBy, unitedBy, grandMarking, names, cutAt, cutOn, cutRight, freeing, step}
 use Rattle.profile.specs.Claim.{missed, grandTaken, rootLost, sideLost, markLost, cutTo, compares, fails, FailsExactly}
 
@@ -44,6 +44,8 @@ writes (Mark r l) = 1
 writes (Settle m v) = 1
 writes (Invalid r) = 1
 writes (Swing v x) = 1
+writes Raise = 1
+writes Lower = 1
 writes (Base v x k p c m) = 1
 writes (Fork v x l r k y) = 1
 writes (Commit m x p n g o) = 1
@@ -211,7 +213,10 @@ fails-exactly nowhere s th = ((λ e. absurd (false≢true e)), λ _ o. absurd o)
 fails-exactly p1 s th = ((λ e. absurd (false≢true e)), λ _ o. absurd o)
 fails-exactly p2 s th = ((λ e. absurd (false≢true e)), λ _ o. absurd o)
 fails-exactly p3 s th = ((λ e. absurd (false≢true e)), λ _ o. absurd o)
+fails-exactly p4 s th = ((λ e. absurd (false≢true e)), λ _ o. absurd o)
+fails-exactly p5 s th = ((λ e. absurd (false≢true e)), λ _ o. absurd o)
 fails-exactly p15 s th = ((λ e. absurd (false≢true e)), λ _ o. absurd o)
+fails-exactly p19 s th = ((λ e. absurd (false≢true e)), λ _ o. absurd o)
 fails-exactly p20 s th = ((λ e. absurd (false≢true e)), λ _ o. absurd o)
 fails-exactly p22 s th = ((λ e. absurd (false≢true e)), λ _ o. absurd o)
 fails-exactly p23 s th = ((λ e. absurd (false≢true e)), λ _ o. absurd o)

@@ -135,7 +135,7 @@ module _ {b : Bench} {hist : Hist} {now : ℕ} {first : ℕ → Link} (inv : Inv
   at-25 e (k, q, ib) = pick-true Ok _ _ _ (eq-eqb _ _ (k .here)) (fork s th c _ _ _ (λ _. made) (λ _. tt))
     where
       made : Mine (swap found ReadLeft) (hang (Under (th .parent) (th .left)) (s .used) (push (s .used) M s))
-          (record { action = th .action; station = th .station; extra = th .extra; place = 26; route = th .route; base = th .base; parent = th .parent; left = th .left; found = th .found; neighbour = th .neighbour; main = s .used; owner = true; grandparent = th .grandparent; other = th .other; frames = th .frames }) (suc c)
+          (record { action = th .action; station = th .station; extra = th .extra; place = 26; route = th .route; read = th .read; base = th .base; parent = th .parent; left = th .left; found = th .found; neighbour = th .neighbour; main = s .used; owner = true; grandparent = th .grandparent; other = th .other; frames = th .frames }) (suc c)
       made = let u = s .used in let v = M in let sp = Under (th .parent) (th .left) in let s1 = push u v s in
           let lp : th .parent < u = mem inv c .shape .low (th .parent) (lives (live-of inv c (th .parent) (k .reach))) in
           let lf : th .found < u = mem inv c .shape .low (th .found) (lives (live-of inv c (th .found) q)) in

@@ -23,7 +23,7 @@ use Rattle.definitions.specs.declared.Probe.the-variants.{Hit, Next}
 use Rattle.definitions.specs.Threads.{Thread}
 use Rattle.definitions.specs.Nodes.{Entry, shape, over, withKid}
 use Rattle.definitions.specs.Bench.{Store}
-use Rattle.definitions.specs.Places.{Place, nowhere, p1, p2, p3, p15, p16, p20, p21, p22, p23, p24, p25, p30, p31, p32, p33, p34, p35, p36, p37, p38, p40, p45, p46, p47, p48, p49, p50, p51, p60, p61, p62, p70, p71, p72, p73, p74, p76, p81, p82, swap, own, found, united, opening, next as nextOf}
+use Rattle.definitions.specs.Places.{Place, nowhere, p1, p2, p3, p4, p5, p15, p16, p19, p20, p21, p22, p23, p24, p25, p30, p31, p32, p33, p34, p35, p36, p37, p38, p40, p45, p46, p47, p48, p49, p50, p51, p60, p61, p62, p70, p71, p72, p73, p74, p76, p81, p82, swap, own, found, united, opening, next as nextOf}
 use Rattle.definitions.specs.Effects.{hang, push}
 use Rattle.definitions.specs.Steps.{probe}
 use Rattle.answers.specs.Reachable.{Reached}
@@ -225,8 +225,11 @@ Mine p1 s th c = Quiet s × (c ≡ 0)
 Mine p2 s th c = Quiet s × (q : Spotted s (th .route)) × (c ≡ suc (q .depth)) × (s .nodes (th .route) .kind ≡ Route)
 Mine p3 s th c = Quiet s × (q : Spotted s (th .base)) × (c ≡ suc (q .depth)) × (s .nodes (th .base) .kind ≢ Route)
 Mine (swap own q) s th c = Quiet s × (v : Spot) × Sits s v (th .base) × Here q v × (c + stepsLeft q ≤ 68)
+Mine p4 s th c = ⊥
+Mine p5 s th c = ⊥
 Mine p15 s th c = ⊥
 Mine p16 s th c = ⊥
+Mine p19 s th c = ⊥
 Mine p20 s th c = (f : Bool) × SeekOf s th f
 Mine p21 s th c = SeekOf s th false
 Mine p22 s th c = SeekOf s th (th .left)

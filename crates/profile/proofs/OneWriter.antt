@@ -16,13 +16,13 @@ use Rattle.definitions.specs.declared.Action.the-variants.{Lookup, Insert, Remo
 use Rattle.definitions.specs.declared.Spot.{Spot}
 use Rattle.definitions.specs.declared.Spot.the-variants.{Root, Under}
 use Rattle.definitions.specs.declared.Effect.{Effect}
-use Rattle.definitions.specs.declared.Effect.the-variants.{Quiet, Mark, Settle, Invalid, Swing, Base, Fork, Commit, Ask, Fill}
+use Rattle.definitions.specs.declared.Effect.the-variants.{Quiet, Mark, Settle, Invalid, Swing, Raise, Lower, Base, Fork, Commit, Ask, Fill}
 use Rattle.definitions.specs.Threads.{Thread, begun, Turn, Moves, Finishes, Finds, Full, NoStore}
 use Rattle.definitions.specs.Nodes.{childFor, shape}
 use Rattle.definitions.specs.Bench.{sightOf, Store, Bench, bench, fresh}
-use Rattle.definitions.specs.Places.{Place, placeOf}
+use Rattle.definitions.specs.Places.{Place, placeOf, reading}
 use Rattle.definitions.specs.Effects.{hang, perform}
-use Rattle.definitions.specs.Steps.{atLeaf, reached, step}
+use Rattle.definitions.specs.Steps.{atLeaf, reached, oneMore, followed, step}
 use Rattle.definitions.specs.Answers.{shown}
 use Rattle.definitions.specs.Records.{row, Result, refused, carried, taken, isIdle, stepped, started, acted, recordStep}
 use Rattle.definitions.specs.Schedule.{Rec}
@@ -62,34 +62,62 @@ unfolding ite
 either s true o o' p q = p
 either s false o o' p q = q
 
-looking : (s : Store) (th : Thread) → Looks th → Harmless s (step (placeOf (th .place)) (sightOf s) th)
-unfolding step reached
-looking s th k = go (k .place)
+looking : (s : Store) (th : Thread) → s .stop .on ≡ false → Looks th → Harmless s (step (placeOf (th .place)) (sightOf s) th)
+unfolding step reached followed
+looking s th out k = go (k .place)
   where
-    leaf : (x : ℕ) (a : Action) → a ≡ Lookup → Harmless s (atLeaf a (λ z. shape (s .nodes z)) th x)
-    leaf x Lookup e = refl
-    leaf x Insert e = absurd (clash (cc))
-    leaf x Remove e = absurd (clash (cc))
-    leaf x Split e = absurd (clash (cc))
-    leaf x Join e = absurd (clash (cc))
-    leaf x Query e = absurd (clash (cc))
+    -- with i routes read where the stop is on
+    read : ℕ → Thread
+    read i = reading (s .stop .on) i th
 
-    arrive : (x : ℕ) → Harmless s (reached (λ z. shape (s .nodes z)) th x)
-    arrive x = either s _ _ _ (refl, record { act = k .act; place = walking refl }) (leaf x (th .action) (k .act))
+    leaf : (i x : ℕ) (a : Action) → a ≡ Lookup → Harmless s (atLeaf a (λ z. shape (s .nodes z)) (read i) x)
+    leaf i x Lookup e = refl
+    leaf i x Insert e = absurd (clash (cc))
+    leaf i x Remove e = absurd (clash (cc))
+    leaf i x Split e = absurd (clash (cc))
+    leaf i x Join e = absurd (clash (cc))
+    leaf i x Query e = absurd (clash (cc))
+
+    arrive : (i x : ℕ) → Harmless s (reached (λ z. shape (s .nodes z)) (read i) x)
+    arrive i x = either s _ _ _ (refl, record { act = k .act; place = walking refl }) (leaf i x (th .action) (k .act))
+
+    follow : (i x : ℕ) → Harmless s (followed (s .stop .on) (λ z. shape (s .nodes z)) (read i) x)
+    follow i x = subst (λ v. Harmless s (followed v (λ z. shape (s .nodes z)) (read i) x)) (sym out) (arrive i x)
 
     go : Roams (th .place) → Harmless s (step (placeOf (th .place)) (sightOf s) th)
     go (resting e) = subst (λ p. Harmless s (step (placeOf p) (sightOf s) th)) (sym e) (refl, k)
-    go (first e) = subst (λ p. Harmless s (step (placeOf p) (sightOf s) th)) (sym e) (arrive (s .root))
-    go (walking e) = subst (λ p. Harmless s (step (placeOf p) (sightOf s) th)) (sym e) (arrive (childFor (th .station) (shape (s .nodes (th .route)))))
+    go (first e) = subst (λ p. Harmless s (step (placeOf p) (sightOf s) th)) (sym e) (arrive 0 (s .root))
+    go (walking e) = subst (λ p. Harmless s (step (placeOf p) (sightOf s) th)) (sym e) (follow (oneMore (th .read)) (childFor (th .station) (shape (s .nodes (th .route)))))
+
+-- the stop stays on or off
+same-switch : (e : Effect) (s : Store) → perform e s .stop .on ≡ s .stop .on
+same-switch Quiet s = refl
+same-switch (Mark r l) s = refl
+same-switch (Settle m v) s = refl
+same-switch (Invalid r) s = refl
+same-switch (Swing Root x) s = refl
+same-switch (Swing (Under r d) x) s = refl
+same-switch Raise s = refl
+same-switch Lower s = refl
+same-switch (Base Root x k p c m) s = refl
+same-switch (Base (Under r d) x k p c m) s = refl
+same-switch (Fork Root x l r k y) s = refl
+same-switch (Fork (Under g d) x l r k y) s = refl
+same-switch (Commit m x p n g o) s = refl
+same-switch (Ask Root x p y l u k new) s = refl
+same-switch (Ask (Under g d) x p y l u k new) s = refl
+same-switch (Fill k c) s = refl
 
 -- ---- the invariant; c is each thread's own steps
 
 pub record Solo (b : Bench) (c : ℕ → ℕ) : Type 0 where
+  pub out : b .store .stop .on ≡ false
   pub mine : Mine (placeOf (b .threads 0 .place)) (b .store) (b .threads 0) (c 0)
   others : (t : ℕ) → t ≢ 0 → Looks (b .threads t)
 
-fresh-solo : Solo fresh (λ _. 0)
+fresh-solo : Solo (fresh false) (λ _. 0)
 fresh-solo = record {
+  out = refl;
   mine = record { mains = λ x e. absurd (clash (cc)); marks = λ r m e. absurd (clash (cc)); upright = λ x e. clash (cc); rangeless = λ x e. clash (cc) };
   others = λ t _. record { act = refl; place = resting refl };
 }
@@ -104,7 +132,7 @@ not-among n Q [] h q = refl
 not-among n Q (k ∷ l) (h, h') q = rw (ne-eqb n k (λ i. h (subst (λ v. Q (placeOf v)) i q))) (not-among n Q l h' q)
 
 writer-shut : (s : Store) (th : Thread) (c : ℕ) → Shut (λ p. Mine p s th c) asides
-writer-shut s th c = ((λ q. q), ((λ q. q), ((λ q. q), ((λ q. q), ((λ q. q), ((λ q. q), ((λ q. q), ((λ q. q), ((λ q. q), ((λ q. q), ((λ q. q), ((λ q. q), ((λ q. q), ((λ q. q), ((λ q. q), ((λ q. q), ((λ q. q), ((λ q. q), ((λ q. q), ((λ q. q), ((λ q. q), ((λ q. q), ((λ q. q), ((λ q. q), tt))))))))))))))))))))))))
+writer-shut s th c = ((λ q. q), ((λ q. q), ((λ q. q), ((λ q. q), ((λ q. q), ((λ q. q), ((λ q. q), ((λ q. q), ((λ q. q), ((λ q. q), ((λ q. q), ((λ q. q), ((λ q. q), ((λ q. q), ((λ q. q), ((λ q. q), ((λ q. q), ((λ q. q), ((λ q. q), ((λ q. q), ((λ q. q), ((λ q. q), ((λ q. q), ((λ q. q), ((λ q. q), ((λ q. q), ((λ q. q), tt)))))))))))))))))))))))))))
 
 roams-straight : (n : ℕ) → Roams n → among n asides ≡ false
 roams-straight n (resting e) = rw e
@@ -151,8 +179,8 @@ module _ {b : Bench} {hist : Hist} {now : ℕ} {f : ℕ → Link} (inv : Inv b h
 
   taken-mine : (o : Turn) → OkTurn (b .store) (b .threads 0) (c 0) o → (updates (b .threads 0 .action) ≡ true → suc (c 0) ≤ 68) → Kept 0 0 (taken b 0 o)
   unfolding taken
-  taken-mine (Moves th' e) m h = (h, tt, record { mine = m; others = λ t i. rw (ne-eqb t 0 i) (z .others t i) })
-  taken-mine (Finishes e a) (m, j) h = (h, j, record { mine = m; others = λ t i. rw (ne-eqb t 0 i) (z .others t i) })
+  taken-mine (Moves th' e) m h = (h, tt, record { out = same-switch e (b .store) ∙ z .out; mine = m; others = λ t i. rw (ne-eqb t 0 i) (z .others t i) })
+  taken-mine (Finishes e a) (m, j) h = (h, j, record { out = same-switch e (b .store) ∙ z .out; mine = m; others = λ t i. rw (ne-eqb t 0 i) (z .others t i) })
   taken-mine (Finds r) m h = absurd m
   taken-mine Full m h = tt
   taken-mine NoStore m h = tt
@@ -163,6 +191,7 @@ module _ {b : Bench} {hist : Hist} {now : ℕ} {f : ℕ → Link} (inv : Inv b h
     no-update,
     tt,
     record {
+      out = same-switch e (b .store) ∙ z .out;
       mine = rw (s, ne-eqb 0 t (λ i. h (sym i))) (z .mine);
       others = λ u i. elim (u ==? t) [ yes j ↦ rw (eq-eqb u t j) l | no j ↦ rw (ne-eqb u t j) (z .others u i) ];
     },
@@ -174,6 +203,7 @@ module _ {b : Bench} {hist : Hist} {now : ℕ} {f : ℕ → Link} (inv : Inv b h
     no-update,
     no-join,
     record {
+      out = same-switch e (b .store) ∙ z .out;
       mine = rw (s, ne-eqb 0 t (λ i. h (sym i))) (z .mine);
       others = λ u i. elim (u ==? t) [ yes j ↦ rw (eq-eqb u t j) (record { act = refl; place = resting refl }) | no j ↦ rw (ne-eqb u t j) (z .others u i) ];
     },
@@ -188,6 +218,7 @@ module _ {b : Bench} {hist : Hist} {now : ℕ} {f : ℕ → Link} (inv : Inv b h
     (λ a. absurd (false≢true (sym (ap updates (z .others t h .act)) ∙ a))),
     neither (b .store) (b .threads t) _ (λ e. clash (let i = z .others t h .act in cc)) (λ e. clash (let i = z .others t h .act in cc)),
     record {
+      out = z .out;
       mine = rw (ne-eqb 0 t (λ i. h (sym i))) (z .mine);
       others = λ u i. elim (u ==? t) [ yes j ↦ rw (eq-eqb u t j) (record { act = refl; place = resting refl }) | no j ↦ rw (ne-eqb u t j) (z .others u i) ];
     },
@@ -197,11 +228,11 @@ module _ {b : Bench} {hist : Hist} {now : ℕ} {f : ℕ → Link} (inv : Inv b h
 
   steps : (t : ℕ) → Kept 0 t (stepped b t y d)
   unfolding stepped
-  steps t = pick 0 t _ _ _ (λ _. pick 0 t _ _ _ (λ _. pick 0 t _ _ _ (λ _. tt) (λ i. elim (t ==? 0) [ yes e ↦ at-0 t e i | no e ↦ taken-other t e _ (looking (b .store) (b .threads t) (z .others t e)) ])) (λ _. tt)) (λ _. tt)
+  steps t = pick 0 t _ _ _ (λ _. pick 0 t _ _ _ (λ _. pick 0 t _ _ _ (λ _. tt) (λ i. elim (t ==? 0) [ yes e ↦ at-0 t e i | no e ↦ taken-other t e _ (looking (b .store) (b .threads t) (z .out) (z .others t e)) ])) (λ _. tt)) (λ _. tt)
     where
       at-0 : (t : ℕ) → t ≡ 0 → isIdle (b .threads t) ≡ false → Kept 0 t (taken b t (step (placeOf (b .threads t .place)) (sightOf (b .store)) (b .threads t)))
       at-0 t e i = let i' : isIdle (b .threads 0) ≡ false = rw e at i in
-          subst (λ v. Kept 0 v (taken b v (step (placeOf (b .threads v .place)) (sightOf (b .store)) (b .threads v)))) (sym e) (taken-mine _ (turn inv (c 0) (placeOf (b .threads 0 .place)) refl i' (z .mine)) (brief inv (c 0) (placeOf (b .threads 0 .place)) refl i' (z .mine)))
+          subst (λ v. Kept 0 v (taken b v (step (placeOf (b .threads v .place)) (sightOf (b .store)) (b .threads v)))) (sym e) (taken-mine _ (turn inv (c 0) (z .out) (placeOf (b .threads 0 .place)) refl i' (z .mine)) (brief inv (c 0) (placeOf (b .threads 0 .place)) refl i' (z .mine)))
 
   -- ---- starts
 
@@ -212,10 +243,11 @@ module _ {b : Bench} {hist : Hist} {now : ℕ} {f : ℕ → Link} (inv : Inv b h
       at-0 : t ≡ 0 → isIdle (b .threads t) ≡ true → Solo (bench (b .store) (upd (b .threads) t (begun a y d 1))) (counted (suc n) t c)
       at-0 e i = let i' : isIdle (b .threads 0) ≡ true = rw e at i in
           let q = subst (λ v. Mine (placeOf v) (b .store) (b .threads 0) (c 0)) (eqb-true (b .threads 0 .place) 0 i') (z .mine) in
-          subst (λ v. Solo (bench (b .store) (upd (b .threads) v (begun a y d 1))) (counted (suc n) v c)) (sym e) (record { mine = (q, refl); others = λ u j. rw (ne-eqb u 0 j) (z .others u j) })
+          subst (λ v. Solo (bench (b .store) (upd (b .threads) v (begun a y d 1))) (counted (suc n) v c)) (sym e) (record { out = z .out; mine = (q, refl); others = λ u j. rw (ne-eqb u 0 j) (z .others u j) })
 
       at-other : t ≢ 0 → Solo (bench (b .store) (upd (b .threads) t (begun a y d 1))) (counted (suc n) t c)
       at-other e = record {
+        out = z .out;
         mine = rw (ne-eqb 0 t (λ i. e (sym i))) (z .mine);
         others = λ u j. elim (u ==? t) [ yes i ↦ rw (eq-eqb u t i) (record { act = h e; place = first refl }) | no i ↦ rw (ne-eqb u t i) (z .others u j) ];
       }
@@ -270,4 +302,4 @@ through H (r ∷ rs) b P f k c z s = (
 
 -- request l
 pub one-writer : OneWriter
-one-writer rs = through (moments rs) rs fresh empty (λ _. Nil) 0 (λ _. 0) (at-start rs) fresh-solo
+one-writer rs = through (moments false rs) rs (fresh false) empty (λ _. Nil) 0 (λ _. 0) (at-start false rs) fresh-solo

@@ -6,15 +6,16 @@ use mathlib.Core.Bool.{Bool, true, false}
 use mathlib.Core.List.{List, [], _∷_, _++_}
 use native.Mathlib.Omega.{arith}
 use lib.ListN.{length}
-use borrow.Author.Tests.{eq-eqb, ne-eqb}
+use lib.Dec.{leb}
+use borrow.Author.Tests.{eq-eqb, ne-eqb, lt-ltb, leb-false}
 use Rattle.container.specs.Choice.{ite}
 use Rattle.definitions.specs.Bench.{Bench}
 use Rattle.definitions.specs.Tree.{stored}
 use Rattle.definitions.specs.Records.{Result, refused, carried, recordStep}
-use Rattle.definitions.specs.Schedule.{Rec, countOf, recordsOf, recordAt}
-use Rattle.definitions.specs.Run.{Progress, begin, advanceBy, advance, after}
+use Rattle.definitions.specs.Schedule.{Rec, stopOf, countOf, recordsOf, recordAt, fileRefusal}
+use Rattle.definitions.specs.Run.{Progress, begin, advanceBy, advance, after, runRefusal}
 use Rattle.definitions.specs.Profile.{barred, profileStep, profileAdvance, profileAfter, profileRefusal, profileReport, profileBuffer}
-use Rattle.answers.proofs.Tools.{_==?_}
+use Rattle.answers.proofs.Tools.{on, off, test, _==?_}
 use Rattle.answers.proofs.Reach.{reach-stored}
 use Rattle.answers.proofs.RunSet.{Numbered, numbered}
 use Rattle.profile.specs.Cut.{stoppedRun}
@@ -80,10 +81,10 @@ unfolding all-of
 all-last file [] r p = refl
 all-last file (q ∷ rs) r p = all-last file rs r (profileAdvance file p q)
 
-after-is : (file : List ℕ) (k : ℕ) → profileAfter file k ≡ all-of file (recordsOf file k) begin
+after-is : (file : List ℕ) (k : ℕ) → profileAfter file k ≡ all-of file (recordsOf file k) (begin (stopOf file))
 unfolding profileAfter recordsOf all-of
 after-is file zero = refl
-after-is file (suc k) = ap (λ p. profileAdvance file p (recordAt file k)) (after-is file k) ∙ sym (all-last file (recordsOf file k) _ begin)
+after-is file (suc k) = ap (λ p. profileAdvance file p (recordAt file k)) (after-is file k) ∙ sym (all-last file (recordsOf file k) _ (begin (stopOf file)))
 
 stuck : (file : List ℕ) (rs : List Rec) (p : Progress) → p .refusal ≢ 0 → all-of file rs p ≡ p
 unfolding all-of
@@ -110,8 +111,12 @@ list-calm file (r ∷ rs) p c e (now, h) = subst (λ q. Calm (all-of file rs q .
     go (refused n) k _ ih = rw (stuck file rs (advanceBy file p (r .first / 16) (refused n)) k) now
     go (carried b' w) k (_, _, t) ih = ih (advanceBy file p (r .first / 16) (carried b' w)) refl t
 
-pub profile-calm : (file : List ℕ) (k : ℕ) → Calm (profileAfter file k .bench)
-profile-calm file k = rw (after-is file k) (list-calm file (recordsOf file k) begin (λ _. 0) refl (one-writer (recordsOf file k)))
+-- a file that is not of version 3 starts as a list does
+off-start : (file : List ℕ) (rs : List Rec) → stopOf file ≡ false → Throughout rs (begin (stopOf file) .bench) (λ _. 0)
+off-start file rs e = subst (λ v. Throughout rs (begin v .bench) (λ _. 0)) (sym e) (one-writer rs)
+
+pub profile-calm : (file : List ℕ) (k : ℕ) → stopOf file ≡ false → Calm (profileAfter file k .bench)
+profile-calm file k e = rw (after-is file k) (list-calm file (recordsOf file k) (begin (stopOf file)) (λ _. 0) refl (off-start file (recordsOf file k) e))
 
 -- ---- and of every record
 
@@ -138,15 +143,26 @@ list-past file (q ∷ rs) r p c e (now, h) i = subst Ok (sym (on-step file p q e
     go (refused n) k _ ih = λ j. absurd (k (sym (ap (λ v. v .refusal) (stuck file rs (advanceBy file p (q .first / 16) (refused n)) k)) ∙ j))
     go (carried b' w) k (_, _, t) ih = ih (advanceBy file p (q .first / 16) (carried b' w)) refl t
 
-profile-sound : (file : List ℕ) (k : ℕ) → Sound file k
+profile-sound : (file : List ℕ) → stopOf file ≡ false → (k : ℕ) → Sound file k
 unfolding recordsOf
-profile-sound file k = record {
-  calm = profile-calm file k;
+profile-sound file e k = record {
+  calm = profile-calm file k e;
   past = subst (λ p. p .refusal ≡ 0 → Past (profileStep (p .bench) (recordAt file k)) (p .bench) (recordAt file k .first / 16) (counted (recordAt file k .first % 16) (recordAt file k .first / 16) (stepsBy (recordsOf file k) (λ _. 0))) (λ _. Unit {0}))
-      (sym (after-is file k)) (list-past file (recordsOf file k) (recordAt file k) begin (λ _. 0) refl (one-writer (recordsOf file (suc k))));
+      (sym (after-is file k)) (list-past file (recordsOf file k) (recordAt file k) (begin (stopOf file)) (λ _. 0) refl (off-start file (recordsOf file (suc k)) e));
 }
 
 -- ---- what is handed back
+
+-- a file that is not refused is not of version 3
+refused-3 : (file : List ℕ) (n : ℕ) → stopOf file ≡ true → profileRefusal file n ≢ 0
+unfolding profileRefusal runRefusal fileRefusal ite
+refused-3 file n z = elim (test (leb 3 (length file))) [
+  | on l ↦ rw (l, z) (λ e. omega arith)
+  | off l ↦ rw (l, lt-ltb (length file) 3 (leb-false 3 (length file) l)) (λ e. omega arith)
+]
+
+not-3 : (file : List ℕ) (n : ℕ) → profileRefusal file n ≡ 0 → stopOf file ≡ false
+not-3 file n e = elim (test (stopOf file)) [ on z ↦ absurd (refused-3 file n z e) | off z ↦ z ]
 
 -- request l, by files
 pub one-writer-files : OneWriterFiles
@@ -154,7 +170,7 @@ unfolding profileReport profileBuffer ite
 one-writer-files file buffer e = record {
   report = rw (eq-eqb (profileRefusal file (length buffer)) 0 e);
   rows = rw (eq-eqb (profileRefusal file (length buffer)) 0 e);
-  held = profile-sound file;
+  held = profile-sound file (not-3 file (length buffer) e);
   behind = behind file (countOf file);
-  said = rw (eq-eqb (profileRefusal file (length buffer)) 0 e) (rows-say file (profile-sound file) buffer (countOf file));
+  said = rw (eq-eqb (profileRefusal file (length buffer)) 0 e) (rows-say file (profile-sound file (not-3 file (length buffer) e)) buffer (countOf file));
 }

@@ -11,7 +11,7 @@ use Rattle.container.specs.Choice.{upd}
 use Rattle.container.specs.Container.{size}
 use Rattle.definitions.specs.Nodes.{kidOf, isPreparing}
 use Rattle.definitions.specs.Bench.{Store, Sight, sightOf, Bench, fresh}
-use Rattle.definitions.specs.Places.{Place, nowhere, p1, p2, p3, p15, p16, p20, p21, p22, p23, p24, p25, p30, p31, p32, p33, p34, p35, p36, p37, p38, p40, p45, p46, p47, p48, p49, p50, p51, p60, p61, p62, p70, p71, p72, p73, p74, p76, p81, p82, swap, own, found, united, opening, next as nextOf, placeOf, at}
+use Rattle.definitions.specs.Places.{Place, nowhere, p1, p2, p3, p4, p5, p15, p16, p19, p20, p21, p22, p23, p24, p25, p30, p31, p32, p33, p34, p35, p36, p37, p38, p40, p45, p46, p47, p48, p49, p50, p51, p60, p61, p62, p70, p71, p72, p73, p74, p76, p81, p82, swap, own, found, united, opening, next as nextOf, placeOf, at}
 use Rattle.definitions.specs.Frames.{back}
 use Rattle.definitions.specs.Steps.{goes, says, lost, backOut, probe, isNil, names, step}
 use Rattle.definitions.specs.Records.{Row, noRow, row, Result, refused, carried}
@@ -90,7 +90,10 @@ compares nowhere s th = none
 compares p1 s th = none
 compares p2 s th = none
 compares p3 s th = none
+compares p4 s th = none
+compares p5 s th = none
 compares p15 s th = none
+compares p19 s th = none
 compares p20 s th = none
 compares p22 s th = none
 compares p23 s th = none
@@ -141,9 +144,9 @@ FailsExactly = (p : Place) (s : Sight) (th : Thread)
 
 -- ---- what is claimed at every moment, and of every record
 
--- where others help a join or kill it (15, 16), where a join backs out and stands down (36 to 38), and a query's places
+-- where others help a join or kill it (15, 16), where a join backs out and stands down (36 to 38), and the places of the stop and of a query
 abbrev pub asides : List ℕ
-asides = 15 ∷ 16 ∷ 36 ∷ 37 ∷ 38 ∷ 60 ∷ 61 ∷ 62 ∷ 64 ∷ 65 ∷ 66 ∷ 67 ∷ 70 ∷ 71 ∷ 72 ∷ 73 ∷ 74 ∷ 76 ∷ 77 ∷ 78 ∷ 79 ∷ 80 ∷ 81 ∷ 82 ∷ []
+asides = 4 ∷ 5 ∷ 15 ∷ 16 ∷ 19 ∷ 36 ∷ 37 ∷ 38 ∷ 60 ∷ 61 ∷ 62 ∷ 64 ∷ 65 ∷ 66 ∷ 67 ∷ 70 ∷ 71 ∷ 72 ∷ 73 ∷ 74 ∷ 76 ∷ 77 ∷ 78 ∷ 79 ∷ 80 ∷ 81 ∷ 82 ∷ []
 
 abbrev pub among : ℕ → List ℕ → Bool
 among n [] = false
@@ -193,9 +196,9 @@ Throughout (r ∷ rs) b c =
     × Past (profileStep b r) b (r .first / 16) (counted (r .first % 16) (r .first / 16) c)
     (λ b'. Throughout rs b' (counted (r .first % 16) (r .first / 16) c))
 
--- request l, of every list of records
+-- request l, of every list of records; the stop is off: "version 1 or 2"
 abbrev pub OneWriter : Type 0
-OneWriter = (rs : List Rec) → Throughout rs fresh (λ _. 0)
+OneWriter = (rs : List Rec) → Throughout rs (fresh false) (λ _. 0)
 
 -- ---- the same of a file's profile run
 

@@ -3,3 +3,4 @@ pub mod Reaches
 pub mod Places
 pub mod Dispatch
 pub mod Fits
+pub mod Blind

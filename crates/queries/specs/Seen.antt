@@ -1,9 +1,11 @@
--- What a step of a range query sees of shared memory, as the lent arrays hold it, and how many frames its thread has after it.
+-- What a step of a range query sees of shared memory, as the lent arrays hold it, and how many frames its thread has after it. It sees nothing
+-- of the stop (proofs/Blind.antt).
 use Prim.Native.Nat.{ℕ, _-_}
+use mathlib.Core.Bool.{false}
 use mathlib.Core.List.{List, []}
 use mathlib.Core.Path.{_≡_}
 use Rattle.definitions.specs.Nodes.{Shapes}
-use Rattle.definitions.specs.Bench.{Sight, sight}
+use Rattle.definitions.specs.Bench.{stop, Sight, sight}
 use Rattle.definitions.specs.Threads.{Frame, Thread, Turn}
 use Rattle.definitions.specs.Places.{placeOf}
 use Rattle.definitions.specs.Queries.{reachedFirst, reachedNext}
@@ -15,7 +17,7 @@ use Rattle.frames.specs.declared.Outcome.{Outcome}
 use Rattle.frames.specs.declared.Outcome.the-variants.{Onward, Blocked, Back, Found, NodesOut, StoresOut}
 
 abbrev pub seen : List ℕ → List ℕ → List ℕ → List ℕ → ℕ → ℕ → ℕ → Sight
-seen cells sets flags results root used shown = sight (table cells sets) root used (stores flags results) shown
+seen cells sets flags results root used shown = sight (table cells sets) root used (stores flags results) shown (stop false 0)
 
 -- 60, 61: x is read and pushed on the stack; 71, 73 likewise
 unfoldable pub firstTurn : Shapes → ℕ → Frame → List Frame → Thread → Turn

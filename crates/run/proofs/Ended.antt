@@ -19,13 +19,14 @@ use Rattle.steps.specs.declared.Notes.{Notes}
 use Rattle.steps.specs.Decision.{thread}
 use Rattle.definitions.specs.Nodes.{Shapes, Stores, shape, emptyBase}
 use Rattle.definitions.specs.Threads.{Frame, Thread, idle}
-use Rattle.definitions.specs.Bench.{Bench, bench, store}
+use Rattle.definitions.specs.Bench.{stop, Bench, bench, store}
 use Rattle.definitions.specs.Tree.{heldBelow, treeHeld, treeSet, storedBelow, stored}
-use Rattle.definitions.specs.Versions.{version, rowRoom}
+use Rattle.definitions.specs.Versions.{version, stopOf, rowRoom}
 use Rattle.definitions.specs.Schedule.{Rec, recordAt, countOf, fileRefusal}
 use Rattle.definitions.specs.Run.{Progress, advance, after, ended, reportOf, overlay, runRefusal, runReport, runBuffer}
 use Rattle.definitions.specs.declared.Report.{Report}
 use Rattle.definitions.specs.declared.Shared.the-variants.{Unset}
+use Rattle.definitions.specs.declared.Stop.{Stop}
 use Rattle.run.specs.Standing.{Lent, Spare, Stands, Carried}
 use Rattle.run.specs.declared.Standing.{Standing}
 use Rattle.run.proofs.Threads.{threadsOf, all-idle}
@@ -34,20 +35,20 @@ use Rattle.run.proofs.Rows.{rows-fit}
 use Rattle.run.proofs.Room.{has-room}
 
 -- the lent buffer keeps its length
-pub same-room : {n : Shapes} {l : List ℕ} {k : Stores} {threads : ℕ → Thread} {s : Standing} {first buffer : List ℕ} (p : Progress) → Stands n l k threads s first buffer p → length buffer ≡ length first
+pub same-room : {n : Shapes} {l : List ℕ} {k : Stores} {z : Stop} {threads : ℕ → Thread} {s : Standing} {first buffer : List ℕ} (p : Progress) → Stands n l k z threads s first buffer p → length buffer ≡ length first
 same-room p h = ap (λ (q : Page). length (q .bytes)) (h .rows) ∙ putAll-length _ (p .rows)
 
 -- rows that fit stand in the buffer
-overlaid : {n : Shapes} {l : List ℕ} {k : Stores} {threads : ℕ → Thread} {s : Standing} {first buffer : List ℕ} (p : Progress) → Stands n l k threads s first buffer p → length (p .rows) ≤ length first → buffer ≡ overlay (p .rows) first
+overlaid : {n : Shapes} {l : List ℕ} {k : Stores} {z : Stop} {threads : ℕ → Thread} {s : Standing} {first buffer : List ℕ} (p : Progress) → Stands n l k z threads s first buffer p → length (p .rows) ≤ length first → buffer ≡ overlay (p .rows) first
 overlaid p h f = ap (λ (q : Page). q .bytes) (h .rows ∙ put-fits (p .rows) _ f)
 
 -- ---- before the first record, and after the last
-pub none-yet : (file first : List ℕ) {n : Shapes} {l : List ℕ} {s : Stores} {h : ℕ → Frame} {th : Notes} → n ≡ (λ _. shape emptyBase) → s ≡ (λ _. Unset) → (length l ≡ 16384 → rows l ≡ (λ _ _. 0)) → thread th [] ≡ idle
-    → Stands n l s (threadsOf (replicate 4 th) (replicate 4 0) h) (stand 0 1 0 0 0 0 0) first first (after file 0)
+pub none-yet : (file first : List ℕ) (h : ℕ → Frame) {n : Shapes} {l : List ℕ} {s : Stores} {th : Notes} → n ≡ (λ _. shape emptyBase) → s ≡ (λ _. Unset) → (length l ≡ 16384 → rows l ≡ (λ _ _. 0)) → thread th [] ≡ idle
+    → Stands n l s (stop (stopOf file) (getD (replicate 5 0) 4 0)) (threadsOf (replicate 4 th) (replicate 5 0) h) (stand 0 1 0 0 0 0 0) first first (after file 0)
 unfolding after putAll
-none-yet file first {h = h} {th = th} e f b g = record {
+none-yet file first h {th = th} e f b g = record {
   deep = λ _ _. 0;
-  bench = rw (e, f) (ap (λ (t : ℕ → Thread). bench (store (λ _. emptyBase) 0 1 (λ _. Unset) 0) t) (all-idle h th g));
+  bench = rw (e, f) (ap (λ (t : ℕ → Thread). bench (store (λ _. emptyBase) 0 1 (λ _. Unset) 0 (stop (stopOf file) 0)) t) (all-idle h th g));
   depths = b;
   refusal = refl;
   done = refl;
@@ -55,9 +56,12 @@ none-yet file first {h = h} {th = th} e f b g = record {
   rows = refl;
 }
 
--- a standing does not say which threads it stands over
-pub all-done : (file : List ℕ) (k count : ℕ) {n : Shapes} {l : List ℕ} {s : Stores} {threads : ℕ → Thread} {t : Standing} {first buffer : List ℕ} → after file k ≡ after file count → Stands n l s threads t first buffer (after file k) → Carried file count n l s t first buffer
-all-done file k count {threads = threads} e h = let same : threads ≡ after file count .bench .threads = ap (λ (b : Bench). b .threads) (h .bench) ∙ ap (λ (p : Progress). p .bench .threads) e in rw (same, e) at h
+-- a standing does not say which threads it stands over, nor which stop
+pub all-done : (file : List ℕ) (k count : ℕ) {n : Shapes} {l : List ℕ} {s : Stores} {z : Stop} {threads : ℕ → Thread} {t : Standing} {first buffer : List ℕ} → after file k ≡ after file count → Stands n l s z threads t first buffer (after file k) → Carried file count n l s t first buffer
+all-done file k count {z = z} {threads = threads} e h =
+    let same : threads ≡ after file count .bench .threads = ap (λ (b : Bench). b .threads) (h .bench) ∙ ap (λ (p : Progress). p .bench .threads) e in
+    let stopped : z ≡ after file count .bench .store .stop = ap (λ (b : Bench). b .store .stop) (h .bench) ∙ ap (λ (p : Progress). p .bench .store .stop) e in
+    rw (same, stopped, e) at h
 
 -- a record that is refused ends them
 still : (file : List ℕ) (p : Progress) (r : Rec) → (p .refusal ≡ 0 → ⊥) → advance file p r ≡ p
@@ -74,15 +78,15 @@ stays file k (suc j) m e z =
     let next : m ≡ suc (k + j) = omega arith in
     ap (after file) next ∙ (onward file (k + j) ∙ (ap (λ (p : Progress). advance file p (recordAt file (k + j))) (stays file k j (k + j) refl z) ∙ still file (after file k) _ z))
 
-ended-early : (file : List ℕ) (k count : ℕ) {n : Shapes} {l : List ℕ} {s : Stores} {threads : ℕ → Thread} {t : Standing} {first buffer : List ℕ} → k ≤ count → (t .refusal ≡ 0 → ⊥) → Stands n l s threads t first buffer (after file k) → after file k ≡ after file count
-ended-early file k count i z h = let sum : count ≡ k + (count - k) = omega arith in sym (stays file k (count - k) count sum (λ e. z (h .refusal ∙ e)))
+ended-early : (file : List ℕ) (k count : ℕ) {n : Shapes} {l : List ℕ} {s : Stores} {z : Stop} {threads : ℕ → Thread} {t : Standing} {first buffer : List ℕ} → k ≤ count → (t .refusal ≡ 0 → ⊥) → Stands n l s z threads t first buffer (after file k) → after file k ≡ after file count
+ended-early file k count i r h = let sum : count ≡ k + (count - k) = omega arith in sym (stays file k (count - k) count sum (λ e. r (h .refusal ∙ e)))
 
 -- the refused record was the last
-pub stopped : (file : List ℕ) (k count : ℕ) {n : Shapes} {l : List ℕ} {s : Stores} {threads : ℕ → Thread} {t : Standing} {first buffer : List ℕ} → k < count → (t .refusal ≡ 0 → ⊥) → Stands n l s threads t first buffer (after file (k + 1)) → Carried file count n l s t first buffer
-stopped file k count i z h = all-done file (k + 1) count (ended-early file (k + 1) count (omega arith) z h) h
+pub stopped : (file : List ℕ) (k count : ℕ) {n : Shapes} {l : List ℕ} {s : Stores} {z : Stop} {threads : ℕ → Thread} {t : Standing} {first buffer : List ℕ} → k < count → (t .refusal ≡ 0 → ⊥) → Stands n l s z threads t first buffer (after file (k + 1)) → Carried file count n l s t first buffer
+stopped file k count i r h = all-done file (k + 1) count (ended-early file (k + 1) count (omega arith) r h) h
 
 -- ---- the tree
-module _ {n : Shapes} {l : List ℕ} {k : Stores} {threads : ℕ → Thread} {s : Standing} {first buffer : List ℕ} {p : Progress} (h : Stands n l k threads s first buffer p) where
+module _ {n : Shapes} {l : List ℕ} {k : Stores} {z : Stop} {threads : ℕ → Thread} {s : Standing} {first buffer : List ℕ} {p : Progress} (h : Stands n l k z threads s first buffer p) where
   pub set-at : setBelow 63 n (s .root) all ≡ treeSet (p .bench)
   unfolding treeHeld
   set-at = sym (held-set 63 (full n (h .deep)) (s .root) all) ∙ ap (λ (b : Bench). heldBelow 63 (b .store .nodes) (b .store .root) all .set) (h .bench)

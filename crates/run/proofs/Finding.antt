@@ -1,11 +1,13 @@
--- A step at a place below 60: one that finds a depth writes nothing, so its depth may be read after what it writes; one that puts a frame on top
--- writes nothing, and the frame is that of the range base which it has reached. Assumes nothing.
+-- A step at a place below 60: one that finds a depth leaves the depths, so its depth may be read after what it writes; one that puts a frame on
+-- top writes nothing, and the frame is that of the range base which it has reached. Assumes nothing.
 use mathlib.Core.Path.{_≡_, refl, sym, ap, _∙_, subst}
-use mathlib.Core.Bool.{Bool, true, false, not, true≢false}
+use mathlib.Core.Bool.{Bool, true, false, cond, not, true≢false}
 use mathlib.Core.List.{List, [], _∷_}
 use mathlib.Core.Logic.{_⊎_, inl, inr}
 use Prim.Native.Nat.{ℕ, _<_}
 use native.Mathlib.Omega.{arith}
+use borrow.Author.Tests.{eqb-true}
+use lib.Dec.{eqb}
 use lib.ListN.{length}
 use Rattle.container.specs.Choice.{ite}
 use Rattle.container.specs.Container.{has}
@@ -13,7 +15,7 @@ use Rattle.depths.specs.Rows.{Rows, full}
 use Rattle.effects.specs.Used.{deepened}
 use Rattle.machine.specs.Enacted.{depthBy}
 use Rattle.definitions.specs.declared.Effect.{Effect}
-use Rattle.definitions.specs.declared.Effect.the-variants.{Quiet}
+use Rattle.definitions.specs.declared.Effect.the-variants.{Quiet, Raise, Lower}
 use Rattle.definitions.specs.declared.Answer.{Answer}
 use Rattle.definitions.specs.declared.Answer.the-variants.{No, Yes, At, Lacking, Blocked, Lost, NeighbourBlocked, StoodDown, Stopped}
 use Rattle.definitions.specs.declared.Link.{Link}
@@ -36,22 +38,23 @@ use Rattle.definitions.specs.Threads.{Frame, Thread, newFrame, Turn, Moves, Fin
 use Rattle.definitions.specs.Frames.{back}
 use Rattle.definitions.specs.Answers.{said, depthIn}
 use Rattle.definitions.specs.Bench.{Sight}
-use Rattle.definitions.specs.Places.{own, found, united, opening, next, Place, nowhere, p1, p2, p3, p15, p16, p20, p21, p22, p23, p24, p25, p30, p31, p32, p33, p34, p35, p36, p37, p38, p40, p45, p46, p47, p48, p49, p50, p51, p60, p61, p62, p70, p71, p72, p73, p74, p76, p81, p82, swap, placeOf}
-use Rattle.definitions.specs.Steps.{atLeaf, reached, lostAs, lost, joinUnder, clearedAs, cleared, probe, replacedAs, replaced, ownBy, foundBy, unitedBy, helpBy, blockedAs, blocked, beside, grandMarking, ended, cutAt, cutOn, cutRight, freeing, step}
+use Rattle.definitions.specs.Places.{own, found, united, opening, next, Place, nowhere, p1, p2, p3, p4, p5, p15, p16, p19, p20, p21, p22, p23, p24, p25, p30, p31, p32, p33, p34, p35, p36, p37, p38, p40, p45, p46, p47, p48, p49, p50, p51, p60, p61, p62, p70, p71, p72, p73, p74, p76, p81, p82, swap, placeOf, reading}
+use Rattle.definitions.specs.Steps.{looked, atLeaf, reached, onward, oneMore, followed, released, lostAs, lost, joinUnder, clearedAs, cleared, probe, replacedAs, replaced, ownBy, foundBy, unitedBy, helpBy, blockedAs, blocked, beside, grandMarking, ended, cutAt, cutOn, cutRight, freeing, step}
 use Rattle.steps.specs.declared.Notes.{Notes}
 use Rattle.steps.specs.declared.Note.{Note}
 use Rattle.steps.specs.declared.Note.the-variants.{Opened}
 use Rattle.steps.specs.declared.Decision.{Decision}
-use Rattle.steps.specs.Decision.{thread, noted, written, turnBy, topOf, topAfter, Decides}
+use Rattle.steps.specs.Decision.{thread, noted, written, turnBy, topOf, topAfter}
 use Rattle.run.specs.Query.{helping}
 use Rattle.run.proofs.Numbers.{below, below-60, fork, back-moves}
+use Rattle.run.proofs.Decided.{reread, counted, tallied, Decided}
 
 -- ---- what is known of a turn
 
 abbrev FindsBy : Answer → Effect → Type 0
 FindsBy No e = Unit {0}
 FindsBy Yes e = Unit {0}
-FindsBy (At x) e = e ≡ Quiet
+FindsBy (At x) e = (n : Shapes) (d : Rows) → deepened e n d ≡ d
 FindsBy Lacking e = Unit {0}
 FindsBy Blocked e = Unit {0}
 FindsBy Lost e = Unit {0}
@@ -73,13 +76,24 @@ Finding b th NoStore = Unit {0}
 quiet : (a : Answer) → FindsBy a Quiet
 quiet No = tt
 quiet Yes = tt
-quiet (At x) = refl
+quiet (At x) = λ n d. refl
 quiet Lacking = tt
 quiet Blocked = tt
 quiet Lost = tt
 quiet NeighbourBlocked = tt
 quiet StoodDown = tt
 quiet Stopped = tt
+
+lowered : (a : Answer) → FindsBy a Lower
+lowered No = tt
+lowered Yes = tt
+lowered (At x) = λ n d. refl
+lowered Lacking = tt
+lowered Blocked = tt
+lowered Lost = tt
+lowered NeighbourBlocked = tt
+lowered StoodDown = tt
+lowered Stopped = tt
 
 plain : (b : Bool) (e : Effect) → FindsBy (said b) e
 plain true e = tt
@@ -124,17 +138,36 @@ module _ (s : Sight) (th : Thread) where
   return : (e : Effect) → Here (back e th)
   return e = back-moves Here e th (λ v i. inl i)
 
-  leaf : (a : Action) (x : ℕ) → Here (atLeaf a (s .nodes) th x)
-  leaf Lookup x = quiet (ite (has (s .nodes x .container) (th .station)) (At x) No)
-  leaf Insert x = inl refl
-  leaf Remove x = inl refl
-  leaf Split x = inl refl
-  leaf Join x = inl refl
-  leaf Query x = tt
+  -- with k routes read, or as many as before
+  module _ (b : Bool) (k : ℕ) where
+    leaf : (a : Action) (x : ℕ) → Here (atLeaf a (s .nodes) (reading b k th) x)
+    leaf Lookup x = quiet (looked (s .nodes) th x)
+    leaf Insert x = inl refl
+    leaf Remove x = inl refl
+    leaf Split x = inl refl
+    leaf Join x = inl refl
+    leaf Query x = tt
 
-  reach : (x : ℕ) → Here (reached (s .nodes) th x)
-  unfolding reached
-  reach x = either _ _ _ (inl refl) (leaf (th .action) x)
+    reach : (x : ℕ) → Here (reached (s .nodes) (reading b k th) x)
+    unfolding reached
+    reach x = either _ _ _ (inl refl) (leaf (th .action) x)
+
+    pass : (e : Effect) (x : ℕ) → Here (onward e (s .nodes) (reading b k th) x)
+    unfolding onward
+    pass e x = either _ _ _ (inl refl) (inl refl)
+
+    follow : (o : Bool) (x : ℕ) → Here (followed o (s .nodes) (reading b k th) x)
+    unfolding followed
+    follow false x = reach x
+    follow true x = either _ _ _ (reach x) (either _ _ _ (inl refl) (pass Quiet x))
+
+  free : (a : Action) → Here (released a (s .nodes) th)
+  free Lookup = lowered (looked (s .nodes) th (th .base))
+  free Insert = inl refl
+  free Remove = inl refl
+  free Split = inl refl
+  free Join = inl refl
+  free Query = tt
 
   help : (c : Check) → Told (s .nodes (th .base)) c → Here (helpBy c th)
   help Check.Replaceable q = return Quiet
@@ -162,16 +195,17 @@ module _ (s : Sight) (th : Thread) where
   lose Join = tt
   lose Query = tt
 
-  link : (l : Link) → Here (joinUnder l th)
-  link Nil = tt
-  link (To p) = inl refl
+  link : (o : Bool) (l : Link) → Here (joinUnder o l th)
+  link o Nil = tt
+  link false (To p) = inl refl
+  link true (To p) = inl refl
 
-  clear : (a : Action) → Here (clearedAs a (s .nodes (th .base)) th)
+  clear : (a : Action) → Here (clearedAs a (s .stop .on) (s .nodes (th .base)) th)
   clear Lookup = tt
   clear Insert = inl refl
   clear Remove = inl refl
   clear Split = inl refl
-  clear Join = link (s .nodes (th .base) .parent)
+  clear Join = link (s .stop .on) (s .nodes (th .base) .parent)
   clear Query = tt
 
   replace : (a : Action) (v : Spot) → Here (replacedAs a v (s .nodes (th .base)) (s .used) th)
@@ -224,12 +258,15 @@ module _ (s : Sight) (th : Thread) where
   finding : (p : Place) → below p ≡ true → Here (step p s th)
   unfolding step beside cleared blocked
   finding nowhere z = inl refl
-  finding p1 z = reach (s .root)
-  finding p2 z = reach (childFor (th .station) (s .nodes (th .route)))
+  finding p1 z = reach (s .stop .on) 0 (s .root)
+  finding p2 z = follow (s .stop .on) (oneMore (th .read)) (s .stop .on) (childFor (th .station) (s .nodes (th .route)))
   finding p3 z = either _ _ _ tt (either _ _ _ (clear (th .action)) (block (th .action) (check (s .nodes) (s .stores) (th .base)) checked))
+  finding p4 z = pass false 0 Raise (th .route)
+  finding p5 z = free (th .action)
   finding (swap own q) z = by-own (probe q (s .nodes (th .base) .parent) (s .nodes) (s .root) (th .base))
   finding p15 z = help (check (s .nodes) (s .stores) (th .base)) checked
   finding p16 z = either _ _ _ (return _) (return _)
+  finding p19 z = either _ _ _ (inl refl) tt
   finding p20 z = either _ _ _ (inl refl) (inl refl)
   finding p21 z = either _ _ _ (inl refl) tt
   finding p22 z = either _ _ _ (inl refl) (inl refl)
@@ -273,7 +310,7 @@ module _ (s : Sight) (th : Thread) where
 found-after : (a : Answer) (e : Effect) (n : Shapes) (d : Rows) (s : ℕ) → FindsBy a e → depthBy a (deepened e n d) s ≡ depthIn a (full n d) s
 found-after No e n d s f = refl
 found-after Yes e n d s f = refl
-found-after (At x) e n d s f = rw f
+found-after (At x) e n d s f = rw (f n d)
 found-after Lacking e n d s f = refl
 found-after Blocked e n d s f = refl
 found-after Lost e n d s f = refl
@@ -281,23 +318,46 @@ found-after NeighbourBlocked e n d s f = refl
 found-after StoodDown e n d s f = refl
 found-after Stopped e n d s f = refl
 
--- ---- a step that decides d, below 60
-module _ (s : Sight) (th : Notes) (h : th .place < 60) (d : Decision) (q : Decides th d (step (placeOf (th .place)) s)) (fs : List Frame) where
+-- ---- a step that decides d, below 60, with k routes read
+module _ (s : Sight) (th : Notes) (h : th .place < 60) (k : ℕ) (d : Decision) (q : Decided s th k d) (fs : List Frame) where
   -- the frame that it puts on top, where it does
   abbrev top : Frame
   top = topAfter (step (placeOf (th .place)) s (thread th fs))
 
-  finds : {m : ℕ} → d .what ≡ m → Finding (s .nodes (th .base)) (thread th fs) (turnBy m (thread th fs) (noted (d .note) top (d .place) (d .value) (thread th fs)) (written (d .writes) (d .effect)) (d .answer))
-  finds e = subst (λ (t : Turn). Finding (s .nodes (th .base)) (thread th fs) t) (sym (q .turn fs) ∙ ap (λ (m : ℕ). turnBy m (thread th fs) (noted (d .note) top (d .place) (d .value) (thread th fs)) (written (d .writes) (d .effect)) (d .answer)) e) (finding s (thread th fs) (placeOf (th .place)) (below-60 (th .place) h))
+  abbrev now : Thread
+  now = thread (reread k th) fs
+
+  abbrev effect : Effect
+  effect = written (d .writes) (d .effect)
+
+  finds : {m : ℕ} → d .what ≡ m → Finding (s .nodes (th .base)) (thread th fs) (tallied (th .place) (turnBy m now (noted (d .note) top (d .place) (d .value) now) effect (d .answer)))
+  finds e = subst (λ (t : Turn). Finding (s .nodes (th .base)) (thread th fs) t) (q .turn fs ∙ ap (λ (m : ℕ). tallied (th .place) (turnBy m now (noted (d .note) top (d .place) (d .value) now) effect (d .answer))) e) (finding s (thread th fs) (placeOf (th .place)) (below-60 (th .place) h))
+
+  -- where the count changes nothing is written
+  quiet-or : (d .what ≡ 2 → ⊥) → (effect ≡ Quiet) ⊎ (counted (th .place) effect ≡ effect)
+  quiet-or o = by (eqb (th .place) 4) (eqb (th .place) 5) refl refl
+    where
+      by : (a b : Bool) → eqb (th .place) 4 ≡ a → eqb (th .place) 5 ≡ b → (effect ≡ Quiet) ⊎ (cond a Raise (cond b Lower effect) ≡ effect)
+      by true b e f = inl (q .quiet (inl (eqb-true (th .place) 4 e)) o)
+      by false true e f = inl (q .quiet (inr (eqb-true (th .place) 5 f)) o)
+      by false false e f = inr refl
 
   -- the depth that it finds
-  pub depth-still : (n : Shapes) (r : Rows) (t : ℕ) → d .what ≡ 1 → depthBy (d .answer) (deepened (written (d .writes) (d .effect)) n r) t ≡ depthIn (d .answer) (full n r) t
-  depth-still n r t e = found-after (d .answer) (written (d .writes) (d .effect)) n r t (finds e)
+  pub depth-still : (n : Shapes) (r : Rows) (t : ℕ) → d .what ≡ 1 → depthBy (d .answer) (deepened effect n r) t ≡ depthIn (d .answer) (full n r) t
+  depth-still n r t e = by (quiet-or (λ z. omega arith))
+    where
+      by : (effect ≡ Quiet) ⊎ (counted (th .place) effect ≡ effect) → depthBy (d .answer) (deepened effect n r) t ≡ depthIn (d .answer) (full n r) t
+      by (inl i) = found-after (d .answer) effect n r t (rw i (quiet (d .answer)))
+      by (inr i) = found-after (d .answer) effect n r t (subst (λ (v : Effect). FindsBy (d .answer) v) i (finds e))
 
   -- the frame that it opens
-  pub opened : d .what ≡ 0 → d .note ≡ Opened → (written (d .writes) (d .effect) ≡ Quiet) × (top ≡ helping (s .nodes (th .base)))
-  opened e o = by (subst (λ (n : Note). Framed (s .nodes (th .base)) (thread th fs) (noted n top (d .place) (d .value) (thread th fs)) (written (d .writes) (d .effect))) o (finds e))
+  pub opened : d .what ≡ 0 → d .note ≡ Opened → (effect ≡ Quiet) × (top ≡ helping (s .nodes (th .base)))
+  opened e o = by (subst (λ (n : Note). Framed (s .nodes (th .base)) (thread th fs) (noted n top (d .place) (d .value) now) (counted (th .place) effect)) o (finds e))
     where
-      by : Framed (s .nodes (th .base)) (thread th fs) (noted Opened top (d .place) (d .value) (thread th fs)) (written (d .writes) (d .effect)) → (written (d .writes) (d .effect) ≡ Quiet) × (top ≡ helping (s .nodes (th .base)))
+      still : (effect ≡ Quiet) ⊎ (counted (th .place) effect ≡ effect) → counted (th .place) effect ≡ Quiet → effect ≡ Quiet
+      still (inl i) j = i
+      still (inr i) j = sym i ∙ j
+
+      by : Framed (s .nodes (th .base)) (thread th fs) (noted Opened top (d .place) (d .value) now) (counted (th .place) effect) → (effect ≡ Quiet) × (top ≡ helping (s .nodes (th .base)))
       by (inl i) = absurd (omega arith)
-      by (inr i) = (i .0, ap topOf (i .1))
+      by (inr i) = (still (quiet-or (λ z. omega arith)) (i .0), ap topOf (i .1))

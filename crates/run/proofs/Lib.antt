@@ -2,7 +2,11 @@ pub mod Rows
 pub mod Room
 pub mod Cases
 pub mod Numbers
+pub mod Decided
+pub mod Outcome
 pub mod Finding
+pub mod Changed
+pub mod Joint
 pub mod Ranging
 pub mod Left
 pub mod Threads

@@ -14,7 +14,7 @@ use Rattle.container.specs.Choice.{ite}
 use Rattle.definitions.specs.declared.Effect.{Effect}
 use Rattle.definitions.specs.Threads.{Frame, Thread, Turn, Moves}
 use Rattle.definitions.specs.Frames.{adds, nextFrom, adding, backIn, back}
-use Rattle.definitions.specs.Places.{own, found, united, opening, next, Place, nowhere, p1, p2, p3, p15, p16, p20, p21, p22, p23, p24, p25, p30, p31, p32, p33, p34, p35, p36, p37, p38, p40, p45, p46, p47, p48, p49, p50, p51, p60, p61, p62, p70, p71, p72, p73, p74, p76, p81, p82, swap, places, placeOf}
+use Rattle.definitions.specs.Places.{own, found, united, opening, next, Place, nowhere, p1, p2, p3, p4, p5, p15, p16, p19, p20, p21, p22, p23, p24, p25, p30, p31, p32, p33, p34, p35, p36, p37, p38, p40, p45, p46, p47, p48, p49, p50, p51, p60, p61, p62, p70, p71, p72, p73, p74, p76, p81, p82, swap, places, placeOf}
 
 -- ---- which place a number names
 
@@ -24,8 +24,11 @@ below nowhere = true
 below p1 = true
 below p2 = true
 below p3 = true
+below p4 = true
+below p5 = true
 below p15 = true
 below p16 = true
+below p19 = true
 below p20 = true
 below p21 = true
 below p22 = true
@@ -72,8 +75,11 @@ above nowhere = true
 above p1 = false
 above p2 = false
 above p3 = false
+above p4 = false
+above p5 = false
 above p15 = false
 above p16 = false
+above p19 = false
 above p20 = false
 above p21 = false
 above p22 = false

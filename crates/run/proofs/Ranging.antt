@@ -18,7 +18,7 @@ use Rattle.definitions.specs.Threads.{Frame, Thread, Turn, Moves, Finishes, Fin
 use Rattle.definitions.specs.Frames.{topOf, tailOf, storeOf, inHand, inFrame, foundFirst}
 use Rattle.definitions.specs.Queries.{reachedFirst, openedBy, reachedNext, popOn, metBy, extendedBy, filling, readOut}
 use Rattle.definitions.specs.Bench.{Sight}
-use Rattle.definitions.specs.Places.{own, found, united, opening, next, Place, nowhere, p1, p2, p3, p15, p16, p20, p21, p22, p23, p24, p25, p30, p31, p32, p33, p34, p35, p36, p37, p38, p40, p45, p46, p47, p48, p49, p50, p51, p60, p61, p62, p70, p71, p72, p73, p74, p76, p81, p82, swap, placeOf}
+use Rattle.definitions.specs.Places.{own, found, united, opening, next, Place, nowhere, p1, p2, p3, p4, p5, p15, p16, p19, p20, p21, p22, p23, p24, p25, p30, p31, p32, p33, p34, p35, p36, p37, p38, p40, p45, p46, p47, p48, p49, p50, p51, p60, p61, p62, p70, p71, p72, p73, p74, p76, p81, p82, swap, placeOf}
 use Rattle.definitions.specs.Steps.{probe, step}
 use Rattle.run.specs.Query.{Ranged}
 use Rattle.run.proofs.Numbers.{above, above-60, fork, add-moves, back-in, back-moves}
@@ -97,8 +97,11 @@ module _ (s : Sight) (th : Thread) where
   ranging p1 z = absurd (true≢false (sym z))
   ranging p2 z = absurd (true≢false (sym z))
   ranging p3 z = absurd (true≢false (sym z))
+  ranging p4 z = absurd (true≢false (sym z))
+  ranging p5 z = absurd (true≢false (sym z))
   ranging p15 z = absurd (true≢false (sym z))
   ranging p16 z = absurd (true≢false (sym z))
+  ranging p19 z = absurd (true≢false (sym z))
   ranging p20 z = absurd (true≢false (sym z))
   ranging p21 z = absurd (true≢false (sym z))
   ranging p22 z = absurd (true≢false (sym z))

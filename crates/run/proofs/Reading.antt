@@ -22,7 +22,8 @@ use Rattle.definitions.specs.declared.Action.{Action}
 use Rattle.definitions.specs.declared.Action.the-variants.{Lookup, Insert, Remove, Split, Join, Query}
 use Rattle.machine.specs.Asked.{actionOf, extraRefusal, askedBy, asked}
 use Rattle.machine.proofs.Asks.{asked-less, asked-query}
-use Rattle.run.proofs.Turn.{Reads, joint, joint-same}
+use Rattle.run.proofs.Joint.{joint, joint-same}
+use Rattle.run.proofs.Turn.{Reads}
 
 -- ---- the records of a proper file
 module _ (file : List ℕ) (h : Proper file) (k : ℕ) where

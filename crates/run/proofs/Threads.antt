@@ -1,12 +1,12 @@
--- The thread table as the loop holds it: notes in one array, numbers of frames in another, and the frames that lie apart in the lent arrays,
--- which keep their sizes. Assumes nothing.
+-- The thread table as the loop holds it: notes in one array, numbers of frames in another, whose last element is the count of the stop, and the
+-- frames that lie apart in the lent arrays, which keep their sizes. Assumes nothing.
 use mathlib.Core.Path.{_≡_, refl, sym, ap, _∙_, fun-ext, subst}
 use mathlib.Core.Bool.{Bool, true, false, cond}
 use mathlib.Core.List.{List, [], _∷_}
 use Prim.Native.Nat.{ℕ, zero, suc, _≤_, _<_}
 use native.Mathlib.Omega.{arith}
-use borrow.Author.Tests.{eqb-true, eqb-false}
-use lib.Dec.{eqb}
+use borrow.Author.Tests.{eqb-true, eqb-false, lt-ltb, ltb-true}
+use lib.Dec.{eqb, ltb}
 use lib.ListN.{length, getD, set, replicate, length-set}
 use lib.Seq.{getD-set-same, getD-set-other}
 use Rattle.container.specs.Choice.{upd}
@@ -26,14 +26,18 @@ use Rattle.run.specs.declared.query.Left.{Left}
 
 -- the notes of an idle thread
 abbrev none : Notes
-none = record { action = Lookup; station = 0; extra = 0; place = 0; route = 0; base = 0; parent = 0; left = true; found = 0; neighbour = 0; main = 0; owner = false; grandparent = Nil; other = 0 }
+none = record { action = Lookup; station = 0; extra = 0; place = 0; route = 0; read = 0; base = 0; parent = 0; left = true; found = 0; neighbour = 0; main = 0; owner = false; grandparent = Nil; other = 0 }
 
 abbrev notesOf : Thread → Notes
-notesOf th = record { action = th .action; station = th .station; extra = th .extra; place = th .place; route = th .route; base = th .base; parent = th .parent; left = th .left; found = th .found; neighbour = th .neighbour; main = th .main; owner = th .owner; grandparent = th .grandparent; other = th .other }
+notesOf th = record { action = th .action; station = th .station; extra = th .extra; place = th .place; route = th .route; read = th .read; base = th .base; parent = th .parent; left = th .left; found = th .found; neighbour = th .neighbour; main = th .main; owner = th .owner; grandparent = th .grandparent; other = th .other }
+
+-- how many frames thread t has, of four
+abbrev pub framed : List ℕ → ℕ → ℕ
+framed c t = cond (ltb t 4) (getD c t 0) 0
 
 -- its threads, by number: the notes l, the numbers of frames c, the frames that h holds
 abbrev pub threadsOf : List Notes → List ℕ → (ℕ → Frame) → ℕ → Thread
-threadsOf l c h t = thread (getD l t none) (framesOf h t (getD c t 0))
+threadsOf l c h t = thread (getD l t none) (framesOf h t (framed c t))
 
 -- what the code reads within an array, whatever it would read past its end
 pub within : {A : Type 0} (l : List A) (t : ℕ) (d d' : A) → t < length l → getD l t d ≡ getD l t d'
@@ -41,26 +45,37 @@ within [] t d d' h = absurd (omega arith)
 within (x ∷ l) zero d d' h = refl
 within (x ∷ l) (suc t) d d' h = within l t d d' (omega arith)
 
-pub at-own : (l : List Notes) (c : List ℕ) (h : ℕ → Frame) (t : ℕ) (d : Notes) → t < length l → threadsOf l c h t ≡ thread (getD l t d) (framesOf h t (getD c t 0))
-at-own l c h t d i = ap (λ (v : Notes). thread v (framesOf h t (getD c t 0))) (within l t none d i)
+pub framed-own : (c : List ℕ) (t : ℕ) → t < 4 → framed c t ≡ getD c t 0
+framed-own c t i = rw (lt-ltb t 4 i)
+
+pub at-own : (l : List Notes) (c : List ℕ) (h : ℕ → Frame) (t : ℕ) (d : Notes) → length l ≡ 4 → t < 4 → threadsOf l c h t ≡ thread (getD l t d) (framesOf h t (getD c t 0))
+at-own l c h t d j i = ap (λ (v : Notes). thread v (framesOf h t (framed c t))) (within l t none d (omega arith)) ∙ ap (λ (m : ℕ). thread (getD l t d) (framesOf h t m)) (framed-own c t i)
+
+-- of the numbers c only the first four are read
+pub same-counts : (l : List Notes) (c c' : List ℕ) (h : ℕ → Frame) → ((u : ℕ) → u < 4 → getD c' u 0 ≡ getD c u 0) → threadsOf l c' h ≡ threadsOf l c h
+same-counts l c c' h q = fun-ext (λ k. ap (λ (m : ℕ). thread (getD l k none) (framesOf h k m)) (by k (ltb k 4) refl))
+  where
+    by : (k : ℕ) (b : Bool) → ltb k 4 ≡ b → cond {A = ℕ} b (getD c' k 0) 0 ≡ cond b (getD c k 0) 0
+    by k true e = q k (ltb-true k 4 e)
+    by k false e = refl
 
 -- ---- thread t has the notes v now; the frames of the others, four at most, stay
-module _ (l : List Notes) (c : List ℕ) (h h' : ℕ → Frame) (t : ℕ) (v : Notes) (i : t < length l) (few : (u : ℕ) → getD c u 0 ≤ 4) (q : (u k : ℕ) → k ≤ 4 → (u ≡ t → ⊥) → framesOf h' u k ≡ framesOf h u k) where
+module _ (l : List Notes) (c : List ℕ) (h h' : ℕ → Frame) (t : ℕ) (v : Notes) (i : t < length l) (i' : t < 4) (few : (u : ℕ) → framed c u ≤ 4) (q : (u k : ℕ) → k ≤ 4 → (u ≡ t → ⊥) → framesOf h' u k ≡ framesOf h u k) where
   -- and n frames
   pub put : (n : ℕ) → t < length c → threadsOf (set l t v) (set c t n) h' ≡ upd (threadsOf l c h) t (thread v (framesOf h' t n))
   put n j = fun-ext (λ k. at k (eqb k t) refl)
     where
       at : (k : ℕ) (b : Bool) → eqb k t ≡ b → threadsOf (set l t v) (set c t n) h' k ≡ cond b (thread v (framesOf h' t n)) (threadsOf l c h k)
-      at k true e = rw (eqb-true k t e, getD-set-same l t v none i, getD-set-same c t n 0 j)
-      at k false e = rw (getD-set-other l t k v none (eqb-false k t e), getD-set-other c t k n 0 (eqb-false k t e), q k (getD c k 0) (few k) (eqb-false k t e))
+      at k true e = rw (eqb-true k t e, getD-set-same l t v none i, lt-ltb t 4 i', getD-set-same c t n 0 j)
+      at k false e = rw (getD-set-other l t k v none (eqb-false k t e), getD-set-other c t k n 0 (eqb-false k t e), q k (framed c k) (few k) (eqb-false k t e))
 
   -- and as many frames as before
   pub put-notes : threadsOf (set l t v) c h' ≡ upd (threadsOf l c h) t (thread v (framesOf h' t (getD c t 0)))
   put-notes = fun-ext (λ k. at k (eqb k t) refl)
     where
       at : (k : ℕ) (b : Bool) → eqb k t ≡ b → threadsOf (set l t v) c h' k ≡ cond b (thread v (framesOf h' t (getD c t 0))) (threadsOf l c h k)
-      at k true e = rw (eqb-true k t e, getD-set-same l t v none i)
-      at k false e = rw (getD-set-other l t k v none (eqb-false k t e), q k (getD c k 0) (few k) (eqb-false k t e))
+      at k true e = rw (eqb-true k t e, getD-set-same l t v none i, lt-ltb t 4 i')
+      at k false e = rw (getD-set-other l t k v none (eqb-false k t e), q k (framed c k) (few k) (eqb-false k t e))
 
 -- ---- all idle
 idles : (k t : ℕ) (v : Notes) → v ≡ none → getD (replicate k v) t none ≡ none
@@ -73,8 +88,15 @@ zeros zero t = refl
 zeros (suc k) zero = refl
 zeros (suc k) (suc t) = zeros k t
 
-pub all-idle : (h : ℕ → Frame) (v : Notes) → thread v [] ≡ idle → threadsOf (replicate 4 v) (replicate 4 0) h ≡ (λ _. idle)
-all-idle h v g = fun-ext (λ t. rw (idles 4 t v (ap notesOf g), zeros 4 t))
+none-framed : (t : ℕ) → framed (replicate 5 0) t ≡ 0
+none-framed t = by (ltb t 4)
+  where
+    by : (b : Bool) → cond {A = ℕ} b (getD (replicate 5 0) t 0) 0 ≡ 0
+    by true = zeros 5 t
+    by false = refl
+
+pub all-idle : (h : ℕ → Frame) (v : Notes) → thread v [] ≡ idle → threadsOf (replicate 4 v) (replicate 5 0) h ≡ (λ _. idle)
+all-idle h v g = fun-ext (λ t. rw (idles 4 t v (ap notesOf g), none-framed t))
 
 -- ---- frames
 pub frames-count : (h : ℕ → Frame) (t d : ℕ) → length (framesOf h t d) ≡ d

@@ -10,15 +10,14 @@ use Rattle.answers.proofs.Queryless.{version-1}
 use Rattle.steps.specs.declared.Notes.{Notes}
 use Rattle.steps.specs.declared.Note.the-variants.{Opened}
 use Rattle.steps.specs.declared.Decision.{Decision}
-use Rattle.steps.specs.Decision.{thread, Decides}
+use Rattle.steps.specs.Decision.{thread}
 use Rattle.definitions.specs.Nodes.{Shapes, Stores}
 use Rattle.definitions.specs.Threads.{Frame, Thread, newFrame}
-use Rattle.definitions.specs.Bench.{Bench, sight}
-use Rattle.definitions.specs.Places.{placeOf}
-use Rattle.definitions.specs.Steps.{step}
-use Rattle.definitions.specs.Versions.{version}
+use Rattle.definitions.specs.Bench.{stop, Bench, sight}
+use Rattle.definitions.specs.Versions.{version, stopOf}
 use Rattle.definitions.specs.Run.{after}
 use Rattle.definitions.specs.declared.Link.the-variants.{Nil}
+use Rattle.run.proofs.Decided.{Decided}
 use Rattle.run.proofs.Threads.{frames-count}
 use Rattle.run.proofs.Turn.{seen, Asking, own-frames, own, asked-on, wants-query, next-bench, opens-one}
 
@@ -42,5 +41,5 @@ module _ {file : List ℕ} {k x y e : ℕ} {n : Shapes} {l : List ℕ} {s : Stor
   pub wide-start : a ≡ 1 → x % 16 ≡ 6 → version file ≡ 1 → ⊥
   wide-start z o = framed (k + 1) {f = newFrame y e Nil} {fs = []} (ap (λ (b : Bench). b .threads (x / 16 % 4) .frames) (next-bench q (asked-on q (wants-query q z o))) ∙ rw (eq-eqb (x / 16 % 4) (x / 16 % 4) refl))
 
-  pub wide-open : (z : a ≡ 0) (d : Decision) (low : seen threads x end .place < 60) (i : Decides (seen threads x end) d (step (placeOf (seen threads x end .place)) (sight n root used s shown))) → d .what ≡ 0 → d .note ≡ Opened → version file ≡ 1 → ⊥
+  pub wide-open : (z : a ≡ 0) {r : ℕ} (d : Decision) (low : seen threads x end .place < 60) (i : Decided (sight n root used s shown (stop (stopOf file) (getD counts 4 0))) (seen threads x end) r d) → d .what ≡ 0 → d .note ≡ Opened → version file ≡ 1 → ⊥
   wide-open z d low i o f = framed (k + 1) (opens-one q z d low i o f)

@@ -20,8 +20,9 @@ use Rattle.definitions.specs.Records.{noRow, row, Result, refused, carried, tak
 use Rattle.definitions.specs.Run.{rowBytes}
 use Rattle.definitions.specs.declared.Link.the-variants.{To}
 use Rattle.definitions.specs.declared.Node.{Node}
+use Rattle.definitions.specs.declared.Stop.{Stop}
 use Rattle.definitions.specs.declared.Effect.{Effect}
-use Rattle.definitions.specs.declared.Effect.the-variants.{Quiet, Mark, Settle, Invalid, Swing, Base, Fork, Commit, Ask, Fill}
+use Rattle.definitions.specs.declared.Effect.the-variants.{Quiet, Mark, Settle, Invalid, Swing, Raise, Lower, Base, Fork, Commit, Ask, Fill}
 use Rattle.steps.specs.declared.Notes.{Notes}
 use Rattle.steps.specs.Decision.{thread}
 use Rattle.run.specs.declared.query.Counts.{Counts}
@@ -36,6 +37,8 @@ Ranged (Mark r l) = ⊥
 Ranged (Settle m v) = ⊥
 Ranged (Invalid r) = ⊥
 Ranged (Swing v x) = ⊥
+Ranged Raise = ⊥
+Ranged Lower = ⊥
 Ranged (Base v x k p c m) = ⊥
 Ranged (Fork v x l r k y) = ⊥
 Ranged (Commit m x p n g o) = ⊥
@@ -66,14 +69,14 @@ resultOf zero b b' c = carried b noRow
 resultOf (suc zero) b b' c = carried b' (row (said (not (eqb c 0))) 0 c)
 resultOf (suc (suc m)) b b' c = refused (suc (suc m))
 
--- thread i has the notes th and n frames, which h holds. Its step, whatever the depths, takes the nodes t, the stores k and their counts to t', k'
+-- thread i has the notes th and n frames, which h holds. Its step, whatever the depths and the stop, takes the nodes t, the stores k and their counts to t', k'
 -- and the counts in r, and the thread to what r has and h' holds; the frames of the others stay. A refused step leaves nodes, depths and stores
 pub record Leaves (t : Shapes) (l : List ℕ) (k : Stores) (o u j : ℕ) (h : ℕ → Frame) (i n : ℕ) (th : Notes) (t' : Shapes) (l' : List ℕ) (k' : Stores) (h' : ℕ → Frame) (r : Left) : Type 0 where
   pub effect : Effect
-  pub turn : (b : Bench) (d : Rows) → b .store ≡ store (full t d) o u k j → b .threads i ≡ thread th (framesOf h i n)
+  pub turn : (b : Bench) (d : Rows) (z : Stop) → b .store ≡ store (full t d) o u k j z → b .threads i ≡ thread th (framesOf h i n)
       → taken b i (step (placeOf (b .threads i .place)) (sightOf (b .store)) (b .threads i)) ≡ resultOf (r .what)
-      (bench (store (full t' (deepened effect t d)) (r .root) (r .used) k' (r .shown)) (upd (b .threads) i (toBase (r .place) (r .base) (thread th (framesOf h' i (r .frames))))))
-      (bench (store (full t' (deepened effect t d)) (r .root) (r .used) k' (r .shown)) (upd (b .threads) i idle))
+      (bench (store (full t' (deepened effect t d)) (r .root) (r .used) k' (r .shown) z) (upd (b .threads) i (toBase (r .place) (r .base) (thread th (framesOf h' i (r .frames))))))
+      (bench (store (full t' (deepened effect t d)) (r .root) (r .used) k' (r .shown) z) (upd (b .threads) i idle))
       (r .set)
   pub depths : length l ≡ 16384 → rows l' ≡ deepened effect t (rows l)
   pub others : (v m : ℕ) → m ≤ 4 → (v ≡ i → ⊥) → framesOf h' v m ≡ framesOf h v m

@@ -1,5 +1,5 @@
--- How the code holds a run in progress: the bench by its node table, its root, the numbers used, its stores and its threads, the depths where
--- they are lent; the rows in a page of the lent buffer.
+-- How the code holds a run in progress: the bench by its node table, its root, the numbers used, its stores, its stop and its threads, the depths
+-- where they are lent; the rows in a page of the lent buffer.
 use Prim.Native.Nat.{ℕ}
 use mathlib.Core.Path.{_≡_}
 use mathlib.Core.List.{List, [], _∷_}
@@ -14,6 +14,7 @@ use Rattle.definitions.specs.Records.{row}
 use Rattle.definitions.specs.Versions.{version}
 use Rattle.definitions.specs.Run.{Progress, rowBytes, after}
 use Rattle.definitions.specs.declared.Answer.{Answer}
+use Rattle.definitions.specs.declared.Stop.{Stop}
 use Rattle.steps.specs.declared.Notes.{Notes}
 use Rattle.steps.specs.Decision.{thread}
 use Rattle.run.specs.declared.Standing.{Standing}
@@ -45,17 +46,17 @@ rowOf v t th a d = rowBytes (v ∷ []) t (thread th []) (row (shown a) d 0)
 
 -- ---- a run
 
--- the standing s over the nodes t, the lent depths l, the stores k and the threads, with the rows written into `buffer`, is the progress p
+-- the standing s over the nodes t, the lent depths l, the stores k, the stop z and the threads, with the rows written into `buffer`, is the progress p
 -- whose rows began in `blank`; `deep` are the bench's depths
-pub record Stands (t : Shapes) (l : List ℕ) (k : Stores) (threads : ℕ → Thread) (s : Standing) (blank buffer : List ℕ) (p : Progress) : Type 0 where
+pub record Stands (t : Shapes) (l : List ℕ) (k : Stores) (z : Stop) (threads : ℕ → Thread) (s : Standing) (blank buffer : List ℕ) (p : Progress) : Type 0 where
   pub deep : Rows
-  pub bench : bench (store (full t deep) (s .root) (s .used) k (s .shown)) threads ≡ p .bench
+  pub bench : bench (store (full t deep) (s .root) (s .used) k (s .shown) z) threads ≡ p .bench
   pub depths : length l ≡ 16384 → rows l ≡ deep
   pub refusal : s .refusal ≡ p .refusal
   pub done : s .done ≡ p .done
   pub finished : s .finished ≡ p .finished
   pub rows : page buffer (s .at) ≡ putAll (page blank 0) (p .rows)
 
--- the first n records of the file have been carried out; the threads are then those of the definition
+-- the first n records of the file have been carried out; the threads and the stop are then those of the definition
 abbrev pub Carried : List ℕ → ℕ → Shapes → List ℕ → Stores → Standing → List ℕ → List ℕ → Type 0
-Carried file n t l k s blank buffer = Stands t l k (after file n .bench .threads) s blank buffer (after file n)
+Carried file n t l k s blank buffer = Stands t l k (after file n .bench .store .stop) (after file n .bench .threads) s blank buffer (after file n)

@@ -107,7 +107,7 @@ pub fn put_row(
 // lies; what decides a step gets a copy, made once the place is known, so that only the notes it reads are loaded. The first two bytes
 // of a record are read as in version 1; a version that has more reads it again, whole, so that version 1 pays nothing for it. `frames`
 // has how many frames each thread has; the arrays that hold them may hold anything at first. Version 1 has no frame and no result of a
-// store, so it is lent no memory for them.
+// store, so it is lent no memory for them. Last in `frames` is the count of the stop: a variable of its own would cost every record more.
 pub fn carry_out(
     cells: &mut [u8; 5120],
     sets: &mut [u64; 256],
@@ -127,10 +127,11 @@ pub fn carry_out(
     let v = schedule::version_of(schedule);
     let idle = machine::idle_notes();
     let mut threads = [idle; 4];
-    let mut frames = [0usize; 4];
+    let mut frames = [0usize; 5];
     let mut root = 0u8;
     let mut used = 1u16;
     let mut shown = 0u16;
+    let on = v == 3;
     let mut finished = 0usize;
     let mut at = 0usize;
     let mut from = 3usize;
@@ -191,20 +192,60 @@ pub fn carry_out(
         }
         let asked = machine::ask(5, first, y, 0, place);
         match asked {
-            // a step: 1 and 2, 3, 10 to 13, or 15 to 51 decide; from 60 on it is a query's
+            // a step: 1 and 2, 3, 10 to 13, or 15 to 51 decide, with the stop on also 4, 5 and 19; from 60 on it is a query's
             0 => {
                 let d = if place < 3 {
+                    if on {
+                        let th = threads[t];
+                        threads[t].read = search::read_after(th);
+                    }
                     let th = threads[t];
-                    search::find(cells, sets, flags, results, root, used, shown, th)
+                    search::find(cells, sets, root, on, th)
+                } else if place == 3 {
+                    let th = threads[t];
+                    search::examine(
+                        cells,
+                        sets,
+                        flags,
+                        results,
+                        root,
+                        used,
+                        shown,
+                        on,
+                        frames[4],
+                        th,
+                    )
                 } else if place < 10 {
                     let th = threads[t];
-                    search::examine(cells, sets, flags, results, root, used, shown, th)
+                    search::count(cells, sets, th)
                 } else if place < 14 {
                     let th = threads[t];
-                    steps::decide_swap(cells, sets, flags, results, root, used, shown, th)
+                    steps::decide_swap(
+                        cells,
+                        sets,
+                        flags,
+                        results,
+                        root,
+                        used,
+                        shown,
+                        on,
+                        frames[4],
+                        th,
+                    )
                 } else if place < 60 {
                     let th = threads[t];
-                    steps::decide_join(cells, sets, flags, results, root, used, shown, th)
+                    steps::decide_join(
+                        cells,
+                        sets,
+                        flags,
+                        results,
+                        root,
+                        used,
+                        shown,
+                        on,
+                        frames[4],
+                        th,
+                    )
                 } else {
                     let th = threads[t];
                     let depth = frames[t];
@@ -269,6 +310,11 @@ pub fn carry_out(
                 let effect = d.effect;
                 root = machine::enact(cells, sets, depths, root, used, d.writes, effect);
                 used = machine::used_then(used, d.writes, effect);
+                if place == 4 {
+                    frames[4] = frames[4] + 1;
+                } else if place == 5 {
+                    frames[4] = frames[4] - 1;
+                }
                 if what == 0 {
                     let note = d.note;
                     match note {

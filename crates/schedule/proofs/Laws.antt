@@ -28,16 +28,19 @@ length-two v n e = rw (ne-eqb _ _ e)
 
 pub ruleset length-cases = (length-one, length-two)
 
-pub other-one : (v : ℕ) → v ≡ 1 → false ≡ not (eqb v 1 || eqb v 2)
+pub other-one : (v : ℕ) → v ≡ 1 → false ≡ not (eqb v 1 || (eqb v 2 || eqb v 3))
 other-one v e = rw (eq-eqb _ _ e)
 
-pub other-two : (v : ℕ) → (v ≡ 1 → ⊥) → v ≡ 2 → false ≡ not (eqb v 1 || eqb v 2)
+pub other-two : (v : ℕ) → (v ≡ 1 → ⊥) → v ≡ 2 → false ≡ not (eqb v 1 || (eqb v 2 || eqb v 3))
 other-two v e f = rw (ne-eqb _ _ e, eq-eqb _ _ f)
 
-pub other-none : (v : ℕ) → (v ≡ 1 → ⊥) → (v ≡ 2 → ⊥) → true ≡ not (eqb v 1 || eqb v 2)
-other-none v e f = rw (ne-eqb _ _ e, ne-eqb _ _ f)
+pub other-three : (v : ℕ) → (v ≡ 1 → ⊥) → (v ≡ 2 → ⊥) → v ≡ 3 → false ≡ not (eqb v 1 || (eqb v 2 || eqb v 3))
+other-three v e f g = rw (ne-eqb _ _ e, ne-eqb _ _ f, eq-eqb _ _ g)
 
-pub ruleset other-cases = (other-one, other-two, other-none)
+pub other-none : (v : ℕ) → (v ≡ 1 → ⊥) → (v ≡ 2 → ⊥) → (v ≡ 3 → ⊥) → true ≡ not (eqb v 1 || (eqb v 2 || eqb v 3))
+other-none v e f g = rw (ne-eqb _ _ e, ne-eqb _ _ f, ne-eqb _ _ g)
+
+pub ruleset other-cases = (other-one, other-two, other-three, other-none)
 
 opposite : (a b : Bool) → not a ≡ b → a ≡ not b
 opposite true true e = absurd (true≢false (sym e))
@@ -51,14 +54,14 @@ module _ (file : List ℕ) where
   unfolding fileRefusal ite
   short h = simp (lt-ltb _ _ h)
 
-  module _ {b : Bool} (h : 3 ≤ length file) (i : b ≡ not (eqb (version file) 1 || eqb (version file) 2)) where
+  module _ {b : Bool} (h : 3 ≤ length file) (i : b ≡ not (eqb (version file) 1 || (eqb (version file) 2 || eqb (version file) 3))) where
     pub other : b ≡ true → 2 ≡ fileRefusal file
     unfolding fileRefusal ite
-    other j = rw (le-ltb _ _ h, opposite (eqb (version file) 1 || eqb (version file) 2) true (sym i ∙ j))
+    other j = rw (le-ltb _ _ h, opposite (eqb (version file) 1 || (eqb (version file) 2 || eqb (version file) 3)) true (sym i ∙ j))
 
     module _ {n : ℕ} (j : b ≡ false) (c : n ≡ countOf file) where
-      known : eqb (version file) 1 || eqb (version file) 2 ≡ true
-      known = opposite (eqb (version file) 1 || eqb (version file) 2) false (sym i ∙ j)
+      known : eqb (version file) 1 || (eqb (version file) 2 || eqb (version file) 3) ≡ true
+      known = opposite (eqb (version file) 1 || (eqb (version file) 2 || eqb (version file) 3)) false (sym i ∙ j)
 
       pub many : 4096 < n → 3 ≡ fileRefusal file
       unfolding fileRefusal ite
@@ -84,7 +87,7 @@ module _ (file : List ℕ) where
 pub proper : (file : List ℕ) → fileRefusal file ≡ 0 → Proper file
 unfolding fileRefusal ite
 proper file =
-    by (ltb (length file) 3) (eqb (version file) 1 || eqb (version file) 2) (ltb 4096 (countOf file)) (eqb (length file) (3 + width file * countOf file)) refl refl refl
+    by (ltb (length file) 3) (eqb (version file) 1 || (eqb (version file) 2 || eqb (version file) 3)) (ltb 4096 (countOf file)) (eqb (length file) (3 + width file * countOf file)) refl refl refl
   where
     by : (a b c d : Bool) → ltb (length file) 3 ≡ a → ltb 4096 (countOf file) ≡ c → eqb (length file) (3 + width file * countOf file) ≡ d → _≡_ {A = ℕ} (ite a 1 (ite b (ite c 3 (ite d 0 4)) 2)) 0 → Proper file
     by true b c d e f g z = absurd (omega arith)

@@ -54,14 +54,17 @@ pub fn version_of(s: &[u8]) -> u8
     s[0]
 }
 
-// There are versions 1 and 2.
+// There are versions 1 to 3.
 fn is_other(v: u8) -> bool
-    ensures { λ r. ⌜ r ≡ not (eqb v 1 || eqb v 2) ⌝ }
+    ensures { λ r. ⌜ r ≡ not (eqb v 1 || (eqb v 2 || eqb v 3)) ⌝ }
 {
     if v == 1 {
         return false;
     }
     if v == 2 {
+        return false;
+    }
+    if v == 3 {
         return false;
     }
     true

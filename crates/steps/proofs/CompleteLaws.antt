@@ -15,6 +15,7 @@ use Rattle.definitions.specs.declared.Effect.the-variants.{Quiet, Mark, Settle,
 use Rattle.definitions.specs.declared.Answer.the-variants.{Yes}
 use Rattle.definitions.specs.Threads.{Moves, Finishes}
 use Rattle.definitions.specs.Nodes.{Shapes, Stores, kidOf, isDone}
+use Rattle.definitions.specs.declared.Stop.{Stop}
 use Rattle.definitions.specs.Bench.{sight}
 use Rattle.definitions.specs.Places.{placeOf, to}
 use Rattle.definitions.specs.Frames.{back}
@@ -126,46 +127,46 @@ module _ (l : Link) (n : Shapes) (th : Notes) {r : Decision} where
 pub ruleset free-cases = (free-none, free-mark, free-other)
 
 -- ---- the places 40 and 45 to 51: m is the main
-module _ (n : Shapes) (root used : ℕ) (ks : Stores) (sh : ℕ) (th : Notes) where
-  pub at-40-done : {m : Node} {k : Bool} {r : Decision} → th .place ≡ 40 → m ≡ n (th .main) → k ≡ isDone (m .stage) → k ≡ true → Decides th r (ended Quiet) → Decides th r (step (placeOf (th .place)) (sight n root used ks sh))
+module _ (n : Shapes) (root used : ℕ) (ks : Stores) (sh : ℕ) (z : Stop) (th : Notes) where
+  pub at-40-done : {m : Node} {k : Bool} {r : Decision} → th .place ≡ 40 → m ≡ n (th .main) → k ≡ isDone (m .stage) → k ≡ true → Decides th r (ended Quiet) → Decides th r (step (placeOf (th .place)) (sight n root used ks sh z))
   unfolding step ite
   at-40-done h e i t q = onward q (λ fs. rw (h, ← e, ← i, t))
 
-  pub at-40 : {m : Node} {k : Bool} {r : Decision} → th .place ≡ 40 → m ≡ n (th .main) → k ≡ isDone (m .stage) → k ≡ false → Decides th r (λ h. goes (to 41 h)) → Decides th r (step (placeOf (th .place)) (sight n root used ks sh))
+  pub at-40 : {m : Node} {k : Bool} {r : Decision} → th .place ≡ 40 → m ≡ n (th .main) → k ≡ isDone (m .stage) → k ≡ false → Decides th r (λ h. goes (to 41 h)) → Decides th r (step (placeOf (th .place)) (sight n root used ks sh z))
   unfolding step ite
   at-40 h e i t q = onward q (λ fs. rw (h, ← e, ← i, t))
 
-  pub at-45 : {m : Node} {o : Effect} {r : Decision} → th .place ≡ 45 → m ≡ n (th .main) → o ≡ invalid (m .parent) → Decides th r (λ h. Moves (to 46 h) o) → Decides th r (step (placeOf (th .place)) (sight n root used ks sh))
+  pub at-45 : {m : Node} {o : Effect} {r : Decision} → th .place ≡ 45 → m ≡ n (th .main) → o ≡ invalid (m .parent) → Decides th r (λ h. Moves (to 46 h) o) → Decides th r (step (placeOf (th .place)) (sight n root used ks sh z))
   unfolding step
   at-45 h e i q = onward q (λ fs. rw (i, h, ← e))
 
-  pub at-46 : {m : Node} {r : Decision} → th .place ≡ 46 → m ≡ n (th .main) → Decides th r (cutAt (m .grandparent) m n root) → Decides th r (step (placeOf (th .place)) (sight n root used ks sh))
+  pub at-46 : {m : Node} {r : Decision} → th .place ≡ 46 → m ≡ n (th .main) → Decides th r (cutAt (m .grandparent) m n root) → Decides th r (step (placeOf (th .place)) (sight n root used ks sh z))
   unfolding step
   at-46 h e q = onward q (λ fs. rw (h, ← e))
 
-  pub at-47 : {m : Node} {r : Decision} → th .place ≡ 47 → m ≡ n (th .main) → Decides th r (cutOn true (m .grandparent) m n) → Decides th r (step (placeOf (th .place)) (sight n root used ks sh))
+  pub at-47 : {m : Node} {r : Decision} → th .place ≡ 47 → m ≡ n (th .main) → Decides th r (cutOn true (m .grandparent) m n) → Decides th r (step (placeOf (th .place)) (sight n root used ks sh z))
   unfolding step
   at-47 h e q = onward q (λ fs. rw (h, ← e))
 
-  pub at-48 : {m : Node} {r : Decision} → th .place ≡ 48 → m ≡ n (th .main) → Decides th r (cutRight (m .grandparent) m n) → Decides th r (step (placeOf (th .place)) (sight n root used ks sh))
+  pub at-48 : {m : Node} {r : Decision} → th .place ≡ 48 → m ≡ n (th .main) → Decides th r (cutRight (m .grandparent) m n) → Decides th r (step (placeOf (th .place)) (sight n root used ks sh z))
   unfolding step
   at-48 h e q = onward q (λ fs. rw (h, ← e))
 
-  pub at-49 : {m : Node} {r : Decision} → th .place ≡ 49 → m ≡ n (th .main) → Decides th r (cutOn false (m .grandparent) m n) → Decides th r (step (placeOf (th .place)) (sight n root used ks sh))
+  pub at-49 : {m : Node} {r : Decision} → th .place ≡ 49 → m ≡ n (th .main) → Decides th r (cutOn false (m .grandparent) m n) → Decides th r (step (placeOf (th .place)) (sight n root used ks sh z))
   unfolding step
   at-49 h e q = onward q (λ fs. rw (h, ← e))
 
-  pub at-50 : {m : Node} {r : Decision} → th .place ≡ 50 → m ≡ n (th .main) → Decides th r (freeing (m .grandparent) n) → Decides th r (step (placeOf (th .place)) (sight n root used ks sh))
+  pub at-50 : {m : Node} {r : Decision} → th .place ≡ 50 → m ≡ n (th .main) → Decides th r (freeing (m .grandparent) n) → Decides th r (step (placeOf (th .place)) (sight n root used ks sh z))
   unfolding step
   at-50 h e q = onward q (λ fs. rw (h, ← e))
 
-  pub at-51 : {r : Decision} → th .place ≡ 51 → Decides th r (ended (Settle (th .main) Done)) → Decides th r (step (placeOf (th .place)) (sight n root used ks sh))
+  pub at-51 : {r : Decision} → th .place ≡ 51 → Decides th r (ended (Settle (th .main) Done)) → Decides th r (step (placeOf (th .place)) (sight n root used ks sh z))
   unfolding step
   at-51 h q = onward q (λ fs. rw h)
 
-  pub at-over : {r : Decision} → 45 ≤ th .place → th .place < 60 → (th .place ≡ 45 → ⊥) → (th .place ≡ 46 → ⊥) → (th .place ≡ 47 → ⊥) → (th .place ≡ 48 → ⊥) → (th .place ≡ 49 → ⊥) → (th .place ≡ 50 → ⊥) → (th .place ≡ 51 → ⊥) → Decides th r goes → Decides th r (step (placeOf (th .place)) (sight n root used ks sh))
+  pub at-over : {r : Decision} → 45 ≤ th .place → th .place < 60 → (th .place ≡ 45 → ⊥) → (th .place ≡ 46 → ⊥) → (th .place ≡ 47 → ⊥) → (th .place ≡ 48 → ⊥) → (th .place ≡ 49 → ⊥) → (th .place ≡ 50 → ⊥) → (th .place ≡ 51 → ⊥) → Decides th r goes → Decides th r (step (placeOf (th .place)) (sight n root used ks sh z))
   at-over l m f₀ f₁ f₂ f₃ f₄ f₅ f₆ q =
-      onward q (λ fs. unlisted (λ p. ltb p 52 || leb 60 p) refl (sight n root used ks sh) (thread th fs) (rw (le-ltb _ _ (past 51 (past 50 (past 49 (past 48 (past 47 (past 46 (past 45 l f₀) f₁) f₂) f₃) f₄) f₅) f₆), lt-leb _ _ m)))
+      onward q (λ fs. unlisted (λ p. ltb p 52 || leb 60 p) refl (sight n root used ks sh z) (thread th fs) (rw (le-ltb _ _ (past 51 (past 50 (past 49 (past 48 (past 47 (past 46 (past 45 l f₀) f₁) f₂) f₃) f₄) f₅) f₆), lt-leb _ _ m)))
 
 pub ruleset begin-cases = (at-40-done, at-40)
 

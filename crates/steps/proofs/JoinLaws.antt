@@ -1,4 +1,4 @@
--- The cases of places 20 to 38, each with the code's own facts as premises. Assumes nothing.
+-- The cases of places 19 to 38, each with the code's own facts as premises. Assumes nothing.
 use mathlib.Core.Path.{_≡_, refl}
 use mathlib.Core.Bool.{Bool, true, false, not}
 use mathlib.Core.List.{[]}
@@ -17,9 +17,10 @@ use Rattle.definitions.specs.declared.Spot.the-variants.{Under}
 use Rattle.definitions.specs.declared.Content.the-variants.{Of}
 use Rattle.definitions.specs.declared.Effect.{Effect}
 use Rattle.definitions.specs.declared.Effect.the-variants.{Mark, Settle, Base, Commit}
-use Rattle.definitions.specs.declared.Answer.the-variants.{Lost, NeighbourBlocked, StoodDown}
+use Rattle.definitions.specs.declared.Answer.the-variants.{Lost, NeighbourBlocked, StoodDown, Stopped}
 use Rattle.definitions.specs.Threads.{Moves, Finishes, Full}
 use Rattle.definitions.specs.Nodes.{Shapes, Stores, kidOf, childFor, isRoute, isPreparing, check, isReplaceable, replaceable}
+use Rattle.definitions.specs.declared.Stop.{Stop}
 use Rattle.definitions.specs.Bench.{sight}
 use Rattle.definitions.specs.Places.{p36, p37, placeOf, to, toRoute, toSide, toFound, toMain, toGrandparent, toOther}
 use Rattle.definitions.specs.Steps.{goes, says, beside, hooked, isNil, marking, topped, climbed, grandMarking, backOut, unionParent, closed, unmark, step}
@@ -170,85 +171,93 @@ unmark-one l r h = rw h
 
 pub ruleset unmark-cases = (unmark-one)
 
--- ---- the places 20 to 25: p is the parent, x the child read
-module _ (n : Shapes) (root used : ℕ) (ks : Stores) (sh : ℕ) (th : Notes) where
-  pub at-20-left : {p : Node} {r : Decision} → th .place ≡ 20 → p ≡ n (th .parent) → p .left ≡ th .base → Decides th r (λ h. goes (toSide 22 true h)) → Decides th r (step (placeOf (th .place)) (sight n root used ks sh))
+-- ---- the places 19 to 25: p is the parent, x the child read
+module _ (n : Shapes) (root used : ℕ) (ks : Stores) (sh : ℕ) (z : Stop) (th : Notes) where
+  pub at-19-none : {r : Decision} → th .place ≡ 19 → z .count ≡ 0 → Decides th r (λ h. goes (to 20 h)) → Decides th r (step (placeOf (th .place)) (sight n root used ks sh z))
+  unfolding step ite
+  at-19-none h e q = onward q (λ fs. rw (h, eq-eqb (z .count) 0 e))
+
+  pub at-19-some : {r : Decision} → th .place ≡ 19 → (z .count ≡ 0 → ⊥) → Decides th r (λ h. says Stopped) → Decides th r (step (placeOf (th .place)) (sight n root used ks sh z))
+  unfolding step ite
+  at-19-some h e q = onward q (λ fs. rw (h, ne-eqb (z .count) 0 e))
+
+  pub at-20-left : {p : Node} {r : Decision} → th .place ≡ 20 → p ≡ n (th .parent) → p .left ≡ th .base → Decides th r (λ h. goes (toSide 22 true h)) → Decides th r (step (placeOf (th .place)) (sight n root used ks sh z))
   unfolding step ite
   at-20-left h e k q = onward q (λ fs. rw (h, ← e, eq-eqb _ _ k))
 
-  pub at-20-other : {p : Node} {r : Decision} → th .place ≡ 20 → p ≡ n (th .parent) → (p .left ≡ th .base → ⊥) → Decides th r (λ h. goes (to 21 h)) → Decides th r (step (placeOf (th .place)) (sight n root used ks sh))
+  pub at-20-other : {p : Node} {r : Decision} → th .place ≡ 20 → p ≡ n (th .parent) → (p .left ≡ th .base → ⊥) → Decides th r (λ h. goes (to 21 h)) → Decides th r (step (placeOf (th .place)) (sight n root used ks sh z))
   unfolding step ite
   at-20-other h e k q = onward q (λ fs. rw (h, ← e, ne-eqb _ _ k))
 
-  pub at-21-right : {p : Node} {r : Decision} → th .place ≡ 21 → p ≡ n (th .parent) → p .right ≡ th .base → Decides th r (λ h. goes (toSide 22 false h)) → Decides th r (step (placeOf (th .place)) (sight n root used ks sh))
+  pub at-21-right : {p : Node} {r : Decision} → th .place ≡ 21 → p ≡ n (th .parent) → p .right ≡ th .base → Decides th r (λ h. goes (toSide 22 false h)) → Decides th r (step (placeOf (th .place)) (sight n root used ks sh z))
   unfolding step ite
   at-21-right h e k q = onward q (λ fs. rw (h, ← e, eq-eqb _ _ k))
 
-  pub at-21-gone : {p : Node} {r : Decision} → th .place ≡ 21 → p ≡ n (th .parent) → (p .right ≡ th .base → ⊥) → Decides th r (λ h. says Lost) → Decides th r (step (placeOf (th .place)) (sight n root used ks sh))
+  pub at-21-gone : {p : Node} {r : Decision} → th .place ≡ 21 → p ≡ n (th .parent) → (p .right ≡ th .base → ⊥) → Decides th r (λ h. says Lost) → Decides th r (step (placeOf (th .place)) (sight n root used ks sh z))
   unfolding step ite
   at-21-gone h e k q = onward q (λ fs. rw (h, ← e, ne-eqb _ _ k))
 
-  pub at-22 : {p : Node} {x : ℕ} {r : Decision} → th .place ≡ 22 → p ≡ n (th .parent) → x ≡ kidOf (not (th .left)) p → Decides th r (besides n x) → Decides th r (step (placeOf (th .place)) (sight n root used ks sh))
+  pub at-22 : {p : Node} {x : ℕ} {r : Decision} → th .place ≡ 22 → p ≡ n (th .parent) → x ≡ kidOf (not (th .left)) p → Decides th r (besides n x) → Decides th r (step (placeOf (th .place)) (sight n root used ks sh z))
   unfolding step besides
   at-22 h e i q = onward q (λ fs. rw (h, ← e, i))
 
-  pub at-23 : {p : Node} {x : ℕ} {r : Decision} → th .place ≡ 23 → p ≡ n (th .route) → x ≡ kidOf (th .left) p → Decides th r (besides n x) → Decides th r (step (placeOf (th .place)) (sight n root used ks sh))
+  pub at-23 : {p : Node} {x : ℕ} {r : Decision} → th .place ≡ 23 → p ≡ n (th .route) → x ≡ kidOf (th .left) p → Decides th r (besides n x) → Decides th r (step (placeOf (th .place)) (sight n root used ks sh z))
   unfolding step besides
   at-23 h e i q = onward q (λ fs. rw (h, ← e, i))
 
-  pub at-24-free : {c : Check} {k : Bool} {r : Decision} → th .place ≡ 24 → c ≡ check n ks (th .found) → k ≡ isReplaceable c → k ≡ true → Decides th r (λ h. goes (to 25 h)) → Decides th r (step (placeOf (th .place)) (sight n root used ks sh))
+  pub at-24-free : {c : Check} {k : Bool} {r : Decision} → th .place ≡ 24 → c ≡ check n ks (th .found) → k ≡ isReplaceable c → k ≡ true → Decides th r (λ h. goes (to 25 h)) → Decides th r (step (placeOf (th .place)) (sight n root used ks sh z))
   unfolding step replaceable ite
   at-24-free h e i t q = onward q (λ fs. rw (h, ← e, ← i, t))
 
-  pub at-24-busy : {c : Check} {k : Bool} {r : Decision} → th .place ≡ 24 → c ≡ check n ks (th .found) → k ≡ isReplaceable c → k ≡ false → Decides th r (λ h. says NeighbourBlocked) → Decides th r (step (placeOf (th .place)) (sight n root used ks sh))
+  pub at-24-busy : {c : Check} {k : Bool} {r : Decision} → th .place ≡ 24 → c ≡ check n ks (th .found) → k ≡ isReplaceable c → k ≡ false → Decides th r (λ h. says NeighbourBlocked) → Decides th r (step (placeOf (th .place)) (sight n root used ks sh z))
   unfolding step replaceable ite
   at-24-busy h e i t q = onward q (λ fs. rw (h, ← e, ← i, t))
 
-  pub at-25 : {r : Decision} → 20 ≤ th .place → th .place < 26 → (th .place ≡ 20 → ⊥) → (th .place ≡ 21 → ⊥) → (th .place ≡ 22 → ⊥) → (th .place ≡ 23 → ⊥) → (th .place ≡ 24 → ⊥) → Decides th r (hooked n used) → Decides th r (step (placeOf (th .place)) (sight n root used ks sh))
+  pub at-25 : {r : Decision} → 19 ≤ th .place → th .place < 26 → (th .place ≡ 19 → ⊥) → (th .place ≡ 20 → ⊥) → (th .place ≡ 21 → ⊥) → (th .place ≡ 22 → ⊥) → (th .place ≡ 23 → ⊥) → (th .place ≡ 24 → ⊥) → Decides th r (hooked n used) → Decides th r (step (placeOf (th .place)) (sight n root used ks sh z))
   unfolding step
-  at-25 l m f g h i j q = onward q (λ fs. rw (last (past 24 (past 23 (past 22 (past 21 (past 20 l f) g) h) i) j) m))
+  at-25 l m e f g h i j q = onward q (λ fs. rw (last (past 24 (past 23 (past 22 (past 21 (past 20 (past 19 l e) f) g) h) i) j) m))
 
   -- ---- 30 to 38
-  pub at-30 : {r : Decision} → th .place ≡ 30 → Decides th r (marking n (th .parent) 31 38) → Decides th r (step (placeOf (th .place)) (sight n root used ks sh))
+  pub at-30 : {r : Decision} → th .place ≡ 30 → Decides th r (marking n (th .parent) 31 38) → Decides th r (step (placeOf (th .place)) (sight n root used ks sh z))
   unfolding step
   at-30 h q = onward q (λ fs. rw h)
 
-  pub at-31 : {r : Decision} → th .place ≡ 31 → Decides th r (topped n root) → Decides th r (step (placeOf (th .place)) (sight n root used ks sh))
+  pub at-31 : {r : Decision} → th .place ≡ 31 → Decides th r (topped n root) → Decides th r (step (placeOf (th .place)) (sight n root used ks sh z))
   unfolding step
   at-31 h q = onward q (λ fs. rw h)
 
-  pub at-32 : {p b : Node} {x : ℕ} {r : Decision} → th .place ≡ 32 → p ≡ n (th .parent) → b ≡ n (th .route) → x ≡ childFor (p .key) b → Decides th r (climbed n x) → Decides th r (step (placeOf (th .place)) (sight n root used ks sh))
+  pub at-32 : {p b : Node} {x : ℕ} {r : Decision} → th .place ≡ 32 → p ≡ n (th .parent) → b ≡ n (th .route) → x ≡ childFor (p .key) b → Decides th r (climbed n x) → Decides th r (step (placeOf (th .place)) (sight n root used ks sh z))
   unfolding step
   at-32 h e f i q = onward q (λ fs. rw (h, ← e, ← f, i))
 
-  pub at-33 : {r : Decision} → th .place ≡ 33 → Decides th r (grandMarking (th .grandparent) n) → Decides th r (step (placeOf (th .place)) (sight n root used ks sh))
+  pub at-33 : {r : Decision} → th .place ≡ 33 → Decides th r (grandMarking (th .grandparent) n) → Decides th r (step (placeOf (th .place)) (sight n root used ks sh z))
   unfolding step
   at-33 h q = onward q (λ fs. rw h)
 
-  pub at-34 : {p : Node} {x : ℕ} {r : Decision} → th .place ≡ 34 → p ≡ n (th .parent) → x ≡ kidOf (not (th .left)) p → Decides th r (λ h. goes (toOther 35 x h)) → Decides th r (step (placeOf (th .place)) (sight n root used ks sh))
+  pub at-34 : {p : Node} {x : ℕ} {r : Decision} → th .place ≡ 34 → p ≡ n (th .parent) → x ≡ kidOf (not (th .left)) p → Decides th r (λ h. goes (toOther 35 x h)) → Decides th r (step (placeOf (th .place)) (sight n root used ks sh z))
   unfolding step
   at-34 h e i q = onward q (λ fs. rw (h, ← e, i))
 
-  pub at-35 : {r : Decision} → th .place ≡ 35 → Decides th r (closed n used) → Decides th r (step (placeOf (th .place)) (sight n root used ks sh))
+  pub at-35 : {r : Decision} → th .place ≡ 35 → Decides th r (closed n used) → Decides th r (step (placeOf (th .place)) (sight n root used ks sh z))
   unfolding step
   at-35 h q = onward q (λ fs. rw h)
 
-  pub at-36 : {o : Effect} {r : Decision} → th .place ≡ 36 → o ≡ unmark (th .grandparent) → Decides th r (λ h. Moves (to 37 h) o) → Decides th r (step (placeOf (th .place)) (sight n root used ks sh))
+  pub at-36 : {o : Effect} {r : Decision} → th .place ≡ 36 → o ≡ unmark (th .grandparent) → Decides th r (λ h. Moves (to 37 h) o) → Decides th r (step (placeOf (th .place)) (sight n root used ks sh z))
   unfolding step
   at-36 h i q = onward q (λ fs. rw (i, h))
 
-  pub at-37 : {r : Decision} → th .place ≡ 37 → Decides th r (λ h. Moves (to 38 h) (Mark (th .parent) Nil)) → Decides th r (step (placeOf (th .place)) (sight n root used ks sh))
+  pub at-37 : {r : Decision} → th .place ≡ 37 → Decides th r (λ h. Moves (to 38 h) (Mark (th .parent) Nil)) → Decides th r (step (placeOf (th .place)) (sight n root used ks sh z))
   unfolding step
   at-37 h q = onward q (λ fs. rw h)
 
-  pub at-38 : {r : Decision} → th .place ≡ 38 → Decides th r (λ h. Finishes (Settle (th .main) Aborted) StoodDown) → Decides th r (step (placeOf (th .place)) (sight n root used ks sh))
+  pub at-38 : {r : Decision} → th .place ≡ 38 → Decides th r (λ h. Finishes (Settle (th .main) Aborted) StoodDown) → Decides th r (step (placeOf (th .place)) (sight n root used ks sh z))
   unfolding step
   at-38 h q = onward q (λ fs. rw h)
 
-  pub at-39 : {r : Decision} → 30 ≤ th .place → th .place < 40 → (th .place ≡ 30 → ⊥) → (th .place ≡ 31 → ⊥) → (th .place ≡ 32 → ⊥) → (th .place ≡ 33 → ⊥) → (th .place ≡ 34 → ⊥) → (th .place ≡ 35 → ⊥) → (th .place ≡ 36 → ⊥) → (th .place ≡ 37 → ⊥) → (th .place ≡ 38 → ⊥) → Decides th r goes → Decides th r (step (placeOf (th .place)) (sight n root used ks sh))
+  pub at-39 : {r : Decision} → 30 ≤ th .place → th .place < 40 → (th .place ≡ 30 → ⊥) → (th .place ≡ 31 → ⊥) → (th .place ≡ 32 → ⊥) → (th .place ≡ 33 → ⊥) → (th .place ≡ 34 → ⊥) → (th .place ≡ 35 → ⊥) → (th .place ≡ 36 → ⊥) → (th .place ≡ 37 → ⊥) → (th .place ≡ 38 → ⊥) → Decides th r goes → Decides th r (step (placeOf (th .place)) (sight n root used ks sh z))
   unfolding step
   at-39 l m f₀ f₁ f₂ f₃ f₄ f₅ f₆ f₇ f₈ q = onward q (λ fs. rw (last (past 38 (past 37 (past 36 (past 35 (past 34 (past 33 (past 32 (past 31 (past 30 l f₀) f₁) f₂) f₃) f₄) f₅) f₆) f₇) f₈) m))
 
-pub ruleset approach-cases = (at-20-left, at-20-other, at-21-right, at-21-gone, at-22, at-23, at-24-free, at-24-busy, at-25)
+pub ruleset approach-cases = (at-19-none, at-19-some, at-20-left, at-20-other, at-21-right, at-21-gone, at-22, at-23, at-24-free, at-24-busy, at-25)
 
 pub ruleset prepare-cases = (at-30, at-31, at-32, at-33, at-34, at-35, at-36, at-37, at-38, at-39)

@@ -25,6 +25,7 @@ use Rattle.definitions.specs.declared.Answer.{Answer}
 use Rattle.definitions.specs.declared.Answer.the-variants.{Yes}
 use Rattle.definitions.specs.Nodes.{Shapes, Stores}
 use Rattle.definitions.specs.Threads.{Frame, Turn, Moves, Finishes, Full}
+use Rattle.definitions.specs.declared.Stop.{Stop}
 use Rattle.definitions.specs.Bench.{sight}
 use Rattle.definitions.specs.Places.{quarterOf, quarterNumber, swap, own, found, united, to, toNeighbour}
 use Rattle.definitions.specs.Answers.{said}
@@ -148,51 +149,51 @@ module _ (v : Spot) (b : Node) (u : ℕ) (th : Notes) where
   parted e h k q = onward q (λ fs. rw k (has-room 3 u _ (omega arith) ∙ as-replaced fs e))
 
 -- ---- 10 to 13: b is the thread's base, w what is seen
-module _ (ns : Shapes) (root u : ℕ) (ks : Stores) (sh : ℕ) (th : Notes) (q : Quarter) {b : Node} {w : Probe} (e : b ≡ ns (th .base)) (s : w ≡ probe q (b .parent) ns root (th .base)) where
-  as-own : (fs : List Frame) {a : Probe} → w ≡ a → ownBy a b u (thread th fs) ≡ step (swap own q) (sight ns root u ks sh) (thread th fs)
+module _ (ns : Shapes) (root u : ℕ) (ks : Stores) (sh : ℕ) (z : Stop) (th : Notes) (q : Quarter) {b : Node} {w : Probe} (e : b ≡ ns (th .base)) (s : w ≡ probe q (b .parent) ns root (th .base)) where
+  as-own : (fs : List Frame) {a : Probe} → w ≡ a → ownBy a b u (thread th fs) ≡ step (swap own q) (sight ns root u ks sh z) (thread th fs)
   unfolding step
   as-own fs d = rw (← d, s, e)
 
-  pub own-hit : {v : Spot} {r : Decision} → w ≡ Hit v → Decides th r (replaced v b u) → Decides th r (step (swap own q) (sight ns root u ks sh))
+  pub own-hit : {v : Spot} {r : Decision} → w ≡ Hit v → Decides th r (replaced v b u) → Decides th r (step (swap own q) (sight ns root u ks sh z))
   own-hit d i = onward i (λ fs. as-own fs d)
 
-  pub own-next : {k : Quarter} {p : ℕ} {r : Decision} → w ≡ Next k → p ≡ 10 + quarterNumber k → Decides th r (λ h. goes (to p h)) → Decides th r (step (swap own q) (sight ns root u ks sh))
+  pub own-next : {k : Quarter} {p : ℕ} {r : Decision} → w ≡ Next k → p ≡ 10 + quarterNumber k → Decides th r (λ h. goes (to p h)) → Decides th r (step (swap own q) (sight ns root u ks sh z))
   own-next d i j = onward j (λ fs. rw i (as-own fs d))
 
-  pub own-miss : {r : Decision} → w ≡ Miss → Decides th r lost → Decides th r (step (swap own q) (sight ns root u ks sh))
+  pub own-miss : {r : Decision} → w ≡ Miss → Decides th r lost → Decides th r (step (swap own q) (sight ns root u ks sh z))
   own-miss d i = onward i (λ fs. as-own fs d)
 
 -- ---- 26 to 29: b is the base found
-module _ (ns : Shapes) (root u : ℕ) (ks : Stores) (sh : ℕ) (th : Notes) (q : Quarter) {b : Node} {w : Probe} (e : b ≡ ns (th .found)) (s : w ≡ probe q (b .parent) ns root (th .found)) where
-  as-found : (fs : List Frame) {a : Probe} → w ≡ a → foundBy a b u (thread th fs) ≡ step (swap found q) (sight ns root u ks sh) (thread th fs)
+module _ (ns : Shapes) (root u : ℕ) (ks : Stores) (sh : ℕ) (z : Stop) (th : Notes) (q : Quarter) {b : Node} {w : Probe} (e : b ≡ ns (th .found)) (s : w ≡ probe q (b .parent) ns root (th .found)) where
+  as-found : (fs : List Frame) {a : Probe} → w ≡ a → foundBy a b u (thread th fs) ≡ step (swap found q) (sight ns root u ks sh z) (thread th fs)
   unfolding step
   as-found fs d = rw (← d, s, e)
 
-  pub found-full : {v : Spot} {r : Decision} → w ≡ Hit v → 255 < u → Decides th r (λ h. Full) → Decides th r (step (swap found q) (sight ns root u ks sh))
+  pub found-full : {v : Spot} {r : Decision} → w ≡ Hit v → 255 < u → Decides th r (λ h. Full) → Decides th r (step (swap found q) (sight ns root u ks sh z))
   found-full d h i = onward i (λ fs. no-room 1 u _ (omega arith) ∙ as-found fs d)
 
-  pub found-hit : {v : Spot} {r : Decision} → w ≡ Hit v → u ≤ 255 → Decides th r (λ h. Moves (toNeighbour 30 u h) (Base v u Neighbour (b .parent) (Of (th .found)) (th .main))) → Decides th r (step (swap found q) (sight ns root u ks sh))
+  pub found-hit : {v : Spot} {r : Decision} → w ≡ Hit v → u ≤ 255 → Decides th r (λ h. Moves (toNeighbour 30 u h) (Base v u Neighbour (b .parent) (Of (th .found)) (th .main))) → Decides th r (step (swap found q) (sight ns root u ks sh z))
   found-hit d h i = onward i (λ fs. has-room 1 u _ (omega arith) ∙ as-found fs d)
 
-  pub found-next : {k : Quarter} {p : ℕ} {r : Decision} → w ≡ Next k → p ≡ 26 + quarterNumber k → Decides th r (λ h. goes (to p h)) → Decides th r (step (swap found q) (sight ns root u ks sh))
+  pub found-next : {k : Quarter} {p : ℕ} {r : Decision} → w ≡ Next k → p ≡ 26 + quarterNumber k → Decides th r (λ h. goes (to p h)) → Decides th r (step (swap found q) (sight ns root u ks sh z))
   found-next d i j = onward j (λ fs. rw i (as-found fs d))
 
-  pub found-miss : {r : Decision} → w ≡ Miss → Decides th r (λ h. goes (to 38 h)) → Decides th r (step (swap found q) (sight ns root u ks sh))
+  pub found-miss : {r : Decision} → w ≡ Miss → Decides th r (λ h. goes (to 38 h)) → Decides th r (step (swap found q) (sight ns root u ks sh z))
   found-miss d i = onward i (λ fs. as-found fs d)
 
 -- ---- 41 to 44: m is the main, b its neighbour
-module _ (ns : Shapes) (root u : ℕ) (ks : Stores) (sh : ℕ) (th : Notes) (q : Quarter) {m b : Node} {w : Probe} (f : m ≡ ns (th .main)) (e : b ≡ ns (m .neighbour)) (s : w ≡ probe q (b .parent) ns root (m .neighbour)) where
-  as-united : (fs : List Frame) {a : Probe} → w ≡ a → unitedBy a m (thread th fs) ≡ step (swap united q) (sight ns root u ks sh) (thread th fs)
+module _ (ns : Shapes) (root u : ℕ) (ks : Stores) (sh : ℕ) (z : Stop) (th : Notes) (q : Quarter) {m b : Node} {w : Probe} (f : m ≡ ns (th .main)) (e : b ≡ ns (m .neighbour)) (s : w ≡ probe q (b .parent) ns root (m .neighbour)) where
+  as-united : (fs : List Frame) {a : Probe} → w ≡ a → unitedBy a m (thread th fs) ≡ step (swap united q) (sight ns root u ks sh z) (thread th fs)
   unfolding step
   as-united fs d = rw (← d, s, e, f)
 
-  pub united-hit : {v : Spot} {r : Decision} → w ≡ Hit v → Decides th r (λ h. Moves (to 45 h) (Swing v (m .union))) → Decides th r (step (swap united q) (sight ns root u ks sh))
+  pub united-hit : {v : Spot} {r : Decision} → w ≡ Hit v → Decides th r (λ h. Moves (to 45 h) (Swing v (m .union))) → Decides th r (step (swap united q) (sight ns root u ks sh z))
   united-hit d i = onward i (λ fs. as-united fs d)
 
-  pub united-next : {k : Quarter} {p : ℕ} {r : Decision} → w ≡ Next k → p ≡ 41 + quarterNumber k → Decides th r (λ h. goes (to p h)) → Decides th r (step (swap united q) (sight ns root u ks sh))
+  pub united-next : {k : Quarter} {p : ℕ} {r : Decision} → w ≡ Next k → p ≡ 41 + quarterNumber k → Decides th r (λ h. goes (to p h)) → Decides th r (step (swap united q) (sight ns root u ks sh z))
   united-next d i j = onward j (λ fs. rw i (as-united fs d))
 
-  pub united-miss : {r : Decision} → w ≡ Miss → Decides th r (λ h. goes (to 45 h)) → Decides th r (step (swap united q) (sight ns root u ks sh))
+  pub united-miss : {r : Decision} → w ≡ Miss → Decides th r (λ h. goes (to 45 h)) → Decides th r (step (swap united q) (sight ns root u ks sh z))
   united-miss d i = onward i (λ fs. as-united fs d)
 
 pub ruleset look-cases = (root-hit, root-miss, root-left, root-read, root-right, left-seen, left-unseen, left-hit, left-miss, right-seen, right-unseen, right-hit, right-miss)

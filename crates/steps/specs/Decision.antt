@@ -3,11 +3,13 @@ use Prim.Native.Nat.{ℕ, zero, suc}
 use mathlib.Core.Path.{_≡_}
 use mathlib.Core.Bool.{Bool, true, false}
 use mathlib.Core.List.{List, [], _∷_}
-use Rattle.definitions.specs.Nodes.{Shapes}
+use lib.Dec.{eqb}
+use Rattle.container.specs.Choice.{ite}
+use Rattle.definitions.specs.Nodes.{Shapes, childFor}
 use Rattle.definitions.specs.Threads.{Frame, Thread, newFrame, Turn, Moves, Finishes, Finds, Full, NoStore}
 use Rattle.definitions.specs.Frames.{back}
 use Rattle.definitions.specs.Places.{to, toRoute, toBase, toParent, toSide, toFound, toNeighbour, toMain, toGrandparent, toOther, toFrames}
-use Rattle.definitions.specs.Steps.{reached, beside}
+use Rattle.definitions.specs.Steps.{goes, reached, onward, oneMore, followed, atLeaf, beside}
 use Rattle.definitions.specs.declared.Link.the-variants.{Nil, To}
 use Rattle.definitions.specs.declared.Effect.{Effect}
 use Rattle.definitions.specs.declared.Effect.the-variants.{Quiet}
@@ -21,7 +23,7 @@ use Rattle.steps.specs.declared.Decision.{Decision}
 
 -- the thread with these notes and these frames
 abbrev pub thread : Notes → List Frame → Thread
-thread n fs = record { action = n .action; station = n .station; extra = n .extra; place = n .place; route = n .route; base = n .base; parent = n .parent; left = n .left; found = n .found; neighbour = n .neighbour; main = n .main; owner = n .owner; grandparent = n .grandparent; other = n .other; frames = fs }
+thread n fs = record { action = n .action; station = n .station; extra = n .extra; place = n .place; route = n .route; read = n .read; base = n .base; parent = n .parent; left = n .left; found = n .found; neighbour = n .neighbour; main = n .main; owner = n .owner; grandparent = n .grandparent; other = n .other; frames = fs }
 
 -- the thread th at the place p, with the value v noted, or with a new frame on top of the others
 abbrev pub noted : Note → Frame → ℕ → ℕ → Thread → Thread
@@ -76,5 +78,28 @@ pub record Decides (n : Notes) (d : Decision) (f : Thread → Turn) : Type 0 whe
 unfoldable pub reaching : Shapes → ℕ → Thread → Turn
 reaching n x th = reached n th x
 
+unfoldable pub following : Bool → Shapes → ℕ → Thread → Turn
+following on n x th = followed on n th x
+
 unfoldable pub besides : Shapes → ℕ → Thread → Turn
 besides n x th = beside n th x
+
+-- ---- the stop
+
+-- the routes read since 1, after a step at the place p, 1 or 2, with the stop on
+unfoldable pub readAt : ℕ → ℕ → ℕ
+readAt p k = ite (eqb p 2) (oneMore k) 0
+
+-- what 1 and 2 decide of a thread that has noted them
+unfoldable pub finding : ℕ → Bool → Shapes → ℕ → Thread → Turn
+finding p on n root th = ite (eqb p 1) (reached n th root) (ite (eqb p 2) (followed on n th (childFor (th .station) (n (th .route)))) (goes th))
+
+-- 4 and 5 but for the count
+unfoldable pub passing : Shapes → ℕ → Thread → Turn
+passing n x th = onward Quiet n th x
+
+unfoldable pub releasing : Shapes → Thread → Turn
+releasing n th = atLeaf (th .action) n th (th .base)
+
+unfoldable pub counting : ℕ → Shapes → Thread → Turn
+counting p n th = ite (eqb p 4) (onward Quiet n th (th .route)) (ite (eqb p 5) (atLeaf (th .action) n th (th .base)) (goes th))

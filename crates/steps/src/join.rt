@@ -1,10 +1,10 @@
-// 20 to 38: a join, until its stage is a node number or it stands down.
+// 19 to 38: a join, until its stage is a node number or it stands down.
 ghost use mathlib.Core.Path.{_≡_};
 ghost use mathlib.Core.List.{[]};
 ghost use Prim.Native.Nat.{_<_, _≤_};
 ghost use Rattle.nodes.specs.Cells.{table};
 ghost use Rattle.nodes.specs.Stores.{stores};
-ghost use Rattle.definitions.specs.Bench.{sight};
+ghost use Rattle.definitions.specs.Bench.{stop, sight};
 ghost use Rattle.definitions.specs.Places.{placeOf};
 ghost use Rattle.definitions.specs.Steps.{hooked, isNil, marking, topped, climbed, unionParent, closed, unmark, grandMarking, step};
 ghost use Rattle.effects.specs.Writes.{effectOf};
@@ -64,7 +64,7 @@ pub fn hook(cells: &[u8; 5120], sets: &[u64; 256], used: u16, th: Notes) -> Deci
     turns::say(th, Answer::Lost)
 }
 
-// 20 to 25.
+// 19 to 25; 19 with the stop on alone.
 pub fn approach(
     cells: &[u8; 5120],
     sets: &[u64; 256],
@@ -73,13 +73,22 @@ pub fn approach(
     root: u8,
     used: u16,
     shown: u16,
+    on: bool,
+    count: usize,
     th: Notes,
 ) -> Decision
-    requires { ⌜ (20 ≤ th .place) × (th .place < 26) ⌝ }
-    ensures { λ r. ⌜ Decides th r (step (placeOf (th .place)) (sight (table (now (cells .entry)) (now (sets .entry))) root used (stores (now (flags .entry)) (now (results .entry))) shown)) ⌝ }
+    requires { ⌜ (19 ≤ th .place) × (th .place < 26) ⌝ }
+    ensures { λ r. ⌜ Decides th r (step (placeOf (th .place)) (sight (table (now (cells .entry)) (now (sets .entry))) root used (stores (now (flags .entry)) (now (results .entry))) shown (stop on count))) ⌝ }
 {
     let place = th.place;
     match place {
+        19 => {
+            if count == 0 {
+                turns::go(th, 20)
+            } else {
+                turns::say(th, Answer::Stopped)
+            }
+        }
         20 => {
             let p = nodes::node_at(cells, sets, th.parent);
             if p.left == th.base {
@@ -264,10 +273,12 @@ pub fn prepare(
     root: u8,
     used: u16,
     shown: u16,
+    on: bool,
+    count: usize,
     th: Notes,
 ) -> Decision
     requires { ⌜ (30 ≤ th .place) × (th .place < 40) ⌝ }
-    ensures { λ r. ⌜ Decides th r (step (placeOf (th .place)) (sight (table (now (cells .entry)) (now (sets .entry))) root used (stores (now (flags .entry)) (now (results .entry))) shown)) ⌝ }
+    ensures { λ r. ⌜ Decides th r (step (placeOf (th .place)) (sight (table (now (cells .entry)) (now (sets .entry))) root used (stores (now (flags .entry)) (now (results .entry))) shown (stop on count))) ⌝ }
 {
     let place = th.place;
     match place {

@@ -3,7 +3,7 @@ ghost use mathlib.Core.Path.{_≡_};
 ghost use Prim.Native.Nat.{_+_, _<_};
 ghost use Rattle.nodes.specs.Cells.{table};
 ghost use Rattle.nodes.specs.Stores.{stores};
-ghost use Rattle.definitions.specs.Bench.{sight};
+ghost use Rattle.definitions.specs.Bench.{stop, sight};
 ghost use Rattle.definitions.specs.Places.{quarterOf, quarterNumber, swap, own, found, united};
 ghost use Rattle.definitions.specs.Steps.{probe, replaced, step};
 ghost use Rattle.steps.specs.Decision.{Decides};
@@ -186,10 +186,12 @@ pub fn own(
     root: u8,
     used: u16,
     shown: u16,
+    on: bool,
+    count: usize,
     th: Notes,
     q: Quarter,
 ) -> Decision
-    ensures { λ r. ⌜ Decides th r (step (swap own q) (sight (table (now (cells .entry)) (now (sets .entry))) root used (stores (now (flags .entry)) (now (results .entry))) shown)) ⌝ }
+    ensures { λ r. ⌜ Decides th r (step (swap own q) (sight (table (now (cells .entry)) (now (sets .entry))) root used (stores (now (flags .entry)) (now (results .entry))) shown (stop on count))) ⌝ }
 {
     let b = nodes::node_at(cells, sets, th.base);
     let parent = b.parent;
@@ -213,10 +215,12 @@ pub fn found(
     root: u8,
     used: u16,
     shown: u16,
+    on: bool,
+    count: usize,
     th: Notes,
     q: Quarter,
 ) -> Decision
-    ensures { λ r. ⌜ Decides th r (step (swap found q) (sight (table (now (cells .entry)) (now (sets .entry))) root used (stores (now (flags .entry)) (now (results .entry))) shown)) ⌝ }
+    ensures { λ r. ⌜ Decides th r (step (swap found q) (sight (table (now (cells .entry)) (now (sets .entry))) root used (stores (now (flags .entry)) (now (results .entry))) shown (stop on count))) ⌝ }
 {
     let b = nodes::node_at(cells, sets, th.found);
     let parent = b.parent;
@@ -258,10 +262,12 @@ pub fn united(
     root: u8,
     used: u16,
     shown: u16,
+    on: bool,
+    count: usize,
     th: Notes,
     q: Quarter,
 ) -> Decision
-    ensures { λ r. ⌜ Decides th r (step (swap united q) (sight (table (now (cells .entry)) (now (sets .entry))) root used (stores (now (flags .entry)) (now (results .entry))) shown)) ⌝ }
+    ensures { λ r. ⌜ Decides th r (step (swap united q) (sight (table (now (cells .entry)) (now (sets .entry))) root used (stores (now (flags .entry)) (now (results .entry))) shown (stop on count))) ⌝ }
 {
     let m = nodes::node_at(cells, sets, th.main);
     let b = nodes::node_at(cells, sets, m.neighbour);

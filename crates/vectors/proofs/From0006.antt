@@ -8,7 +8,7 @@ use Rattle.container.specs.Container.{has, insert, remove, union, cut, below, f
 use Rattle.container.specs.Depths.{put, takeOut, merge, within, lower, upper}
 use Rattle.definitions.specs.Nodes.{check, replaceable}
 use Rattle.definitions.specs.Frames.{between, reaches, adding, back}
-use Rattle.definitions.specs.Steps.{reached, blocked, lacks, cleared, lost, probe, replaced, beside, reachedFirst, reachedNext, step}
+use Rattle.definitions.specs.Steps.{reached, onward, followed, blocked, lacks, cleared, lost, probe, replaced, beside, reachedFirst, reachedNext, step}
 use Rattle.definitions.specs.Records.{taken, stepped, started, asked, recordStep}
 use Rattle.definitions.specs.Schedule.{countOf, recordAt, fileRefusal}
 use Rattle.definitions.specs.Run.{bytesOf, runRefusal}
@@ -66,7 +66,7 @@ text0006 =
     ∷ []
 
 computed0006 : quickPrinted (fileOf file0006) ≡ textOf text0006
-unfolding bytesOf recordAt between reaches adding back reachedFirst reachedNext asked put takeOut merge within lower upper depthText rowLine decimal stationsTo stationsText routeLine baseLine setLine listRefusal check replaceable actionWord firstLine lastLine taken stepped started recordStep runRefusal countOf fileRefusal reached blocked lacks cleared lost probe replaced beside step ite has insert remove union cut below from size least dropLeast upperHalf lowerHalf splitKey onesIn trailingZeros
+unfolding bytesOf recordAt between reaches adding back reachedFirst reachedNext asked put takeOut merge within lower upper depthText rowLine decimal stationsTo stationsText routeLine baseLine setLine listRefusal check replaceable actionWord firstLine lastLine taken stepped started recordStep runRefusal countOf fileRefusal reached onward followed blocked lacks cleared lost probe replaced beside step ite has insert remove union cut below from size least dropLeast upperHalf lowerHalf splitKey onesIn trailingZeros
 computed0006 = refl
 
 pub printed0006 : printed (fileOf file0006) ≡ textOf text0006
@@ -95,7 +95,7 @@ text0007 =
     ∷ []
 
 computed0007 : quickPrinted (fileOf file0007) ≡ textOf text0007
-unfolding bytesOf recordAt between reaches adding back reachedFirst reachedNext asked put takeOut merge within lower upper depthText rowLine decimal stationsTo stationsText routeLine baseLine setLine listRefusal check replaceable actionWord firstLine lastLine taken stepped started recordStep runRefusal countOf fileRefusal reached blocked lacks cleared lost probe replaced beside step ite has insert remove union cut below from size least dropLeast upperHalf lowerHalf splitKey onesIn trailingZeros
+unfolding bytesOf recordAt between reaches adding back reachedFirst reachedNext asked put takeOut merge within lower upper depthText rowLine decimal stationsTo stationsText routeLine baseLine setLine listRefusal check replaceable actionWord firstLine lastLine taken stepped started recordStep runRefusal countOf fileRefusal reached onward followed blocked lacks cleared lost probe replaced beside step ite has insert remove union cut below from size least dropLeast upperHalf lowerHalf splitKey onesIn trailingZeros
 computed0007 = refl
 
 pub printed0007 : printed (fileOf file0007) ≡ textOf text0007
@@ -145,7 +145,7 @@ text0008 =
     ∷ []
 
 computed0008 : quickPrinted (fileOf file0008) ≡ textOf text0008
-unfolding bytesOf recordAt between reaches adding back reachedFirst reachedNext asked put takeOut merge within lower upper depthText rowLine decimal stationsTo stationsText routeLine baseLine setLine listRefusal check replaceable actionWord firstLine lastLine taken stepped started recordStep runRefusal countOf fileRefusal reached blocked lacks cleared lost probe replaced beside step ite has insert remove union cut below from size least dropLeast upperHalf lowerHalf splitKey onesIn trailingZeros
+unfolding bytesOf recordAt between reaches adding back reachedFirst reachedNext asked put takeOut merge within lower upper depthText rowLine decimal stationsTo stationsText routeLine baseLine setLine listRefusal check replaceable actionWord firstLine lastLine taken stepped started recordStep runRefusal countOf fileRefusal reached onward followed blocked lacks cleared lost probe replaced beside step ite has insert remove union cut below from size least dropLeast upperHalf lowerHalf splitKey onesIn trailingZeros
 computed0008 = refl
 
 pub printed0008 : printed (fileOf file0008) ≡ textOf text0008

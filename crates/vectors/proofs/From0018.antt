@@ -8,7 +8,7 @@ use Rattle.container.specs.Container.{has, insert, remove, union, cut, below, f
 use Rattle.container.specs.Depths.{put, takeOut, merge, within, lower, upper}
 use Rattle.definitions.specs.Nodes.{check, replaceable}
 use Rattle.definitions.specs.Frames.{between, reaches, adding, back}
-use Rattle.definitions.specs.Steps.{reached, blocked, lacks, cleared, lost, probe, replaced, beside, reachedFirst, reachedNext, step}
+use Rattle.definitions.specs.Steps.{reached, onward, followed, blocked, lacks, cleared, lost, probe, replaced, beside, reachedFirst, reachedNext, step}
 use Rattle.definitions.specs.Records.{taken, stepped, started, asked, recordStep}
 use Rattle.definitions.specs.Schedule.{countOf, recordAt, fileRefusal}
 use Rattle.definitions.specs.Run.{bytesOf, runRefusal}
@@ -44,7 +44,7 @@ text0018 =
     ∷ []
 
 computed0018 : quickPrinted (fileOf file0018) ≡ textOf text0018
-unfolding bytesOf recordAt between reaches adding back reachedFirst reachedNext asked put takeOut merge within lower upper depthText rowLine decimal stationsTo stationsText routeLine baseLine setLine listRefusal check replaceable actionWord firstLine lastLine taken stepped started recordStep runRefusal countOf fileRefusal reached blocked lacks cleared lost probe replaced beside step ite has insert remove union cut below from size least dropLeast upperHalf lowerHalf splitKey onesIn trailingZeros
+unfolding bytesOf recordAt between reaches adding back reachedFirst reachedNext asked put takeOut merge within lower upper depthText rowLine decimal stationsTo stationsText routeLine baseLine setLine listRefusal check replaceable actionWord firstLine lastLine taken stepped started recordStep runRefusal countOf fileRefusal reached onward followed blocked lacks cleared lost probe replaced beside step ite has insert remove union cut below from size least dropLeast upperHalf lowerHalf splitKey onesIn trailingZeros
 computed0018 = refl
 
 pub printed0018 : printed (fileOf file0018) ≡ textOf text0018
@@ -269,7 +269,7 @@ text0019 =
     ∷ []
 
 computed0019 : quickPrinted (fileOf file0019) ≡ textOf text0019
-unfolding bytesOf recordAt between reaches adding back reachedFirst reachedNext asked put takeOut merge within lower upper depthText rowLine decimal stationsTo stationsText routeLine baseLine setLine listRefusal check replaceable actionWord firstLine lastLine taken stepped started recordStep runRefusal countOf fileRefusal reached blocked lacks cleared lost probe replaced beside step ite has insert remove union cut below from size least dropLeast upperHalf lowerHalf splitKey onesIn trailingZeros
+unfolding bytesOf recordAt between reaches adding back reachedFirst reachedNext asked put takeOut merge within lower upper depthText rowLine decimal stationsTo stationsText routeLine baseLine setLine listRefusal check replaceable actionWord firstLine lastLine taken stepped started recordStep runRefusal countOf fileRefusal reached onward followed blocked lacks cleared lost probe replaced beside step ite has insert remove union cut below from size least dropLeast upperHalf lowerHalf splitKey onesIn trailingZeros
 computed0019 = refl
 
 pub printed0019 : printed (fileOf file0019) ≡ textOf text0019
@@ -303,7 +303,7 @@ text0020 =
     ∷ []
 
 computed0020 : quickPrinted (fileOf file0020) ≡ textOf text0020
-unfolding bytesOf recordAt between reaches adding back reachedFirst reachedNext asked put takeOut merge within lower upper depthText rowLine decimal stationsTo stationsText routeLine baseLine setLine listRefusal check replaceable actionWord firstLine lastLine taken stepped started recordStep runRefusal countOf fileRefusal reached blocked lacks cleared lost probe replaced beside step ite has insert remove union cut below from size least dropLeast upperHalf lowerHalf splitKey onesIn trailingZeros
+unfolding bytesOf recordAt between reaches adding back reachedFirst reachedNext asked put takeOut merge within lower upper depthText rowLine decimal stationsTo stationsText routeLine baseLine setLine listRefusal check replaceable actionWord firstLine lastLine taken stepped started recordStep runRefusal countOf fileRefusal reached onward followed blocked lacks cleared lost probe replaced beside step ite has insert remove union cut below from size least dropLeast upperHalf lowerHalf splitKey onesIn trailingZeros
 computed0020 = refl
 
 pub printed0020 : printed (fileOf file0020) ≡ textOf text0020

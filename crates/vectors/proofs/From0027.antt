@@ -8,7 +8,7 @@ use Rattle.container.specs.Container.{has, insert, remove, union, cut, below, f
 use Rattle.container.specs.Depths.{put, takeOut, merge, within, lower, upper}
 use Rattle.definitions.specs.Nodes.{check, replaceable}
 use Rattle.definitions.specs.Frames.{between, reaches, adding, back}
-use Rattle.definitions.specs.Steps.{reached, blocked, lacks, cleared, lost, probe, replaced, beside, reachedFirst, reachedNext, step}
+use Rattle.definitions.specs.Steps.{reached, onward, followed, blocked, lacks, cleared, lost, probe, replaced, beside, reachedFirst, reachedNext, step}
 use Rattle.definitions.specs.Records.{taken, stepped, started, asked, recordStep}
 use Rattle.definitions.specs.Schedule.{countOf, recordAt, fileRefusal}
 use Rattle.definitions.specs.Run.{bytesOf, runRefusal}
@@ -47,7 +47,7 @@ text0027 =
     ∷ []
 
 computed0027 : quickPrinted (fileOf file0027) ≡ textOf text0027
-unfolding bytesOf recordAt between reaches adding back reachedFirst reachedNext asked put takeOut merge within lower upper depthText rowLine decimal stationsTo stationsText routeLine baseLine setLine listRefusal check replaceable actionWord firstLine lastLine taken stepped started recordStep runRefusal countOf fileRefusal reached blocked lacks cleared lost probe replaced beside step ite has insert remove union cut below from size least dropLeast upperHalf lowerHalf splitKey onesIn trailingZeros
+unfolding bytesOf recordAt between reaches adding back reachedFirst reachedNext asked put takeOut merge within lower upper depthText rowLine decimal stationsTo stationsText routeLine baseLine setLine listRefusal check replaceable actionWord firstLine lastLine taken stepped started recordStep runRefusal countOf fileRefusal reached onward followed blocked lacks cleared lost probe replaced beside step ite has insert remove union cut below from size least dropLeast upperHalf lowerHalf splitKey onesIn trailingZeros
 computed0027 = refl
 
 pub printed0027 : printed (fileOf file0027) ≡ textOf text0027
@@ -76,7 +76,7 @@ text0028 =
     ∷ []
 
 computed0028 : quickPrinted (fileOf file0028) ≡ textOf text0028
-unfolding bytesOf recordAt between reaches adding back reachedFirst reachedNext asked put takeOut merge within lower upper depthText rowLine decimal stationsTo stationsText routeLine baseLine setLine listRefusal check replaceable actionWord firstLine lastLine taken stepped started recordStep runRefusal countOf fileRefusal reached blocked lacks cleared lost probe replaced beside step ite has insert remove union cut below from size least dropLeast upperHalf lowerHalf splitKey onesIn trailingZeros
+unfolding bytesOf recordAt between reaches adding back reachedFirst reachedNext asked put takeOut merge within lower upper depthText rowLine decimal stationsTo stationsText routeLine baseLine setLine listRefusal check replaceable actionWord firstLine lastLine taken stepped started recordStep runRefusal countOf fileRefusal reached onward followed blocked lacks cleared lost probe replaced beside step ite has insert remove union cut below from size least dropLeast upperHalf lowerHalf splitKey onesIn trailingZeros
 computed0028 = refl
 
 pub printed0028 : printed (fileOf file0028) ≡ textOf text0028
@@ -285,7 +285,7 @@ text0029 =
     ∷ []
 
 computed0029 : quickPrinted (fileOf file0029) ≡ textOf text0029
-unfolding bytesOf recordAt between reaches adding back reachedFirst reachedNext asked put takeOut merge within lower upper depthText rowLine decimal stationsTo stationsText routeLine baseLine setLine listRefusal check replaceable actionWord firstLine lastLine taken stepped started recordStep runRefusal countOf fileRefusal reached blocked lacks cleared lost probe replaced beside step ite has insert remove union cut below from size least dropLeast upperHalf lowerHalf splitKey onesIn trailingZeros
+unfolding bytesOf recordAt between reaches adding back reachedFirst reachedNext asked put takeOut merge within lower upper depthText rowLine decimal stationsTo stationsText routeLine baseLine setLine listRefusal check replaceable actionWord firstLine lastLine taken stepped started recordStep runRefusal countOf fileRefusal reached onward followed blocked lacks cleared lost probe replaced beside step ite has insert remove union cut below from size least dropLeast upperHalf lowerHalf splitKey onesIn trailingZeros
 computed0029 = refl
 
 pub printed0029 : printed (fileOf file0029) ≡ textOf text0029

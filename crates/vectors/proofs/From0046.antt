@@ -8,7 +8,7 @@ use Rattle.container.specs.Container.{has, insert, remove, union, cut, below, f
 use Rattle.container.specs.Depths.{put, takeOut, merge, within, lower, upper}
 use Rattle.definitions.specs.Nodes.{check, replaceable}
 use Rattle.definitions.specs.Frames.{between, reaches, adding, back}
-use Rattle.definitions.specs.Steps.{reached, blocked, lacks, cleared, lost, probe, replaced, beside, reachedFirst, reachedNext, step}
+use Rattle.definitions.specs.Steps.{reached, onward, followed, blocked, lacks, cleared, lost, probe, replaced, beside, reachedFirst, reachedNext, step}
 use Rattle.definitions.specs.Records.{taken, stepped, started, asked, recordStep}
 use Rattle.definitions.specs.Schedule.{countOf, recordAt, fileRefusal}
 use Rattle.definitions.specs.Run.{bytesOf, runRefusal}
@@ -42,7 +42,7 @@ text0046 =
     ∷ []
 
 computed0046 : quickPrinted (fileOf file0046) ≡ textOf text0046
-unfolding bytesOf recordAt between reaches adding back reachedFirst reachedNext asked put takeOut merge within lower upper depthText rowLine decimal stationsTo stationsText routeLine baseLine setLine listRefusal check replaceable actionWord firstLine lastLine taken stepped started recordStep runRefusal countOf fileRefusal reached blocked lacks cleared lost probe replaced beside step ite has insert remove union cut below from size least dropLeast upperHalf lowerHalf splitKey onesIn trailingZeros
+unfolding bytesOf recordAt between reaches adding back reachedFirst reachedNext asked put takeOut merge within lower upper depthText rowLine decimal stationsTo stationsText routeLine baseLine setLine listRefusal check replaceable actionWord firstLine lastLine taken stepped started recordStep runRefusal countOf fileRefusal reached onward followed blocked lacks cleared lost probe replaced beside step ite has insert remove union cut below from size least dropLeast upperHalf lowerHalf splitKey onesIn trailingZeros
 computed0046 = refl
 
 pub printed0046 : printed (fileOf file0046) ≡ textOf text0046
@@ -92,7 +92,7 @@ text0047 =
     ∷ []
 
 computed0047 : quickPrinted (fileOf file0047) ≡ textOf text0047
-unfolding bytesOf recordAt between reaches adding back reachedFirst reachedNext asked put takeOut merge within lower upper depthText rowLine decimal stationsTo stationsText routeLine baseLine setLine listRefusal check replaceable actionWord firstLine lastLine taken stepped started recordStep runRefusal countOf fileRefusal reached blocked lacks cleared lost probe replaced beside step ite has insert remove union cut below from size least dropLeast upperHalf lowerHalf splitKey onesIn trailingZeros
+unfolding bytesOf recordAt between reaches adding back reachedFirst reachedNext asked put takeOut merge within lower upper depthText rowLine decimal stationsTo stationsText routeLine baseLine setLine listRefusal check replaceable actionWord firstLine lastLine taken stepped started recordStep runRefusal countOf fileRefusal reached onward followed blocked lacks cleared lost probe replaced beside step ite has insert remove union cut below from size least dropLeast upperHalf lowerHalf splitKey onesIn trailingZeros
 computed0047 = refl
 
 pub printed0047 : printed (fileOf file0047) ≡ textOf text0047
@@ -120,7 +120,7 @@ text0048 =
     ∷ []
 
 computed0048 : quickPrinted (fileOf file0048) ≡ textOf text0048
-unfolding bytesOf recordAt between reaches adding back reachedFirst reachedNext asked put takeOut merge within lower upper depthText rowLine decimal stationsTo stationsText routeLine baseLine setLine listRefusal check replaceable actionWord firstLine lastLine taken stepped started recordStep runRefusal countOf fileRefusal reached blocked lacks cleared lost probe replaced beside step ite has insert remove union cut below from size least dropLeast upperHalf lowerHalf splitKey onesIn trailingZeros
+unfolding bytesOf recordAt between reaches adding back reachedFirst reachedNext asked put takeOut merge within lower upper depthText rowLine decimal stationsTo stationsText routeLine baseLine setLine listRefusal check replaceable actionWord firstLine lastLine taken stepped started recordStep runRefusal countOf fileRefusal reached onward followed blocked lacks cleared lost probe replaced beside step ite has insert remove union cut below from size least dropLeast upperHalf lowerHalf splitKey onesIn trailingZeros
 computed0048 = refl
 
 pub printed0048 : printed (fileOf file0048) ≡ textOf text0048
@@ -268,7 +268,7 @@ text0049 =
     ∷ []
 
 computed0049 : quickPrinted (fileOf file0049) ≡ textOf text0049
-unfolding bytesOf recordAt between reaches adding back reachedFirst reachedNext asked put takeOut merge within lower upper depthText rowLine decimal stationsTo stationsText routeLine baseLine setLine listRefusal check replaceable actionWord firstLine lastLine taken stepped started recordStep runRefusal countOf fileRefusal reached blocked lacks cleared lost probe replaced beside step ite has insert remove union cut below from size least dropLeast upperHalf lowerHalf splitKey onesIn trailingZeros
+unfolding bytesOf recordAt between reaches adding back reachedFirst reachedNext asked put takeOut merge within lower upper depthText rowLine decimal stationsTo stationsText routeLine baseLine setLine listRefusal check replaceable actionWord firstLine lastLine taken stepped started recordStep runRefusal countOf fileRefusal reached onward followed blocked lacks cleared lost probe replaced beside step ite has insert remove union cut below from size least dropLeast upperHalf lowerHalf splitKey onesIn trailingZeros
 computed0049 = refl
 
 pub printed0049 : printed (fileOf file0049) ≡ textOf text0049
@@ -313,7 +313,7 @@ text0050 =
     ∷ []
 
 computed0050 : quickPrinted (fileOf file0050) ≡ textOf text0050
-unfolding bytesOf recordAt between reaches adding back reachedFirst reachedNext asked put takeOut merge within lower upper depthText rowLine decimal stationsTo stationsText routeLine baseLine setLine listRefusal check replaceable actionWord firstLine lastLine taken stepped started recordStep runRefusal countOf fileRefusal reached blocked lacks cleared lost probe replaced beside step ite has insert remove union cut below from size least dropLeast upperHalf lowerHalf splitKey onesIn trailingZeros
+unfolding bytesOf recordAt between reaches adding back reachedFirst reachedNext asked put takeOut merge within lower upper depthText rowLine decimal stationsTo stationsText routeLine baseLine setLine listRefusal check replaceable actionWord firstLine lastLine taken stepped started recordStep runRefusal countOf fileRefusal reached onward followed blocked lacks cleared lost probe replaced beside step ite has insert remove union cut below from size least dropLeast upperHalf lowerHalf splitKey onesIn trailingZeros
 computed0050 = refl
 
 pub printed0050 : printed (fileOf file0050) ≡ textOf text0050

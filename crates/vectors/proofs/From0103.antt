@@ -8,7 +8,7 @@ use Rattle.container.specs.Container.{has, insert, remove, union, cut, below, f
 use Rattle.container.specs.Depths.{put, takeOut, merge, within, lower, upper}
 use Rattle.definitions.specs.Nodes.{check, replaceable}
 use Rattle.definitions.specs.Frames.{between, reaches, adding, back}
-use Rattle.definitions.specs.Steps.{reached, blocked, lacks, cleared, lost, probe, replaced, beside, reachedFirst, reachedNext, step}
+use Rattle.definitions.specs.Steps.{reached, onward, followed, blocked, lacks, cleared, lost, probe, replaced, beside, reachedFirst, reachedNext, step}
 use Rattle.definitions.specs.Records.{taken, stepped, started, asked, recordStep}
 use Rattle.definitions.specs.Schedule.{countOf, recordAt, fileRefusal}
 use Rattle.definitions.specs.Run.{bytesOf, runRefusal}
@@ -35,7 +35,7 @@ text0103 =
     ∷ []
 
 computed0103 : quickPrinted (fileOf file0103) ≡ textOf text0103
-unfolding bytesOf recordAt between reaches adding back reachedFirst reachedNext asked put takeOut merge within lower upper depthText rowLine decimal stationsTo stationsText routeLine baseLine setLine listRefusal check replaceable actionWord firstLine lastLine taken stepped started recordStep runRefusal countOf fileRefusal reached blocked lacks cleared lost probe replaced beside step ite has insert remove union cut below from size least dropLeast upperHalf lowerHalf splitKey onesIn trailingZeros
+unfolding bytesOf recordAt between reaches adding back reachedFirst reachedNext asked put takeOut merge within lower upper depthText rowLine decimal stationsTo stationsText routeLine baseLine setLine listRefusal check replaceable actionWord firstLine lastLine taken stepped started recordStep runRefusal countOf fileRefusal reached onward followed blocked lacks cleared lost probe replaced beside step ite has insert remove union cut below from size least dropLeast upperHalf lowerHalf splitKey onesIn trailingZeros
 computed0103 = refl
 
 pub printed0103 : printed (fileOf file0103) ≡ textOf text0103
@@ -88,7 +88,7 @@ text0104 =
     ∷ []
 
 computed0104 : quickPrinted (fileOf file0104) ≡ textOf text0104
-unfolding bytesOf recordAt between reaches adding back reachedFirst reachedNext asked put takeOut merge within lower upper depthText rowLine decimal stationsTo stationsText routeLine baseLine setLine listRefusal check replaceable actionWord firstLine lastLine taken stepped started recordStep runRefusal countOf fileRefusal reached blocked lacks cleared lost probe replaced beside step ite has insert remove union cut below from size least dropLeast upperHalf lowerHalf splitKey onesIn trailingZeros
+unfolding bytesOf recordAt between reaches adding back reachedFirst reachedNext asked put takeOut merge within lower upper depthText rowLine decimal stationsTo stationsText routeLine baseLine setLine listRefusal check replaceable actionWord firstLine lastLine taken stepped started recordStep runRefusal countOf fileRefusal reached onward followed blocked lacks cleared lost probe replaced beside step ite has insert remove union cut below from size least dropLeast upperHalf lowerHalf splitKey onesIn trailingZeros
 computed0104 = refl
 
 pub printed0104 : printed (fileOf file0104) ≡ textOf text0104
@@ -124,7 +124,7 @@ text0105 =
     ∷ []
 
 computed0105 : quickPrinted (fileOf file0105) ≡ textOf text0105
-unfolding bytesOf recordAt between reaches adding back reachedFirst reachedNext asked put takeOut merge within lower upper depthText rowLine decimal stationsTo stationsText routeLine baseLine setLine listRefusal check replaceable actionWord firstLine lastLine taken stepped started recordStep runRefusal countOf fileRefusal reached blocked lacks cleared lost probe replaced beside step ite has insert remove union cut below from size least dropLeast upperHalf lowerHalf splitKey onesIn trailingZeros
+unfolding bytesOf recordAt between reaches adding back reachedFirst reachedNext asked put takeOut merge within lower upper depthText rowLine decimal stationsTo stationsText routeLine baseLine setLine listRefusal check replaceable actionWord firstLine lastLine taken stepped started recordStep runRefusal countOf fileRefusal reached onward followed blocked lacks cleared lost probe replaced beside step ite has insert remove union cut below from size least dropLeast upperHalf lowerHalf splitKey onesIn trailingZeros
 computed0105 = refl
 
 pub printed0105 : printed (fileOf file0105) ≡ textOf text0105
@@ -158,7 +158,7 @@ text0106 =
     ∷ []
 
 computed0106 : quickPrinted (fileOf file0106) ≡ textOf text0106
-unfolding bytesOf recordAt between reaches adding back reachedFirst reachedNext asked put takeOut merge within lower upper depthText rowLine decimal stationsTo stationsText routeLine baseLine setLine listRefusal check replaceable actionWord firstLine lastLine taken stepped started recordStep runRefusal countOf fileRefusal reached blocked lacks cleared lost probe replaced beside step ite has insert remove union cut below from size least dropLeast upperHalf lowerHalf splitKey onesIn trailingZeros
+unfolding bytesOf recordAt between reaches adding back reachedFirst reachedNext asked put takeOut merge within lower upper depthText rowLine decimal stationsTo stationsText routeLine baseLine setLine listRefusal check replaceable actionWord firstLine lastLine taken stepped started recordStep runRefusal countOf fileRefusal reached onward followed blocked lacks cleared lost probe replaced beside step ite has insert remove union cut below from size least dropLeast upperHalf lowerHalf splitKey onesIn trailingZeros
 computed0106 = refl
 
 pub printed0106 : printed (fileOf file0106) ≡ textOf text0106
@@ -224,8 +224,44 @@ text0107 =
     ∷ []
 
 computed0107 : quickPrinted (fileOf file0107) ≡ textOf text0107
-unfolding bytesOf recordAt between reaches adding back reachedFirst reachedNext asked put takeOut merge within lower upper depthText rowLine decimal stationsTo stationsText routeLine baseLine setLine listRefusal check replaceable actionWord firstLine lastLine taken stepped started recordStep runRefusal countOf fileRefusal reached blocked lacks cleared lost probe replaced beside step ite has insert remove union cut below from size least dropLeast upperHalf lowerHalf splitKey onesIn trailingZeros
+unfolding bytesOf recordAt between reaches adding back reachedFirst reachedNext asked put takeOut merge within lower upper depthText rowLine decimal stationsTo stationsText routeLine baseLine setLine listRefusal check replaceable actionWord firstLine lastLine taken stepped started recordStep runRefusal countOf fileRefusal reached onward followed blocked lacks cleared lost probe replaced beside step ite has insert remove union cut below from size least dropLeast upperHalf lowerHalf splitKey onesIn trailingZeros
 computed0107 = refl
 
 pub printed0107 : printed (fileOf file0107) ≡ textOf text0107
 printed0107 = sym (quickPrinted-printed (fileOf file0107)) ∙ computed0107
+
+-- ---- 0108
+
+abbrev file0108 : List String
+file0108 =
+    "0300cc020000000000000000000000000000000201000000000000000000000000000004010000000000000000000000000000020200000000000000"
+    ∷ "000000000000000000000000000000000000000402000000000000000000000000000000000000000000000000000002030000000000000000000000"
+    ∷ "000000000000000000000000000000000000000403000000000000000000000000000000000000000000000000000000000000020400000000000000"
+    ∷ "000000000000000000000000000000000000000000000000000000040400000000000000000000000000000000000000000000000000000000000000"
+    ∷ "000000020500000000000000000000000000000000000000000000000000000000000000000000000000000405000000000000000000000000000000"
+    ∷ "000000000000000000000000000000000000000000000002060000000000000000000000000000000000000000000000000000000000000000000000"
+    ∷ "000000000000000406000000000000000000000000000000000000000000000000000000000000000000000000000000000000020700000000000000"
+    ∷ "000000000000000000000000000000000000000000000000000000000000000000000000000000040700000000000000000000000000000000000000"
+    ∷ "000000000000000000000000000000000000000000000000000000020800000000000000000000000000000000000000000000000000000000000000"
+    ∷ "000000000000000000000000000000000000000408000000000000000000000000000000000000000000000000000000000000000000000000000000"
+    ∷ "000000000000000000000011080000100000001000000010000000100000001000000010000000100000001000000010000000100000000503000000"
+    ∷ "000000000000000000000000000000000000000000000000000000100000000503000000000000000000000000000000000000000000000000000000"
+    ∷ "000000000000000000000000000000000000000000000000000000000000000000000000000000000000000000000000000000000000000000000000"
+    ∷ "000000000000000000000000000000000000000000000000000000000000000000000000000000"
+    ∷ []
+
+abbrev text0108 : List String
+text0108 =
+    "records 204 of 204 refusal 0;t0 insert 0 yes;t0 insert 1 yes;t0 split 1 yes;t0 insert 2 yes;t0 split 2 yes;t0 insert 3 y"
+    ∷ "es;t0 split 3 yes;t0 insert 4 yes;t0 split 4 yes;t0 insert 5 yes;t0 split 5 yes;t0 insert 6 yes;t0 split 6 yes;t0 insert"
+    ∷ " 7 yes;t0 split 7 yes;t0 insert 8 yes;t0 split 8 yes;t0 join 3 no;t1 lookup 8 yes 0;t0 join 3 yes;0 route 1;1 normal 0=0"
+    ∷ ";1 route 2;2 normal 1=0;2 route 3;3 normal 2=0;3 route 5;4 neighbour 3=0 4=0;4 route 6;5 normal 5=0;5 route 7;6 normal 6"
+    ∷ "=0;6 route 8;7 normal 7=0;7 normal 8=0;set 0=0 1=0 2=0 3=0 4=0 5=0 6=0 7=0 8=0;stored 9 used 37;"
+    ∷ []
+
+computed0108 : quickPrinted (fileOf file0108) ≡ textOf text0108
+unfolding bytesOf recordAt between reaches adding back reachedFirst reachedNext asked put takeOut merge within lower upper depthText rowLine decimal stationsTo stationsText routeLine baseLine setLine listRefusal check replaceable actionWord firstLine lastLine taken stepped started recordStep runRefusal countOf fileRefusal reached onward followed blocked lacks cleared lost probe replaced beside step ite has insert remove union cut below from size least dropLeast upperHalf lowerHalf splitKey onesIn trailingZeros
+computed0108 = refl
+
+pub printed0108 : printed (fileOf file0108) ≡ textOf text0108
+printed0108 = sym (quickPrinted-printed (fileOf file0108)) ∙ computed0108

@@ -20,3 +20,5 @@ pub mod From0085
 pub mod From0091
 pub mod From0097
 pub mod From0103
+pub mod From0109
+pub mod From0115

@@ -1,14 +1,15 @@
 -- What each function of the profile run returns, one law for each way out. Assumes nothing.
 use mathlib.Core.Path.{_≡_, refl, sym, ap, _∙_}
-use mathlib.Core.Bool.{Bool, true, false}
+use mathlib.Core.Bool.{Bool, true, false, _&&_}
 use mathlib.Core.List.{List}
 use Prim.Native.Nat.{ℕ, _≤_, _<_}
 use native.Mathlib.Omega.{arith}
-use borrow.Author.Tests.{eq-eqb, ne-eqb, lt-ltb, le-ltb}
-use lib.Dec.{eqb}
+use borrow.Author.Tests.{eq-eqb, ne-eqb, lt-ltb, le-ltb, le-leb, lt-leb}
+use lib.Dec.{eqb, leb}
 use lib.ListN.{length}
 use Rattle.container.specs.Choice.{ite}
 use Rattle.definitions.specs.Schedule.{countOf}
+use Rattle.definitions.specs.Versions.{stopOf}
 use Rattle.definitions.specs.Run.{Progress, after, ended, reportOf, overlay, runRefusal, runReport, runBuffer}
 use Rattle.definitions.specs.Profile.{profileAfter, profileRefusal, profileReport, profileBuffer}
 use Rattle.definitions.specs.declared.Report.{Report}
@@ -26,18 +27,35 @@ pub unhalted : (r : Report) → (r .refusal ≡ 0 → ⊥) → r ≡ halt r
 unfolding halt ite
 unhalted r e = rw (ne-eqb (r .refusal) 0 e)
 
--- ---- the profile run
+-- ---- a file of version 3
+
+pub three-short : (file : List ℕ) → length file < 3 → false ≡ leb 3 (length file) && stopOf file
+three-short file h = rw (lt-leb 3 (length file) h)
+
+pub three-long : (file : List ℕ) {b : Bool} → 3 ≤ length file → b ≡ stopOf file → b ≡ leb 3 (length file) && stopOf file
+three-long file h e = e ∙ rw (le-leb 3 (length file) h)
+
+module _ (file : List ℕ) (o : leb 3 (length file) && stopOf file ≡ true) where
+  pub three-report : (n : ℕ) → record { refusal = 2; records = 0; rows = 0; set = 0; stored = 0; used = 0 } ≡ profileReport file n
+  unfolding profileReport profileRefusal ite
+  three-report n = rw o
+
+  pub three-buffer : (rows : List ℕ) → rows ≡ profileBuffer file rows
+  unfolding profileBuffer profileRefusal ite
+  three-buffer rows = rw o
+
+-- ---- the profile run of another
 
 -- where Run goes no further
-module _ (file : List ℕ) where
+module _ (file : List ℕ) (o : leb 3 (length file) && stopOf file ≡ false) where
   -- a file that is refused
   pub refused-report : (n : ℕ) → (runRefusal file n ≡ 0 → ⊥) → runReport file n ≡ profileReport file n
   unfolding profileReport profileRefusal runReport ite
-  refused-report n z = rw (ne-eqb (runRefusal file n) 0 z)
+  refused-report n z = rw (o, ne-eqb (runRefusal file n) 0 z)
 
   pub refused-buffer : (rows : List ℕ) → (runRefusal file (length rows) ≡ 0 → ⊥) → runBuffer file rows ≡ profileBuffer file rows
   unfolding profileBuffer profileRefusal runBuffer ite
-  refused-buffer rows z = rw (ne-eqb (runRefusal file (length rows)) 0 z)
+  refused-buffer rows z = rw (o, ne-eqb (runRefusal file (length rows)) 0 z)
 
   -- a file with no barred record
   module _ {k : ℕ} (c : Cut file (countOf file) k) where
@@ -49,12 +67,12 @@ module _ (file : List ℕ) where
         all h i = omega arith
 
     pub whole-report : (n : ℕ) → countOf file ≤ k → runReport file n ≡ profileReport file n
-    unfolding profileReport profileRefusal runReport
-    whole-report n l = rw (whole l)
+    unfolding profileReport profileRefusal runReport ite
+    whole-report n l = rw (o, whole l)
 
     pub whole-buffer : (rows : List ℕ) → countOf file ≤ k → runBuffer file rows ≡ profileBuffer file rows
-    unfolding profileBuffer profileRefusal runBuffer
-    whole-buffer rows l = rw (whole l)
+    unfolding profileBuffer profileRefusal runBuffer ite
+    whole-buffer rows l = rw (o, whole l)
 
     -- a file with one
     stop : k < countOf file → profileAfter file (countOf file) ≡ ite (eqb (after file k .refusal) 0) (stoppedRun (after file k)) (after file k)
@@ -82,8 +100,8 @@ module _ (file : List ℕ) where
 
     pub cut-report : (n : ℕ) {r q : Report} → runRefusal file n ≡ 0 → k < countOf file → r ≡ reportOf (after file k) → q ≡ halt r → q ≡ profileReport file n
     unfolding profileReport profileRefusal ite
-    cut-report n z l e f = rw (eq-eqb (runRefusal file n) 0 z) (f ∙ (ap halt e ∙ (shown (after file k) ∙ ap reportOf (sym (stop l)))))
+    cut-report n z l e f = rw (o, eq-eqb (runRefusal file n) 0 z) (f ∙ (ap halt e ∙ (shown (after file k) ∙ ap reportOf (sym (stop l)))))
 
     pub cut-buffer : (rows : List ℕ) {w : List ℕ} → runRefusal file (length rows) ≡ 0 → k < countOf file → w ≡ overlay (after file k .rows) rows → w ≡ profileBuffer file rows
     unfolding profileBuffer profileRefusal ite
-    cut-buffer rows z l e = rw (eq-eqb (runRefusal file (length rows)) 0 z) (e ∙ ap (λ b. overlay b rows) (same-rows (after file k) ∙ ap (λ (p : Progress). p .rows) (sym (stop l))))
+    cut-buffer rows z l e = rw (o, eq-eqb (runRefusal file (length rows)) 0 z) (e ∙ ap (λ b. overlay b rows) (same-rows (after file k) ∙ ap (λ (p : Progress). p .rows) (sym (stop l))))

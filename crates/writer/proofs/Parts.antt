@@ -49,16 +49,16 @@ module _ (p file : List ℕ) (k : ℕ) (head : getD p 0 0 ≡ getD file 0 0) (re
 
   pub after-same : (j : ℕ) → j ≤ k → after p j ≡ after file j
   unfolding after
-  after-same zero l = refl
+  after-same zero l = rw head
   after-same (suc j) l =
       ap (λ q. advance p q (recordAt p j)) (after-same j (omega arith))
       ∙ (ap (advance p (after file j)) (record-same j (omega arith)) ∙ advance-same (after file j) (recordAt file j))
 
 -- ---- the part of a file that is not refused
 
-known-version : (file : List ℕ) → fileRefusal file ≡ 0 → eqb (version file) 1 || eqb (version file) 2 ≡ true
+known-version : (file : List ℕ) → fileRefusal file ≡ 0 → eqb (version file) 1 || (eqb (version file) 2 || eqb (version file) 3) ≡ true
 unfolding fileRefusal ite
-known-version file = by (ltb (length file) 3) (eqb (version file) 1 || eqb (version file) 2) (ite (ltb 4096 (countOf file)) 3 (ite (eqb (length file) (3 + width file * countOf file)) 0 4))
+known-version file = by (ltb (length file) 3) (eqb (version file) 1 || (eqb (version file) 2 || eqb (version file) 3)) (ite (ltb 4096 (countOf file)) 3 (ite (eqb (length file) (3 + width file * countOf file)) 0 4))
   where
     by : (a b : Bool) (n : ℕ) → _≡_ {A = ℕ} (ite a 1 (ite b n 2)) 0 → b ≡ true
     by true b n z = absurd (omega arith)

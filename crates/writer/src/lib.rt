@@ -6,7 +6,7 @@ ghost use lib.Dec.{eqb, leb};
 ghost use lib.ListN.{length, take};
 ghost use Rattle.container.specs.Choice.{ite};
 ghost use Rattle.definitions.specs.Schedule.{countOf};
-ghost use Rattle.definitions.specs.Versions.{version, width};
+ghost use Rattle.definitions.specs.Versions.{version, stopOf, width};
 ghost use Rattle.definitions.specs.Run.{after, reportOf, overlay, runRefusal};
 ghost use Rattle.definitions.specs.Profile.{outside, profileReport, profileBuffer};
 ghost use Rattle.profile.specs.Cut.{Cut};
@@ -103,10 +103,31 @@ fn stopped(r: Report) -> Report
     r
 }
 
-// The profile run: the report, and the rows in the buffer. A file that is refused, or that has no barred record, is Run's.
+// Whether a file is of version 3, which has the stop on; a file under three bytes is of none.
+fn is_of_3(s: &[u8]) -> bool
+    ensures { λ r. ⌜ r ≡ leb 3 (length (now (s .entry))) && stopOf (now (s .entry)) ⌝ }
+{
+    if s.len() < 3 {
+        return false;
+    }
+    s[0] == 3
+}
+
+// The profile run: the report, and the rows in the buffer. Version 3 is refused. Another file that is refused, or that has no barred
+// record, is Run's.
 pub fn run(schedule: &[u8], rows: &mut [u8]) -> Report
     ensures { λ r. ⌜ (r ≡ profileReport (now (schedule .entry)) (length (now (rows .entry)))) × (now (rows .exit) ≡ profileBuffer (now (schedule .entry)) (now (rows .entry))) ⌝ }
 {
+    if is_of_3(schedule) {
+        return Report {
+            refusal: 2,
+            records: 0,
+            rows: 0,
+            set: 0,
+            stored: 0,
+            used: 0,
+        };
+    }
     let room = rows.len();
     let bad = run::refusal_of(schedule, room);
     if bad == 0 {

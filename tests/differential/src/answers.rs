@@ -1,13 +1,14 @@
 //! The paper's answers rule, checked of the reference: the plain table of depths against rows and tree at every
-//! moment, for both versions (version 1 puts depth 0), and against the set of a range query at one moment of its span;
+//! moment, for all versions (version 1 puts depth 0), and against the set of a range query at one moment of its span;
 //! the stored rule: the stored count is the number of stations in
-//! the plain table; and the reasons rule: what splits and joins answer is held to the places and to whether they made
+//! the plain table; the count rule (`stops`); and the reasons rule: what splits and joins answer is held to the places and to whether they made
 //! their change.
 
 use crate::ranges::Ranges;
+use crate::stops::Stops;
 use crate::ways::Ways;
 use reference::{
-    sizes, Bench, Row, Rows, INSERT, JOIN, LOOKUP, RANGE, REMOVE, SPLIT, STEP, THREADS,
+    sizes, AnyRows, Bench, Row, INSERT, JOIN, LOOKUP, RANGE, REMOVE, SPLIT, STEP, THREADS,
 };
 
 /// What the plain table knows of a thread's open operation.
@@ -65,7 +66,7 @@ impl Plain {
         record: Record,
         row: Option<(Row, u16, u64)>,
         seen: Seen,
-        (ways, ranges): (&mut Ways, &mut Ranges),
+        (ways, ranges, stops): (&mut Ways, &mut Ranges, &mut Stops),
     ) -> Result<(), String> {
         let thread = record.thread();
         if record.action() != STEP {
@@ -111,7 +112,13 @@ impl Plain {
             _ => false,
         } && (action == RANGE || set == 0);
         match (action, answer) {
-            (LOOKUP, 1) => ways.found(depth, self.table[usize::from(station)]),
+            (LOOKUP, _) => {
+                let now = self.table[usize::from(station)];
+                stops.looked(seen.place, (answer == 1).then_some(depth), now);
+                if answer == 1 {
+                    ways.found(depth, now);
+                }
+            }
             (INSERT, _) => ways.inserted(was, open.extra),
             (RANGE, _) => ranges.answered(set, &open.sets),
             _ => {}
@@ -161,15 +168,18 @@ fn is_reason(action: u8, answer: u8, place: u8) -> bool {
         4 => place == 21 || place == 25,
         5 => action == JOIN && place == 24,
         6 => action == JOIN && place == 38,
+        7 => action == JOIN && place == 19,
         _ => false,
     }
 }
 
 /// Checks a schedule's records, whatever its header.
-pub fn check(file: &[u8], ways: &mut Ways, ranges: &mut Ranges) -> Result<(), String> {
+pub fn check(file: &[u8], ways: &mut Ways, ranges: &mut Ranges, stops: &mut Stops) -> Result<(), String> {
     let version = file.first().copied().unwrap_or(1);
     ways.header(file);
-    let mut bench = Bench::<Rows>::new();
+    ranges.header(file);
+    stops.header(file);
+    let mut bench = Bench::<AnyRows>::of(version);
     let mut plain = Plain {
         table: [None; 64],
         open: Default::default(),
@@ -185,7 +195,8 @@ pub fn check(file: &[u8], ways: &mut Ways, ranges: &mut Ranges) -> Result<(), St
         let (place, used, lost) = (bench.place(thread), bench.used(), bench.lost());
         ways.places(&bench);
         ranges.before(&bench, record, plain.action(record.thread()));
-        let result = if version != 2 && record.thread() < THREADS && record.action() > JOIN {
+        stops.before(&bench, record, plain.action(record.thread()));
+        let result = if !matches!(version, 2 | 3) && record.thread() < THREADS && record.action() > JOIN {
             Err(8)
         } else {
             bench.record(record.first, record.second, record.extra)
@@ -194,6 +205,8 @@ pub fn check(file: &[u8], ways: &mut Ways, ranges: &mut Ranges) -> Result<(), St
             Ok(row) => {
                 let row = row.map(|row| (row, bench.depth(row), bench.found(row)));
                 ranges.after(&bench, row.map(|(.., set)| set));
+                let counted = stops.after(&bench, row.map(|(row, ..)| row[3]));
+                counted.map_err(|why| format!("record {index}: {why}"))?;
                 if record.action() == RANGE {
                     ranges.asks(record.second, record.extra);
                 }
@@ -203,14 +216,17 @@ pub fn check(file: &[u8], ways: &mut Ways, ranges: &mut Ranges) -> Result<(), St
                     used: bench.used() - used,
                 };
                 plain
-                    .accept(record, row, seen, (ways, ranges))
+                    .accept(record, row, seen, (ways, ranges, stops))
                     .map_err(|why| format!("record {index}: {why}"))?;
                 plain.moment();
                 if seen.used == 3 || (place, seen.next) == (35, 40) {
                     ways.carried(seen.used == 3, plain.depths());
                 }
             }
-            Err(number) => ways.refused(number, record, place > 0),
+            Err(number) => {
+                ways.refused(number, record, place > 0);
+                stops.refused(number, &bench);
+            }
         }
         if bench.lost() > lost {
             ways.lost(place);
@@ -235,5 +251,6 @@ pub fn check(file: &[u8], ways: &mut Ways, ranges: &mut Ranges) -> Result<(), St
             break;
         }
     }
+    stops.end(&bench);
     Ok(())
 }

@@ -22,10 +22,10 @@ pub struct Comparer {
     file: Guarded,
     buffer: Guarded,
     twin: Vec<u8>,
-    /// What the reference's Run reached, in files of version 2 and in all others.
-    pub counters: [Counter; 2],
+    /// What the reference's Run reached, in files of version 2, of version 3 and in all others.
+    pub counters: [Counter; 3],
     /// What its one-writer run reached in the files given to `one_writer`, likewise.
-    pub one_writer: [Counter; 2],
+    pub one_writer: [Counter; 3],
     /// Records carried out, each file counted once.
     pub records: u64,
 }
@@ -37,8 +37,8 @@ impl Comparer {
             file: Guarded::new(longest),
             buffer: Guarded::new(sizes(2)[2] * MAX_RECORDS + SLACK),
             twin: Vec::new(),
-            counters: [Counter::new(), Counter::new()],
-            one_writer: [Counter::new(), Counter::new()],
+            counters: [(); 3].map(|()| Counter::new()),
+            one_writer: [(); 3].map(|()| Counter::new()),
             records: 0,
         }
     }
@@ -220,7 +220,10 @@ fn prepare(
 
 /// Where what a file reaches is counted.
 pub fn version_index(file: &[u8]) -> usize {
-    usize::from(file.first() == Some(&2))
+    match file.first() {
+        Some(version @ 2..=3) => usize::from(version - 1),
+        _ => 0,
+    }
 }
 
 /// The count that the header states, as far as there is a header, and no more than a file may hold.

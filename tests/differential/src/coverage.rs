@@ -3,6 +3,7 @@
 
 use reference::{
     Counter, ACTIONS, ANSWERS, CHECKS, INSERT, JOIN, PLACES, PLACE_LIMIT, RANGE, RANGE_PLACES, REMOVE, SPLIT,
+    STOP_PLACES,
 };
 
 /// The swaps that need new node numbers and can be short of them; those of version 2, and those that can be short of
@@ -12,7 +13,7 @@ const RANGE_FULL_PLACES: [u8; 5] = [64, 65, 67, 78, 80];
 const NO_STORE_PLACES: [u8; 3] = [64, 65, 67];
 
 /// The answers of splits and joins and the places that they can come from. A split never says 5 or 6, which come
-/// from places of joins alone, neither says 0, and nothing stops joins (7).
+/// from places of joins alone, neither says 0, and only version 3 stops joins (7).
 const REASONS: [(u8, u8, &[u8]); 10] = [
     (SPLIT, 1, &[10, 11, 13]),
     (SPLIT, 2, &[3]),
@@ -25,6 +26,8 @@ const REASONS: [(u8, u8, &[u8]); 10] = [
     (JOIN, 5, &[24]),
     (JOIN, 6, &[38]),
 ];
+
+const STOPPED: (u8, u8, &[u8]) = (JOIN, 7, &[19]);
 
 /// Who checks a base, and where: every case must come up for each; the last one, a range base, in version 2.
 const CHECKED: [(u8, u8); 5] = [(INSERT, 3), (REMOVE, 3), (SPLIT, 3), (JOIN, 3), (JOIN, 24)];
@@ -61,11 +64,11 @@ const TURNS: [(u8, u8, &str); 24] = [
 /// The refusals of Run and, with the text buffer, of List.
 const REFUSALS: std::ops::RangeInclusive<u8> = 1..=16;
 
-/// Refusals that a version's files cannot get: depths and queries come with version 2, and a file of version 2 has no
+/// Refusals that a version's files cannot get: depths and queries come with version 2, and a file of version 2 or 3 has no
 /// other.
-const NEVER: [&[u8]; 2] = [&[14, 15, 16], &[2]];
+const NEVER: [&[u8]; 3] = [&[14, 15, 16], &[2], &[2]];
 
-/// Prints the table of version 1 (0) or 2 (1); hands back what was never reached.
+/// Prints the table of version 1 (0), 2 (1) or 3 (2); hands back what was never reached.
 pub fn report(index: usize, counter: &Counter) -> Vec<String> {
     let mut missing = Vec::new();
     let mut need = |count: u64, what: String| {
@@ -76,9 +79,10 @@ pub fn report(index: usize, counter: &Counter) -> Vec<String> {
     };
     println!("version {}", index + 1);
     println!("place      reached  led to (0: finished)");
-    let deep = index == 1;
+    let deep = index > 0;
     let ranges = if deep { &RANGE_PLACES[..] } else { &[] };
-    for place in PLACES.into_iter().chain(ranges.iter().copied()) {
+    let stops = if index == 2 { &STOP_PLACES[..] } else { &[] };
+    for &place in PLACES.iter().chain(ranges).chain(stops) {
         let turns: Vec<String> = (0..PLACE_LIMIT as u8)
             .filter(|&next| counter.turn(place, next) > 0)
             .map(|next| format!("{next}: {}", counter.turn(place, next)))
@@ -109,7 +113,7 @@ pub fn report(index: usize, counter: &Counter) -> Vec<String> {
             .collect();
         println!("{name:>7}    {}", counts.join(", "));
     }
-    for (action, answer, places) in REASONS {
+    for (action, answer, places) in REASONS.into_iter().chain((index == 2).then_some(STOPPED)) {
         let name = ACTIONS[usize::from(action)];
         for &place in places {
             need(

@@ -2,7 +2,7 @@
 //!
 //! `differential [--files N] [--records N] [--seed S] [--first] [--trace] [--write PATH]`: pairs of files to merge, N
 //! of them at random, and histories; then files for the one-writer run, N / 4 of them at random; then the systematic
-//! files of both versions, then random ones until there are N files and N records carried out; and the answers rule of
+//! files of all versions, then random ones until there are N files and N records carried out; and the answers rule of
 //! the library alone. `--first` ends at the first difference and looks for nothing else: no rule is checked of the
 //! reference. `--trace` names each file before it is run; `--write` puts them all into one file, each after its length in
 //! four bytes, the low one first. `differential --outside CASE` says what one case of `outside` comes to.
@@ -13,6 +13,7 @@ use differential::merges::Merger;
 use differential::profiles::Profiles;
 use differential::ranges::Ranges;
 use differential::rng::Rng;
+use differential::stops::Stops;
 use differential::ways::Ways;
 use differential::{answers, coverage, outside, random, systematic};
 use std::fs::File;
@@ -75,6 +76,7 @@ struct Session {
     ways: Ways,
     profiles: Profiles,
     ranges: Ranges,
+    stops: Stops,
     histories: Histories,
     rng: Rng,
     first: bool,
@@ -93,7 +95,7 @@ impl Session {
         let mut rule = Ok(());
         if !self.first {
             self.histories.run_of(file, &mut self.rng);
-            rule = answers::check(file, &mut self.ways, &mut self.ranges);
+            rule = answers::check(file, &mut self.ways, &mut self.ranges, &mut self.stops);
         }
         let compared = rule.and_then(|()| self.comparer.file(file, &mut self.rng));
         self.end(name, file, compared);
@@ -179,6 +181,7 @@ fn main() -> ExitCode {
         ways: Ways::default(),
         profiles: Profiles::default(),
         ranges: Ranges::default(),
+        stops: Stops::default(),
         histories: Histories::new(),
         rng: Rng::new(!options.seed),
         first: options.first,
@@ -223,7 +226,7 @@ fn main() -> ExitCode {
     if options.first {
         // a few of all kinds find most differences
         let mut number = 0;
-        for version in [2, 1] {
+        for version in [3, 2, 1] {
             systematic::each(version, &mut |name, file| {
                 number += 1;
                 if name == "fault" || number % 37 == 0 {
@@ -233,7 +236,7 @@ fn main() -> ExitCode {
         }
     }
     let before = session.passed + session.failed;
-    for version in [1, 2] {
+    for version in [1, 2, 3] {
         systematic::each(version, &mut |name, file| session.file(name, &file));
     }
     let systematic = session.passed + session.failed - before;
@@ -264,6 +267,7 @@ fn main() -> ExitCode {
     missing.extend(session.histories.report());
     let mut wrong: Vec<String> = missing.iter().map(|what| format!("{what} was never reached")).collect();
     wrong.extend(session.ranges.report());
+    wrong.extend(session.stops.report());
     for what in &wrong {
         println!("FAILED: {what}");
     }

@@ -1,4 +1,4 @@
-//! The answers rule asked of the library alone, from outside: the short vectors of version 2, and random schedules that grow
+//! The answers rule asked of the library alone, from outside: the short vectors of versions 2 and 3, and random schedules that grow
 //! record by record by what the library says, each run to every record, the rows and the set held to a plain set. Nothing
 //! of the reference takes part. Besides, three schedules that show what the tests of lines 151, 169 and 189 are for (docs/RANGE.md).
 
@@ -66,9 +66,9 @@ struct World {
 }
 
 impl World {
-    fn new() -> Self {
+    fn new(version: u8) -> Self {
         World {
-            file: vec![2, 0, 0],
+            file: vec![version, 0, 0],
             rows: Vec::new(),
             count: 0,
             set: 0,
@@ -156,8 +156,10 @@ fn answers() -> Verdict {
     let mut rng = Rng::new(0x006F_7574_7369_6465);
     let (mut files, mut records, mut queries) = (0, 0, 0);
     while records < RECORDS {
-        let mut world = World::new();
-        let result = match vectors.next() {
+        let vector = vectors.next();
+        // one schedule in four stops joins
+        let mut world = World::new(vector.as_ref().map_or(if files % 4 == 0 { 3 } else { 2 }, |vector| vector[0]));
+        let result = match vector {
             Some(vector) => replay(&mut world, &vector),
             None => grow(&mut world, &mut rng),
         };
@@ -176,7 +178,7 @@ fn answers() -> Verdict {
     Ok(format!("every answer fits: {files} schedules, {records} records, {queries} queries"))
 }
 
-/// The schedules of version 2 in tests/vectors that are not long, in order.
+/// The schedules of versions 2 and 3 in tests/vectors that are not long, in order.
 fn vectors() -> Result<Vec<Vec<u8>>, String> {
     let folder = Path::new(env!("CARGO_MANIFEST_DIR")).join("../vectors");
     let entries = fs::read_dir(&folder).map_err(|why| why.to_string())?;
@@ -184,7 +186,8 @@ fn vectors() -> Result<Vec<Vec<u8>>, String> {
     paths.sort();
     let schedules = paths.iter().filter(|path| path.extension().is_some_and(|ending| ending == "schedule"));
     let files = schedules.filter_map(|path| fs::read(path).ok());
-    Ok(files.filter(|file| file.starts_with(&[2]) && file.len() < SHORT).collect())
+    let wanted = |file: &Vec<u8>| matches!(file.first(), Some(2 | 3)) && file.len() < SHORT;
+    Ok(files.filter(wanted).collect())
 }
 
 /// The records of a file up to the first that is refused; then each thread goes on alone to its row.

@@ -1,7 +1,7 @@
-//! A schedule under construction, of either version, carried out on a reference bench as it grows.
+//! A schedule under construction, of any version, carried out on a reference bench as it grows.
 
 use reference::{
-    sizes, Bench, Rows, CAPACITY, DEEPEST, INSERT, JOIN, MAX_RECORDS, RANGE, STEP, STORES,
+    sizes, AnyRows, Bench, CAPACITY, DEEPEST, INSERT, JOIN, MAX_RECORDS, RANGE, STEP, STORES,
 };
 
 /// No operation alone takes more steps than this: a query over 63 bases, with what it helps on its way.
@@ -11,7 +11,7 @@ const LONGEST_ALONE: usize = 2000;
 pub struct Plan {
     version: u8,
     records: Vec<u8>,
-    bench: Bench<Rows>,
+    bench: Bench<AnyRows>,
     inserts: u16,
     refused: bool,
 }
@@ -21,7 +21,7 @@ impl Plan {
         Plan {
             version,
             records: Vec::new(),
-            bench: Bench::new(),
+            bench: Bench::of(version),
             inserts: 0,
             refused: false,
         }
@@ -65,12 +65,12 @@ impl Plan {
             return;
         }
         self.records.extend([first, second]);
-        let extra = if self.version == 2 { extra } else { 0 };
-        if self.version == 2 {
+        let extra = if self.version > 1 { extra } else { 0 };
+        if self.version > 1 {
             self.records.extend(extra.to_be_bytes());
         }
         if !self.refused {
-            let too_high = self.version != 2 && first & 15 > JOIN;
+            let too_high = self.version == 1 && first & 15 > JOIN;
             self.refused = too_high || self.bench.record(first, second, extra).is_err();
         }
     }

@@ -83,6 +83,9 @@ impl Profiles {
                 emit("one writer, fault", file);
             }
         }
+        for file in faulty_files(3) {
+            emit("one writer, version 3", file);
+        }
     }
 
     /// A random file, in most of which there is a barred or a faulty record somewhere.
@@ -109,6 +112,11 @@ impl Profiles {
     /// Checks what is promised of the one-writer run of a file, of the reference.
     pub fn check(&mut self, file: &[u8]) -> Result<(), String> {
         let (report, rows) = ran(file, run_one_writer);
+        if file.len() > 2 && file[0] == 3 {
+            let refused = report == RunReport { refusal: 2, ..RunReport::default() };
+            let untouched = rows.iter().all(|&byte| byte == 0xA5);
+            return (refused && untouched).then_some(()).ok_or_else(|| format!("version 3 comes to {report:?}"));
+        }
         self.as_run(file, &report, &rows)?;
         if (1..=5).contains(&report.refusal) {
             return Ok(());
@@ -209,8 +217,8 @@ impl Profiles {
         }
     }
 
-    /// Prints what was reached, and what the counters of both versions say; hands back what was not.
-    pub fn report(&self, counters: &[Counter; 2]) -> Vec<String> {
+    /// Prints what was reached, and what the counters of versions 1 and 2 say; hands back what was not.
+    pub fn report(&self, counters: &[Counter; 3]) -> Vec<String> {
         let mut missing = Vec::new();
         let mut need = |count: u64, what: String| {
             if count == 0 {
@@ -230,7 +238,8 @@ impl Profiles {
                 println!("{what:76} {count:10}");
             }
         }
-        for (index, counter) in counters.iter().enumerate() {
+        need(counters[2].refusals(2), "version 3, one writer: refusal 2".into());
+        for (index, counter) in counters.iter().take(2).enumerate() {
             let named = |what: String| format!("version {}, one writer: {what}", index + 1);
             let mut told = Vec::new();
             for number in (1..=14).chain([BARRED]).filter(|&number| number != 6) {

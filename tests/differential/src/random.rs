@@ -2,13 +2,13 @@
 
 use crate::plan::Plan;
 use crate::rng::Rng;
-use crate::systematic;
+use crate::{stop_files, systematic};
 use reference::{sizes, INSERT, LOOKUP, MAX_OPERATIONS, MAX_RECORDS, RANGE, SPLIT, THREADS};
 
 /// The longest file that is made: the most records that a header can state, and a few bytes.
 pub const LONGEST_FILE: usize = 3 + 4 * 65535 + 8;
 
-/// How often each action from lookup to range query is started; the last three are for version 2.
+/// How often each action from lookup to range query is started; the last three are for version 2 and 3.
 const MIXES: [[usize; 6]; 8] = [
     [1, 1, 1, 1, 1, 0],
     [1, 6, 2, 6, 8, 0],
@@ -30,9 +30,9 @@ enum Order {
     Stalls,
 }
 
-/// A random file with the name of its kind; either version comes as often.
+/// A random file with the name of its kind; each version comes as often.
 pub fn file(rng: &mut Rng) -> (&'static str, Vec<u8>) {
-    let version = rng.pick(&[1, 2]);
+    let version = rng.pick(&[1, 2, 3]);
     match rng.weighted(&[80, 6, 6, 6, 2]) {
         0 => ("mixed", mixed(rng, version, usize::MAX)),
         1 => ("wild", wild(rng, version)),
@@ -128,7 +128,7 @@ impl Style {
         Style {
             order: rng.pick(&[Order::Uniform, Order::Burst, Order::Stalls, Order::Stalls]),
             threads: rng.pick(&[1, 2, 3, 4, 4, 4]),
-            mix: rng.pick(if version == 2 { &MIXES } else { &MIXES[..OLD_MIXES] }),
+            mix: rng.pick(if version > 1 { &MIXES } else { &MIXES[..OLD_MIXES] }),
             stations,
             spare: rng.pick(&[0, 16, 16, 100, 200]),
             spare_stores: rng.pick(&[0, 4, 4, 30]),
@@ -205,8 +205,11 @@ fn turns(plan: &mut Plan, rng: &mut Rng, style: &Style, count: usize) {
 /// Valid turns, then perhaps a fault and more.
 fn mixed(rng: &mut Rng, version: u8, most: usize) -> Vec<u8> {
     let mut plan = Plan::new(version);
-    if rng.once_in(2) {
-        systematic::grow(&mut plan, rng.below(16));
+    match rng.below(4) {
+        // a bad header needs no long file
+        0 if version == 3 && most > MAX_RECORDS => stop_files::chain(&mut plan, rng.pick(&[7, 8, 9, 12])),
+        0 | 1 => systematic::grow(&mut plan, rng.below(16)),
+        _ => {}
     }
     let count = (plan.count() + length(rng)).min(most);
     let style = Style::random(rng, version);
@@ -242,7 +245,7 @@ fn wild(rng: &mut Rng, version: u8) -> Vec<u8> {
         let thread = rng.below(4) as u8;
         if rng.once_in(12) {
             plan.record(rng.byte(), rng.byte(), rng.word() as u16);
-        } else if plan.is_idle(thread) && version == 2 && rng.once_in(5) {
+        } else if plan.is_idle(thread) && version > 1 && rng.once_in(5) {
             plan.ask(thread, rng.byte() % 34, 30 + rng.byte() % 36);
         } else if plan.is_idle(thread) {
             plan.start(thread, 1 + rng.below(5) as u8, rng.byte() % 66);
@@ -259,7 +262,7 @@ fn bad_header(rng: &mut Rng, version: u8) -> Vec<u8> {
     for _ in 0..1 + rng.below(2) {
         match rng.below(7) {
             0 => file.truncate(rng.below(4)),
-            1 if !file.is_empty() => file[0] = rng.pick(&[0, 1, 2, 3, 255]),
+            1 if !file.is_empty() => file[0] = rng.pick(&[0, 1, 2, 3, 4, 255]),
             2 if file.len() > 2 => file[1] = rng.byte(),
             3 if file.len() > 2 => {
                 file[2] = file[2].wrapping_add(1).wrapping_sub(2 * (rng.byte() & 1))
@@ -287,7 +290,7 @@ fn short_of_numbers(rng: &mut Rng, version: u8) -> Vec<u8> {
     }
     let mixes = [MIXES[0], MIXES[1], MIXES[2], MIXES[5]];
     let style = Style {
-        mix: rng.pick(if version == 2 { &mixes } else { &mixes[..3] }),
+        mix: rng.pick(if version > 1 { &mixes } else { &mixes[..3] }),
         spare: 0,
         ..Style::random(rng, version)
     };

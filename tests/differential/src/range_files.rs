@@ -1,4 +1,4 @@
-//! Schedules of version 2 that together are certain to reach what `ranges` lists: queries alone, stopped at each of their
+//! Schedules of version 2 or 3 that together are certain to reach what `ranges` lists: queries alone, stopped at each of their
 //! places while another thread works, over joins in every stage, riding, helping up to three deep, short of node numbers
 //! and of stores.
 
@@ -14,28 +14,28 @@ const ASKED: [(u8, u8); 4] = [(0, 63), (3, 9), (9, 40), (20, 20)];
 const FORMS: [usize; 5] = [0, 1, 2, 4, 5];
 
 /// Hands every file to `emit` with a name.
-pub fn each(emit: &mut impl FnMut(&'static str, Vec<u8>)) {
+pub fn each(version: u8, emit: &mut impl FnMut(&'static str, Vec<u8>)) {
     for shape in 0..SHAPES.len() {
-        alone(shape, emit);
-        moments(shape, emit);
+        alone(version, shape, emit);
+        moments(version, shape, emit);
         for station in STATIONS {
-            over_joins(shape, station, emit);
+            over_joins(version, shape, station, emit);
         }
     }
     for shape in FORMS {
         for asked in ASKED {
-            overtaken(shape, asked, emit);
-            riders(shape, asked, emit);
+            overtaken(version, shape, asked, emit);
+            riders(version, shape, asked, emit);
         }
-        short_of_numbers(shape, emit);
-        short_of_stores(shape, emit);
+        short_of_numbers(version, shape, emit);
+        short_of_stores(version, shape, emit);
     }
-    deep(emit);
+    deep(version, emit);
 }
 
 /// A tree with a query of thread 0 stopped at `place` when it comes there the `visit`th time, if it does.
-fn stopped_query(shape: usize, asked: (u8, u8), place: u8, visit: usize) -> Option<Plan> {
-    let mut plan = Plan::new(2);
+fn stopped_query(version: u8, shape: usize, asked: (u8, u8), place: u8, visit: usize) -> Option<Plan> {
+    let mut plan = Plan::new(version);
     grow(&mut plan, shape);
     plan.ask(0, asked.0, asked.1);
     for _ in 1..visit {
@@ -47,10 +47,10 @@ fn stopped_query(shape: usize, asked: (u8, u8), place: u8, visit: usize) -> Opti
 }
 
 /// Queries one after another, with every pair of ends; the second meets range bases.
-fn alone(shape: usize, emit: &mut impl FnMut(&'static str, Vec<u8>)) {
+fn alone(version: u8, shape: usize, emit: &mut impl FnMut(&'static str, Vec<u8>)) {
     for lower in ENDS {
         for upper in ENDS.into_iter().filter(|&upper| lower <= upper) {
-            let mut plan = Plan::new(2);
+            let mut plan = Plan::new(version);
             grow(&mut plan, shape);
             plan.alone(3, INSERT, upper);
             plan.query(1, lower, upper);
@@ -64,10 +64,10 @@ fn alone(shape: usize, emit: &mut impl FnMut(&'static str, Vec<u8>)) {
 }
 
 /// Stations come and go after a query's first step, before its store is filled, and after.
-fn moments(shape: usize, emit: &mut impl FnMut(&'static str, Vec<u8>)) {
+fn moments(version: u8, shape: usize, emit: &mut impl FnMut(&'static str, Vec<u8>)) {
     for (lower, upper) in ASKED {
         for inside in [lower, upper] {
-            let mut plan = Plan::new(2);
+            let mut plan = Plan::new(version);
             grow(&mut plan, shape);
             plan.ask(0, lower, upper);
             plan.advance(0);
@@ -84,9 +84,9 @@ fn moments(shape: usize, emit: &mut impl FnMut(&'static str, Vec<u8>)) {
 }
 
 /// Another thread's operation while a query stands still.
-fn overtaken(shape: usize, asked: (u8, u8), emit: &mut impl FnMut(&'static str, Vec<u8>)) {
+fn overtaken(version: u8, shape: usize, asked: (u8, u8), emit: &mut impl FnMut(&'static str, Vec<u8>)) {
     let visits = RANGE_PLACES.into_iter().flat_map(|place| [(place, 1), (place, 2)]);
-    for stopped in visits.filter_map(|(place, visit)| stopped_query(shape, asked, place, visit)) {
+    for stopped in visits.filter_map(|(place, visit)| stopped_query(version, shape, asked, place, visit)) {
         for action in [INSERT, REMOVE, SPLIT, JOIN] {
             for station in STATIONS {
                 let mut plan = stopped.clone();
@@ -110,8 +110,8 @@ fn overtaken(shape: usize, asked: (u8, u8), emit: &mut impl FnMut(&'static str, 
 
 /// A query over a join that stands still at each of its places; then the query stands still in what it does about the
 /// join, while the join goes on or is killed.
-fn over_joins(shape: usize, station: u8, emit: &mut impl FnMut(&'static str, Vec<u8>)) {
-    for joined in (20..=51).filter_map(|place| stopped_join(2, shape, station, place)) {
+fn over_joins(version: u8, shape: usize, station: u8, emit: &mut impl FnMut(&'static str, Vec<u8>)) {
+    for joined in (20..=51).filter_map(|place| stopped_join(version, shape, station, place)) {
         for (lower, upper) in [(0, 63), (station, station)] {
             let mut plan = joined.clone();
             plan.query(1, lower, upper);
@@ -141,9 +141,9 @@ fn over_joins(shape: usize, station: u8, emit: &mut impl FnMut(&'static str, Vec
 }
 
 /// Queries that ride on a store, or help it because they ask for more; the store is filled while they stand still.
-fn riders(shape: usize, (lower, upper): (u8, u8), emit: &mut impl FnMut(&'static str, Vec<u8>)) {
+fn riders(version: u8, shape: usize, (lower, upper): (u8, u8), emit: &mut impl FnMut(&'static str, Vec<u8>)) {
     let shown = [70, 71, 73, 74, 76, 78, 81, 82];
-    for stopped in shown.into_iter().filter_map(|place| stopped_query(shape, (lower, upper), place, 1)) {
+    for stopped in shown.into_iter().filter_map(|place| stopped_query(version, shape, (lower, upper), place, 1)) {
         for (from, to) in [(0, upper), (lower, upper), (lower, 63), (upper, upper)] {
             for place in [60, 61, 62, 15, 70, 74, 76, 81, 82] {
                 let mut plan = stopped.clone();
@@ -169,10 +169,10 @@ fn riders(shape: usize, (lower, upper): (u8, u8), emit: &mut impl FnMut(&'static
 }
 
 /// Few or no node numbers left when a query comes to its swaps.
-fn short_of_numbers(shape: usize, emit: &mut impl FnMut(&'static str, Vec<u8>)) {
+fn short_of_numbers(version: u8, shape: usize, emit: &mut impl FnMut(&'static str, Vec<u8>)) {
     for left in 0..=5 {
         for (lower, upper) in ASKED {
-            let mut plan = Plan::new(2);
+            let mut plan = Plan::new(version);
             grow(&mut plan, shape);
             while plan.left() > left && !plan.is_over() {
                 plan.alone(3, INSERT, 3);
@@ -185,10 +185,10 @@ fn short_of_numbers(shape: usize, emit: &mut impl FnMut(&'static str, Vec<u8>)) 
 }
 
 /// The last stores go; then a query that needs one, at the root or on either side, with and without a node number left.
-fn short_of_stores(shape: usize, emit: &mut impl FnMut(&'static str, Vec<u8>)) {
+fn short_of_stores(version: u8, shape: usize, emit: &mut impl FnMut(&'static str, Vec<u8>)) {
     for station in [3, 40] {
         for numbers in [0, 1, 9] {
-            let mut plan = Plan::new(2);
+            let mut plan = Plan::new(version);
             grow(&mut plan, shape);
             while plan.stores_left() > 1 && !plan.is_over() {
                 plan.query(0, station, station);
@@ -213,11 +213,11 @@ fn short_of_stores(shape: usize, emit: &mut impl FnMut(&'static str, Vec<u8>)) {
 
 /// Up to three queries that hold a base each, of four side by side; the fourth thread comes to the first of them and helps
 /// all. While it stands in its last frame, the others finish, in either order, or not.
-fn deep(emit: &mut impl FnMut(&'static str, Vec<u8>)) {
+fn deep(version: u8, emit: &mut impl FnMut(&'static str, Vec<u8>)) {
     let stations = [10, 20, 30, 40, 50];
     for holders in 1..=3u8 {
         for held in [70, 71, 74, 81, 82] {
-            let mut base = Plan::new(2);
+            let mut base = Plan::new(version);
             for station in stations {
                 base.alone(0, INSERT, station);
             }

@@ -2,7 +2,7 @@
 //! one, what a query meets there, who fills a store, how deep the helping is.
 
 use crate::answers::Record;
-use reference::{Bench, Kind, Node, Rows, Stage, RANGE, STEP, STORES, THREADS};
+use reference::{AnyRows, Bench, Kind, Node, Stage, RANGE, STEP, STORES, THREADS};
 use std::collections::BTreeMap;
 
 /// Every way out of the places 60 to 82, and those of 3, 15, 16, 40 and 51 that lead to a frame or back to one.
@@ -138,6 +138,8 @@ const OTHERS: [&str; 24] = [
 
 pub struct Ranges {
     reached: BTreeMap<String, u64>,
+    /// The records are of version 3, which has its own table.
+    other: bool,
     before: Option<Before>,
     /// Of each store, whose query it is, and who filled it.
     owners: [usize; STORES],
@@ -148,6 +150,7 @@ impl Default for Ranges {
     fn default() -> Self {
         Ranges {
             reached: BTreeMap::new(),
+            other: false,
             before: None,
             owners: [THREADS; STORES],
             fillers: [THREADS; STORES],
@@ -174,11 +177,18 @@ struct Before {
 
 impl Ranges {
     fn reach(&mut self, what: impl Into<String>) {
-        *self.reached.entry(what.into()).or_insert(0) += 1;
+        if !self.other {
+            *self.reached.entry(what.into()).or_insert(0) += 1;
+        }
+    }
+
+    /// A file begins.
+    pub fn header(&mut self, file: &[u8]) {
+        self.other = file.first() == Some(&3);
     }
 
     /// A record comes; `action` is what its thread has open.
-    pub fn before(&mut self, bench: &Bench<Rows>, record: Record, action: u8) {
+    pub fn before(&mut self, bench: &Bench<AnyRows>, record: Record, action: u8) {
         self.before = None;
         let thread = record.thread();
         if record.action() != STEP || thread >= THREADS || bench.place(thread) == 0 {
@@ -211,7 +221,7 @@ impl Ranges {
     }
 
     /// The record was carried out; with the set of the row that it added.
-    pub fn after(&mut self, bench: &Bench<Rows>, set: Option<u64>) {
+    pub fn after(&mut self, bench: &Bench<AnyRows>, set: Option<u64>) {
         let Some(before) = self.before.take() else {
             return;
         };
@@ -334,7 +344,7 @@ impl Ranges {
 }
 
 /// What a base is: its kind, and how far its join or query has come.
-fn described(bench: &Bench<Rows>, id: u8) -> String {
+fn described(bench: &Bench<AnyRows>, id: u8) -> String {
     let stage = |main: u8| match bench.node(main) {
         Node::Base(reference::Base {
             kind: Kind::Main { stage, .. },

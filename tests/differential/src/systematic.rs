@@ -2,7 +2,7 @@
 //! places while another thread works, late helpers and killers, node numbers run out, faulty headers.
 
 use crate::plan::Plan;
-use crate::range_files;
+use crate::{range_files, stop_files};
 use reference::{sizes, INSERT, JOIN, LOOKUP, MAX_RECORDS, RANGE, REMOVE, SPLIT};
 use std::ops::RangeInclusive;
 
@@ -87,8 +87,11 @@ pub fn each(version: u8, emit: &mut impl FnMut(&'static str, Vec<u8>)) {
     for file in faulty_files(version) {
         emit("fault", file);
     }
-    if version == 2 {
-        range_files::each(emit);
+    if version > 1 {
+        range_files::each(version, emit);
+    }
+    if version == 3 {
+        stop_files::each(emit);
     }
 }
 
@@ -249,7 +252,7 @@ pub fn faulty_files(version: u8) -> Vec<Vec<u8>> {
     let mut files: Vec<Vec<u8>> = Vec::new();
     let width = sizes(version)[0];
     for length in 0..12 {
-        for other in [0, version, 3, 255] {
+        for other in [0, version, 4, 255] {
             for count in [0u16, 1, 2, 4096, 4097, 65535] {
                 let [high, low] = count.to_be_bytes();
                 files.push([other, high, low, 2, 9, 0, 0, 0, 0, 0, 0][..length.min(11)].to_vec());

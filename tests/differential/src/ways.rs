@@ -2,7 +2,7 @@
 //! which comparisons fail where several threads write, as they must not where one does (`profiles`).
 
 use crate::answers::Record;
-use reference::{Bench, Rows, ACTIONS, DEEPEST, INSERT, JOIN, RANGE, STATIONS, STEP, THREADS};
+use reference::{AnyRows, Bench, ACTIONS, DEEPEST, INSERT, JOIN, RANGE, STATIONS, STEP, THREADS};
 use std::collections::BTreeMap;
 
 /// The places at which a comparison can fail where several threads write.
@@ -28,7 +28,7 @@ const PAIRS: [(u8, u8); 16] = [
     (10, 12),
 ];
 
-const OTHERS: [&str; 25] = [
+const OTHERS: [&str; 26] = [
     "an insert puts a station in at depth 0",
     "an insert puts a station in at depth 9999",
     "an insert replaces another depth",
@@ -49,11 +49,12 @@ const OTHERS: [&str; 25] = [
     "depth 10000 is refused",
     "version 2 with the length of version 1",
     "version 1 with the length of version 2",
-    "version 3 is refused",
+    "version 4 is refused",
     "version 0 is refused",
     "an upper end of 64 is refused",
     "an upper end one below the station is refused",
     "an upper end whose last byte alone is fine is refused",
+    "version 3 with the length of version 1",
 ];
 
 #[derive(Default)]
@@ -85,14 +86,15 @@ impl Ways {
         match (version, rest.len()) {
             (1, length) if count > 0 && length == 4 * count => self.reach(OTHERS[19]),
             (2, length) if count > 0 && length == 2 * count => self.reach(OTHERS[18]),
-            (3, _) => self.reach(OTHERS[20]),
+            (3, length) if count > 0 && length == 2 * count => self.reach(OTHERS[25]),
+            (4, _) => self.reach(OTHERS[20]),
             (0, _) => self.reach(OTHERS[21]),
             _ => {}
         }
     }
 
     /// Notes how far joins have come before a record.
-    pub fn places(&mut self, bench: &Bench<Rows>) {
+    pub fn places(&mut self, bench: &Bench<AnyRows>) {
         let at = |from: u8, to: u8| (0..THREADS).any(|t| (from..=to).contains(&bench.place(t)));
         self.preparing = at(26, 35);
         self.completing = at(40, 51);

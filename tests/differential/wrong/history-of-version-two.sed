@@ -1,2 +1,2 @@
 # src/file.rs: History and Merge take a file of version 2.
-/if \*version != 1 => Err(2)/d
+s/opened(schedule, 1)/opened(schedule, 2)/

@@ -1,2 +1,2 @@
 # src/file.rs: Merge and History give the number of a short file to one of another version.
-s/if \*version != 1 => Err(2)/if *version != 1 => Err(1)/
+s/opened(schedule, 1)/&.map_err(|number| if number == 2 { 1 } else { number })/

@@ -1,2 +1,2 @@
-# src/file.rs: lets version 3 through.
-s/\*version != 1 && \*version != 2/(*version == 0 || *version > 3)/
+# src/bench.rs: refuses version 3, as before request h.
+s/const VERSIONS: u8 = 3;/const VERSIONS: u8 = 2;/

@@ -1,5 +1,5 @@
-//! The depths beside the stations, a row for each base, and the stores of range queries; or nothing at all for a
-//! version that has neither.
+//! The depths beside the stations, a row for each base, the stores of range queries, and whether joins are stopped; or
+//! nothing at all for a version that has none of these.
 
 use crate::bench::{JOIN, RANGE};
 use crate::node::{Id, CAPACITY};
@@ -24,6 +24,8 @@ pub trait Depths {
     fn copy(&mut self, from: Id, to: Id);
     fn stores(&self) -> &Stores;
     fn stores_mut(&mut self) -> &mut Stores;
+    /// Whether a search that has come far stops joins.
+    fn stops(&self) -> bool;
 }
 
 /// Version 1 has none.
@@ -66,25 +68,68 @@ impl Depths for NoDepths {
     fn stores_mut(&mut self) -> &mut Stores {
         unreachable!("version 1 has no stores")
     }
+
+    #[inline(always)]
+    fn stops(&self) -> bool {
+        false
+    }
+}
+
+/// The stop of joins: off, on, or as a bench is told.
+pub trait Stop: Copy + Default {
+    fn is_on(self) -> bool;
+}
+
+#[derive(Clone, Copy, Default)]
+pub struct Off;
+
+#[derive(Clone, Copy, Default)]
+pub struct On;
+
+impl Stop for Off {
+    #[inline(always)]
+    fn is_on(self) -> bool {
+        false
+    }
+}
+
+impl Stop for On {
+    #[inline(always)]
+    fn is_on(self) -> bool {
+        true
+    }
+}
+
+impl Stop for bool {
+    fn is_on(self) -> bool {
+        self
+    }
 }
 
 /// One for each station of each node; that of a station which is not in the container is of no account.
 #[derive(Clone)]
-pub struct Rows {
+pub struct RowsOf<S> {
     depths: [[u16; 64]; CAPACITY],
     stores: Stores,
+    pub(crate) stop: S,
 }
 
-impl Depths for Rows {
+/// Those of version 2, of version 3, and of either.
+pub type Rows = RowsOf<Off>;
+pub type StopRows = RowsOf<On>;
+pub type AnyRows = RowsOf<bool>;
+
+impl<S: Stop> Depths for RowsOf<S> {
     type Depth = u16;
     const KEPT: bool = true;
     const LAST: u8 = RANGE;
 
     #[inline]
     fn new() -> Self {
-        Rows {
+        RowsOf {
             depths: [[0; 64]; CAPACITY],
             stores: Stores::new(),
+            stop: S::default(),
         }
     }
 
@@ -121,5 +166,10 @@ impl Depths for Rows {
     #[inline]
     fn stores_mut(&mut self) -> &mut Stores {
         &mut self.stores
+    }
+
+    #[inline(always)]
+    fn stops(&self) -> bool {
+        self.stop.is_on()
     }
 }

@@ -9,12 +9,12 @@ use Rattle.run.proofs.Threads.{all-kept}
 use Rattle.run.proofs.Turn.{full-on, refused-on}
 use Rattle.run.proofs.Ended.{none-yet, all-done, stopped}
 use Rattle.run.proofs.carry_out.Tie as tie
-use Rattle.run.proofs.carry_out.Proof.Loop.{Inv-loop, μ-loop, few, asking, asking-whole, low, decided}
+use Rattle.run.proofs.carry_out.Proof.Loop.{Inv-loop, μ-loop, few, asking, asking-whole, low, begun}
 
 pub loop-holds : tie.Need-loop-holds Inv-loop μ-loop
 loop-holds c =
     let s = c .before .before .before .before .before .before in
-    (omega arith, (omega arith, (all-kept, (refl, (refl, none-yet _ _ (s .pre .1 .0) (s .pre .1 .1 .0) (λ _. s .pre .1 .1 .1 .0 .blank) (c .idle-notes .ensures))))))
+    (omega arith, (omega arith, (all-kept, (refl, (refl, none-yet _ _ _ (s .pre .1 .0) (s .pre .1 .1 .0) (λ _. s .pre .1 .1 .1 .0 .blank) (c .idle-notes .ensures))))))
 
 pub sub-first : tie.Need-sub-first Inv-loop μ-loop
 sub-first c =
@@ -51,7 +51,7 @@ returns-5 c =
     let j = c .before in
     let a = j .before .before in
     let i = a .before .before .before .before .before .before in
-    stopped _ _ _ (few i) (λ z. omega arith) (full-on (asking a) (j .before .match3 .keys1) (j .if4 .d) (low j) (decided j) (c .if10 .taken))
+    stopped _ _ _ (few i) (λ z. omega arith) (full-on (asking a) (j .before .match3 .keys1) (j .if4 .d) (low j) (begun j .decided) (c .if12 .taken))
 
 pub returns-6 : tie.Need-returns-6 Inv-loop μ-loop
 returns-6 c =

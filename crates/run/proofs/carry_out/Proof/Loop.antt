@@ -1,41 +1,44 @@
 -- The loop of `run::carry_out`: its invariant and measure, the record that it is at, what that record asks, and the memory for queries where it
 -- is lent. Assumes nothing.
-use Prim.Native.Nat.{suc, _+_, _*_, _<_, _≤_, _-_}
+use Prim.Native.Nat.{suc, _+_, _*_, _/_, _%_, _<_, _≤_, _-_}
 use mathlib.Core.Path.{_≡_, _∙_}
 use mathlib.Core.Logic.{⊎-elim}
 use native.Mathlib.Omega.{arith}
-use lib.ListN.{length}
+use lib.Dec.{eqb}
+use lib.ListN.{length, getD}
 use mathlib.Core.Bool.{false}
 use Rattle.nodes.specs.Cells.{table}
 use Rattle.nodes.specs.Stores.{stores}
 use Rattle.steps.specs.declared.Notes.{Notes}
-use Rattle.steps.specs.Decision.{Decides}
+use Rattle.steps.specs.declared.Decision.{Decision}
+use Rattle.steps.specs.Decision.{Decides, finding}
 use Rattle.definitions.specs.declared.Action.the-variants.{Lookup}
 use Rattle.definitions.specs.declared.Link.the-variants.{Nil}
-use Rattle.definitions.specs.Bench.{sight}
-use Rattle.definitions.specs.Places.{placeOf}
-use Rattle.definitions.specs.Steps.{step}
-use Rattle.definitions.specs.Versions.{version, width}
+use Rattle.definitions.specs.Bench.{stop, sight}
+use Rattle.definitions.specs.Versions.{version, stopOf, width}
 use Rattle.definitions.specs.Schedule.{countOf}
 use Rattle.definitions.specs.Run.{after}
 use Rattle.run.specs.Standing.{Sizes, Stands}
 use Rattle.run.proofs.Reading.{before-end, inside, Read, read-plain, read-deep, read-query, deep-reads, deep-refused}
 use Rattle.run.proofs.Threads.{threadsOf, heldIn, Kept, kept-sizes}
-use Rattle.run.proofs.Turn.{Asking, seen, stand}
+use Rattle.run.proofs.Decided.{decided-at, decided-count}
+use Rattle.run.proofs.Changed.{Begun, begun-at, begun-off, begun-on, Recounts, recount-none, recount-more, recount-less}
+use Rattle.run.proofs.Turn.{Asking, seen, stand, awake}
 use Rattle.run.proofs.carry_out.Tie as tie
 
 abbrev pub Inv-loop : tie.InvT-loop
-Inv-loop cells₀ sets₀ depths₀ flags₀ results₀ stacks₀ backups₀ notes₀ words₀ schedule rows₀ v idle threads₀ frames₀ root₀ used₀ shown₀ finished₀ at₀ from₀ k₀ cells sets depths flags results stacks backups notes words rows threads frames root used shown finished at from k =
-    (k ≤ countOf schedule) × ((from ≡ 3 + width schedule * k) × (Kept depths₀ results₀ stacks₀ backups₀ notes₀ words₀ depths results stacks backups notes words × ((length threads ≡ 4) × ((length frames ≡ 4)
-    × Stands (table cells sets) depths (stores flags results) (threadsOf threads frames (heldIn stacks backups notes words)) (stand root used shown 0 k finished at) rows₀ rows (after schedule k)))))
+Inv-loop cells₀ sets₀ depths₀ flags₀ results₀ stacks₀ backups₀ notes₀ words₀ schedule rows₀ v idle threads₀ frames₀ root₀ used₀ shown₀ on₀ finished₀ at₀ from₀ k₀ cells sets depths flags results stacks backups notes words rows threads frames root used shown finished at from k =
+    (k ≤ countOf schedule) × ((from ≡ 3 + width schedule * k) × (Kept depths₀ results₀ stacks₀ backups₀ notes₀ words₀ depths results stacks backups notes words
+    × ((length threads ≡ 4) × ((length frames ≡ 5) × Stands (table cells sets) depths (stores flags results) (stop (stopOf schedule) (getD frames 4 0))
+    (threadsOf threads frames (heldIn stacks backups notes words)) (stand root used shown 0 k finished at) rows₀ rows (after schedule k)))))
 
 abbrev pub μ-loop : tie.MeasureT-loop
-μ-loop cells₀ sets₀ depths₀ flags₀ results₀ stacks₀ backups₀ notes₀ words₀ schedule rows₀ v idle threads₀ frames₀ root₀ used₀ shown₀ finished₀ at₀ from₀ k₀ cells sets depths flags results stacks backups notes words rows threads frames root used shown finished at from k =
+μ-loop cells₀ sets₀ depths₀ flags₀ results₀ stacks₀ backups₀ notes₀ words₀ schedule rows₀ v idle threads₀ frames₀ root₀ used₀ shown₀ on₀ finished₀ at₀ from₀ k₀ cells sets depths flags results stacks backups notes words rows threads frames root used shown finished at from k =
     length schedule - from
 
 -- what the code would read past the thread table's end
 abbrev pub past : Notes
-past = record { action = Lookup; station = 0; extra = 0; place = 0; route = 0; base = 0; parent = 0; left = false; found = 0; neighbour = 0; main = 0; owner = false; grandparent = Nil; other = 0 }
+past = record { action = Lookup; station = 0; extra = 0; place = 0; route = 0; read = 0; base = 0; parent = 0; left = false; found = 0; neighbour = 0; main = 0; owner = false; grandparent = Nil; other = 0 }
 
 -- a record is left
 pub few : (i : tie.In-loop Inv-loop μ-loop) → let l = i .before in let s = l .before .before .before .before .before .before .before in suc (l .loop .k) ≤ countOf (s .args .schedule .now)
@@ -128,13 +131,60 @@ pub low : (c : tie.Joined4 Inv-loop μ-loop) →
     let m = c .before .before .before .before .before in
     let l = m .before .before .before .before in
     seen (l .loop .threads) (m .record .given .0 .0) past .place < 60
-low c = ⊎-elim (λ w. omega (arith, w .0 .taken)) (⊎-elim (λ w. omega (arith, w .1 .taken)) (⊎-elim (λ w. omega (arith, w .2 .taken)) (λ w. omega (arith, w .3 .taken)))) (c .if4 .came)
+low c = ⊎-elim (λ w. omega (arith, w .0 .taken))
+    (⊎-elim (λ w. omega (arith, w .1 .taken))
+    (⊎-elim (λ w. omega (arith, w .2 .taken)) (⊎-elim (λ w. omega (arith, w .3 .taken)) (λ w. omega (arith, w .4 .taken)))))
+    (c .if4 .came)
 
--- the four parts of the places decide alike
-pub decided : (c : tie.Joined4 Inv-loop μ-loop) →
+-- 1 and 2 decide once the routes read are noted
+begun-find : (c : tie.Joined5 Inv-loop μ-loop) (d : Decision) →
+    let m = c .before .before .before .before .before .before in
+    let l = m .before .before .before .before in
+    let o = l .before .before in
+    let s = o .before .before .before .before .before in
+    Decides (seen (c .if5 .threads) (m .record .given .0 .0) past) d
+    (finding (seen (c .if5 .threads) (m .record .given .0 .0) past .place) (eqb (o .version-of .result) 3) (table (l .loop .cells) (l .loop .sets)) (l .loop .root))
+    → Begun (sight (table (l .loop .cells) (l .loop .sets)) (l .loop .root) (l .loop .used) (stores (l .loop .flags) (l .loop .results)) (l .loop .shown)
+    (stop (stopOf (s .args .schedule .now)) (getD (l .loop .frames) 4 0))) (m .record .given .0 .0 / 16 % 4) past (l .loop .threads) (c .if5 .threads) d
+begun-find c d i =
+    let t = c .before in
+    let a = t .before .before in
+    let l = a .before .before .before .before .before .before .before in
+    let o = l .before .before in
+    let up = awake (asking a) (t .before .match3 .keys1) in
+    rw (← o .version-of .ensures)
+    (⊎-elim
+    (λ v. begun-on _ _ _ _ _ _ _ _ _ _ up (t .if4 .taken) i (v .0 .taken) (omega (arith, asking a .four)) (v .2 .ensures) (v .4))
+    (λ v. begun-off _ _ _ _ _ _ _ _ _ _ up (t .if4 .taken) i (v .0 .left) (v .1))
+    (c .if5 .came))
+
+-- the parts of the places decide alike
+pub begun : (c : tie.Joined4 Inv-loop μ-loop) →
     let m = c .before .before .before .before .before in
     let l = m .before .before .before .before in
-    let th = seen (l .loop .threads) (m .record .given .0 .0) past in
-    Decides th (c .if4 .d) (step (placeOf (th .place)) (sight (table (l .loop .cells) (l .loop .sets)) (l .loop .root) (l .loop .used) (stores (l .loop .flags) (l .loop .results)) (l .loop .shown)))
-decided c =
-    ⊎-elim (λ w. rw (w .7) (w .6 .ensures)) (⊎-elim (λ w. rw (w .8) (w .7 .ensures)) (⊎-elim (λ w. rw (w .9) (w .8 .ensures)) (λ w. rw (w .10) (w .9 .ensures)))) (c .if4 .came)
+    let s = l .before .before .before .before .before .before .before in
+    Begun (sight (table (l .loop .cells) (l .loop .sets)) (l .loop .root) (l .loop .used) (stores (l .loop .flags) (l .loop .results)) (l .loop .shown)
+    (stop (stopOf (s .args .schedule .now)) (getD (l .loop .frames) 4 0))) (m .record .given .0 .0 / 16 % 4) past (l .loop .threads) (c .if4 .threads) (c .if4 .d)
+begun c =
+    let a = c .before .before in
+    let l = a .before .before .before .before .before .before .before in
+    let o = l .before .before in
+    ⊎-elim
+    (λ w. rw (w .7, w .6) (begun-find (record { before = record { before = c .before; if4 = w .0 }; if5 = w .1 }) (w .5 .result) (w .5 .ensures)))
+    (⊎-elim (λ w. begun-at _ _ _ (rw (w .9, ← o .version-of .ensures) (decided-at _ _ (λ e. omega (arith, w .1 .taken)) (λ e. omega (arith, w .1 .taken)) (w .7 .ensures))) (w .8))
+    (⊎-elim (λ w. begun-at _ _ _ (rw (w .8) (decided-count _ _ (omega (arith, w .0 .left, w .1 .left)) (w .2 .taken) (w .6 .ensures))) (w .7))
+    (⊎-elim (λ w. begun-at _ _ _ (rw (w .11, ← o .version-of .ensures) (decided-at _ _ (λ e. omega (arith, w .2 .left)) (λ e. omega (arith, w .2 .left)) (w .9 .ensures))) (w .10))
+    (λ w. begun-at _ _ _ (rw (w .12, ← o .version-of .ensures) (decided-at _ _ (λ e. omega (arith, w .3 .left)) (λ e. omega (arith, w .3 .left)) (w .10 .ensures))) (w .11)))))
+    (c .if4 .came)
+
+-- the count after it
+pub recounts : (c : tie.Joined13 Inv-loop μ-loop) →
+    let m = c .before .before .before .before .before .before .before .before .before .before .before .before .before .before in
+    let l = m .before .before .before .before in
+    Recounts (seen (l .loop .threads) (m .record .given .0 .0) past .place) (l .loop .frames) (c .if13 .frames)
+recounts c =
+    let a = c .before .before .before .before .before .before .before .before .before .before .before in
+    ⊎-elim (λ w. rw (w .1) (recount-more _ _ (asking a .each) (w .0 .taken)))
+    (⊎-elim (λ w. rw (w .2) (recount-less _ _ (asking a .each) (w .1 .taken)))
+    (λ w. rw (w .2) (recount-none _ _ (w .0 .left) (w .1 .left))))
+    (c .if13 .came)

@@ -47,7 +47,8 @@ returns c =
     let r = w .before .before .before .before .before .before .before in
     let f = r .before .before in
     let q = f .before in
-    turn-on _ _ _ _ _ _ _ _ _ _ (q .query .ensures) _ (r .r .given .1) (f .frames-after .ensures) (w .write .ensures)
+    let s = q .before .before .before .before .before .before .before .before .before .before .before in
+    turn-on _ _ _ _ _ _ _ _ _ _ (q .query .ensures) (s .pre .1 .1 .0) _ (r .r .given .1) (f .frames-after .ensures) (w .write .ensures)
 
 same-length-3 : tie.Need-same-length-3
 same-length-3 c = search needs
@@ -57,7 +58,8 @@ returns-2 c =
     let r = c .before in
     let f = r .before .before in
     let q = f .before in
-    turn-blocked _ _ _ _ _ _ _ _ _ _ (q .query .ensures) _ (f .frames-after .ensures) (r .r2 .given .1)
+    let s = q .before .before .before .before .before .before .before .before .before .before .before in
+    turn-blocked _ _ _ _ _ _ _ _ _ _ (q .query .ensures) (s .pre .1 .1 .0) _ (f .frames-after .ensures) (r .r2 .given .1)
 
 same-length-4 : tie.Need-same-length-4
 same-length-4 c = search needs
@@ -67,7 +69,8 @@ returns-3 c =
     let r = c .before in
     let f = r .before .before in
     let q = f .before in
-    turn-back _ _ _ _ _ _ _ _ _ _ (q .query .ensures) _ (f .frames-after .ensures) (r .r3 .given .1)
+    let s = q .before .before .before .before .before .before .before .before .before .before .before in
+    turn-back _ _ _ _ _ _ _ _ _ _ (q .query .ensures) (s .pre .1 .1 .0) _ (f .frames-after .ensures) (r .r3 .given .1)
 
 same-length-5 : tie.Need-same-length-5
 same-length-5 c = search needs
@@ -76,7 +79,8 @@ returns-4 : tie.Need-returns-4
 returns-4 c =
     let r = c .before in
     let q = r .before .before .before in
-    turn-found _ _ _ _ _ _ _ _ _ _ (q .query .ensures) _ _ _ _ (r .r4 .given .1)
+    let s = q .before .before .before .before .before .before .before .before .before .before .before in
+    turn-found _ _ _ _ _ _ _ _ _ _ (q .query .ensures) (s .pre .1 .1 .0) _ _ _ _ (r .r4 .given .1)
 
 same-length-6 : tie.Need-same-length-6
 same-length-6 c = search needs
@@ -84,7 +88,8 @@ same-length-6 c = search needs
 returns-5 : tie.Need-returns-5
 returns-5 c =
     let q = c .before .before .before in
-    turn-nodes _ _ _ _ _ _ _ _ _ _ (q .query .ensures) _ _ _ _ (c .enum-told .given .1)
+    let s = q .before .before .before .before .before .before .before .before .before .before .before in
+    turn-nodes _ _ _ _ _ _ _ _ _ _ (q .query .ensures) (s .pre .1 .1 .0) _ _ _ _ (c .enum-told .given .1)
 
 same-length-7 : tie.Need-same-length-7
 same-length-7 c = search needs
@@ -92,7 +97,8 @@ same-length-7 c = search needs
 returns-6 : tie.Need-returns-6
 returns-6 c =
     let q = c .before .before .before in
-    turn-stores _ _ _ _ _ _ _ _ _ _ (q .query .ensures) _ _ _ _ (c .enum-told2 .given .1)
+    let s = q .before .before .before .before .before .before .before .before .before .before .before in
+    turn-stores _ _ _ _ _ _ _ _ _ _ (q .query .ensures) (s .pre .1 .1 .0) _ _ _ _ (c .enum-told2 .given .1)
 
 pub turn-spec : {M : Type 1} → statement M
 turn-spec =

@@ -25,9 +25,6 @@ clear-requires c κs = search needs
 block-requires : tie.Need-block-requires
 block-requires c κs = search needs
 
-stay-requires : tie.Need-stay-requires
-stay-requires c κs = search needs
-
 returns : tie.Need-returns
 returns c = search examine-cases
 
@@ -36,9 +33,6 @@ returns-2 c = search examine-cases
 
 returns-3 : tie.Need-returns-3
 returns-3 c = search examine-cases
-
-returns-4 : tie.Need-returns-4
-returns-4 c = search examine-cases
 
 pub examine-spec : {M : Type 1} → statement M
 examine-spec =
@@ -51,8 +45,6 @@ examine-spec =
     is-replaceable-requires
     clear-requires
     block-requires
-    stay-requires
     returns
     returns-2
-    returns-3
-    returns-4)
+    returns-3)
