@@ -29,6 +29,6 @@ def all_of(checks):
             (folder / shown[1]).write_text(output)
         ran = subprocess.run(command, shell=True, cwd=folder, stdout=subprocess.PIPE, stderr=subprocess.STDOUT, text=True)
         checks.equal(command, ran.stdout, output)
-    named = set(re.findall(r"`([a-z-]+)`", GUIDE.read_text().split("## The gallery")[1].split("##")[0]))
+    named = set(re.findall(r"`([a-z-]+[0-9]?)`", GUIDE.read_text().split("## The gallery")[1].split("##")[0]))
     there = {path.stem for path in (ROOT / "examples").glob("*.txt") if not path.stem.startswith("refused-")}
     checks.equal("the guide names the gallery", named, there)

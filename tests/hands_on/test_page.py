@@ -53,6 +53,14 @@ STEP_200 = """(() => {
   return taken.sort((a, b) => a - b)[100];
 })()"""
 
+# Whether a node of the tree is inside the frame of the picture.
+IN_SIGHT = """(() => {
+  const frame = document.getElementById("canvas").getBoundingClientRect();
+  return [...document.querySelectorAll("#canvas .node .shape")].some((e) => {
+    const box = e.getBoundingClientRect();
+    return box.left >= frame.left && box.right <= frame.right && box.top >= frame.top && box.bottom <= frame.bottom; });
+})()"""
+
 # The relative luminance of the ink and of the ground.
 LUMINANCES = """(() => {
   const linear = (x) => (x <= 0.03928 ? x / 12.92 : ((x + 0.055) / 1.055) ** 2.4);
@@ -260,6 +268,18 @@ def moved(checks, page):
     finish(checks, page, name)
 
 
+def deep(checks, page):
+    checks.group("page: a tree that the frame does not hold")
+    name = "longest-lookup"
+    url = show(checks, EXAMPLES / f"{name}.txt")
+    page.open(f"{url}#at=3792")
+    checks.that(f"{name}: opened at a turn that makes no node, some node is in sight", page.evaluate(IN_SIGHT))
+    page.open(url)
+    page.press("End")
+    checks.that(f"{name}: likewise after End", page.evaluate(IN_SIGHT))
+    finish(checks, page, name)
+
+
 def vectors(checks, page):
     checks.group("page: some turns of the vectors")
     for path in sorted(VECTORS.glob("*.schedule"))[::6]:
@@ -316,7 +336,7 @@ def all_of(checks):
     (OUT / "page").mkdir(parents=True, exist_ok=True)
     try:
         with Page(OUT / "browser") as page:
-            for test in (stepped, reasons, depths, ranges, moved, vectors, refused_files, looks):
+            for test in (stepped, reasons, depths, ranges, moved, deep, vectors, refused_files, looks):
                 test(checks, page)
     except BrowserError as error:
         checks.that("the browser goes on", False, error)

@@ -23,6 +23,8 @@ FIGURES = {
     "colliding-joins": ["own step 7, row: t1 join 9 no (neighbour not replaceable)"],
     "late-lookup": ["own step 21, row: t0 join 3 yes", "own step 2, row: t1 lookup 3 yes"],
     "lost-insert": ["own step 21, row: t0 join 3 yes", "own step 9, row: t1 insert 4 yes"],
+    "longest-lookup": ["own step 62, row: t1 lookup 1 yes"],
+    "longest-lookup-3": ["own step 64, row: t1 lookup 1 yes 0"],
     "helped-join": ["own step 19, row: t1 insert 10 yes", "own step 18, row: t0 join 12 yes"],
     "depth-replaced": ["own step 3, row: t0 insert 3 yes", "insert 3 815, own step 3, row: t0 insert 3 no\n           - 0 normal 3=640\n"],
     "depth-lookup": ["row: t1 lookup 9 yes 0\n", "own step 2, row: t1 lookup 3 yes 640\n", "row: t2 lookup 3 yes 815\n", "row: t3 lookup 4 no\n"],

@@ -148,6 +148,13 @@ function draw(node, before, low, high, edges, nodes) {
   draw(node.right, before, Math.max(low, node.key), high, edges, nodes);
 }
 
+// Whether a node of the subtree is where the canvas is scrolled to.
+function inSight(node, scale, canvas) {
+  const x = node.x * scale - canvas.scrollLeft, y = node.y * scale - canvas.scrollTop;
+  return (x > 0 && x < canvas.clientWidth && y > 0 && y < canvas.clientHeight) ||
+    (node.kind === "route" && (inSight(node.left, scale, canvas) || inSight(node.right, scale, canvas)));
+}
+
 function drawTree(tree, before) {
   const edges = [], nodes = [], canvas = part("canvas");
   const levels = outline(tree.root);
@@ -159,6 +166,7 @@ function drawTree(tree, before) {
   canvas.innerHTML = `<svg role="img" aria-label="The tree" width="${width * scale}" height="${height * scale}" viewBox="0 0 ${width} ${height}">${edges.join("")}${nodes.join("")}</svg>`;
   const fresh = canvas.querySelector(".new");
   if (fresh) fresh.scrollIntoView({ block: "nearest", inline: "nearest" });
+  else if (!inSight(tree.root, scale, canvas)) canvas.scrollTo(tree.root.x * scale - canvas.clientWidth / 2, 0);
 }
 
 // ---- One turn ----

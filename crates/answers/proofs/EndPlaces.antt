@@ -109,6 +109,7 @@ module _ {b : Bench} {hist : Hist} {now : ℕ} {first : ℕ → Link} (inv : Inv
               ghost = record { lo = g .lo; hi = g .hi; up = g .up; life = g .life; tale = upd (g .tale) S (timed (suc now) (g .tale S)) };
               mem = fill m S (f .done) qu (ask .low) q right;
               rely = re;
+              linked = λ x i j. absurd (omega arith);
               know = (subst (λ v. TopOf v (λ h. (Z c : ℕ) × (h .store ≡ To Z) × (upd (b .store .stores) (storeOf (f .store)) (Set (f .done)) Z ≡ Set c))) (sym E) (S, f .done, ask .store, rw (eq-eqb S S refl)), nl);
               pile = kin-pile inv t _ _ (λ _. Unit {0}) (at p82 th) (alike refl refl refl refl) re refl pl₀;
             },

@@ -39,7 +39,7 @@ use Rattle.answers.proofs.Stays.{climbs}
 use Rattle.answers.proofs.Invariant.{Ghost, Agrees, Inv, alike, Stands, seen, away, pile-after}
 use Rattle.answers.proofs.Shown.{Good, Still, either, T'}
 use Rattle.answers.proofs.ReadPlaces.{go-on, go-on-at, know-now, back-quiet}
-use Rattle.answers.proofs.SwapPlaces.{HookPile, hook-pile, At, swap-ok, hits, one, top-one}
+use Rattle.answers.proofs.SwapPlaces.{HookPile, hook-pile, At, swap-ok, hits, only, one, top-one}
 use Rattle.answers.proofs.Returns.{asks-begun}
 use Rattle.answers.proofs.RangeSets.{union-empty}
 use Rattle.answers.proofs.Adding.{Adds, adding-by, pile-asks, pile-takes}
@@ -146,7 +146,7 @@ module _ {b : Bench} {hist : Hist} {now : ℕ} {first : ℕ → Link} (inv : Inv
             let kn = ad .knows w' hist (T' inv t) nl
             (pile-takes w w' hist (moment (first t)) (T' inv t) th f f₁ fs sn (o .free) pl as₁ (first-on inv t) (λ y. rw (eq-eqb sn sn refl) (let h = o .at .range in omega arith)) (λ y. rw (eq-eqb sn sn refl) (omega arith)) (m .tales .rest sn (omega arith)))
             (λ S _ _ s h. rw (gr .hi-y) (in-c n g m o rx lx zx s h)) (sym (ap (λ v. v .container .set) z)) in
-            record { ghost = _; mem = to-range v m x (g .lo x) (hist now (g .lo x)) hv (o .at .kind) rx lx lo by pz (λ s _. cz s) (cz _ ∙ m .bases .agrees x _ (o .at .kind) lx lo) (q _) (λ s _. q s) (suc sn) ta (ap (λ v. v .kind) z) tn; rely = re; know = kn .0; pile = kn .1 }
+            record { ghost = _; mem = to-range v m x (g .lo x) (hist now (g .lo x)) hv (o .at .kind) rx lx lo by pz (λ s _. cz s) (cz _ ∙ m .bases .agrees x _ (o .at .kind) lx lo) (q _) (λ s _. q s) (suc sn) ta (ap (λ v. v .kind) z) tn; rely = re; know = kn .0; pile = kn .1; linked = λ _ i j e. absurd (by (subst (λ v. n v .kind ≡ Route) (only inv t i j) e)) }
           where
             in-c : (n : Nodes) (g : Ghost) → Mem (W n g) hist → Opening (W n g) f → Replaceable (W n g) x → Live (W n g) x → n x ≡ b .store .nodes x → (s : ℕ) → has c s ≡ true → s < g .hi x
             in-c n g m o rx lx zx s h = repl-within m x s (o .at .kind) rx lx (ap (λ v. has (v .container .set) s) zx ∙ h) .1
@@ -254,7 +254,7 @@ module _ {b : Bench} {hist : Hist} {now : ℕ} {first : ℕ → Link} (inv : Inv
             let kn = ad .knows w' hist (T' inv t) nl
             (pile-asks w' hist (T' inv t) th f f₂ fs S (ask .store) as₁ (pile-after inv t w w' (λ _. Unit {0}) th (f ∷ fs) re refl refl refl refl pl))
             (λ Z _ _ s h. rw (gr .hi-y) (in-d n g m o rx lx zx s h .1)) (sym (ap (λ v. v .container .set) z)) in
-            record { ghost = _; mem = to-range v m y (g .lo y) (hist now (g .lo y)) hv (o .kind) rx lx lo by pz (λ s _. cz s) (cz _ ∙ m .bases .agrees y _ (o .kind) lx lo) (q _) (λ s _. q s) sn ta (ap (λ v. v .kind) z) tn; rely = re; know = kn .0; pile = kn .1 }
+            record { ghost = _; mem = to-range v m y (g .lo y) (hist now (g .lo y)) hv (o .kind) rx lx lo by pz (λ s _. cz s) (cz _ ∙ m .bases .agrees y _ (o .kind) lx lo) (q _) (λ s _. q s) sn ta (ap (λ v. v .kind) z) tn; rely = re; know = kn .0; pile = kn .1; linked = λ _ i j e. absurd (by (subst (λ v. n v .kind ≡ Route) (only inv t i j) e)) }
           where
             in-d : (n : Nodes) (g : Ghost) → Mem (W n g) hist → Nexts (W n g) f → Replaceable (W n g) y → Live (W n g) y → n y ≡ b .store .nodes y → (s : ℕ) → has d s ≡ true → In (W n g) s y
             in-d n g m o rx lx zx s h = repl-within m y s (o .kind) rx lx (ap (λ v. has (v .container .set) s) zx ∙ h)

@@ -20,7 +20,7 @@ use Rattle.answers.proofs.Used.{Few, step-few}
 
 -- ---- one record
 
-abbrev Keeps : Result → Type 0
+abbrev pub Keeps : Result → Type 0
 Keeps (refused k) = Unit {0}
 Keeps (carried b w) = Fits (b .store)
 
@@ -60,7 +60,7 @@ module _ (b : Bench) (h : Fits (b .store)) (t y d : ℕ) where
   acted-keeps (suc (suc (suc (suc (suc (suc zero)))))) = asked-keeps
   acted-keeps (suc (suc (suc (suc (suc (suc (suc n))))))) = tt
 
-record-keeps : (b : Bench) (l x y d : ℕ) → Fits (b .store) → Keeps (recordStep b l x y d)
+pub record-keeps : (b : Bench) (l x y d : ℕ) → Fits (b .store) → Keeps (recordStep b l x y d)
 unfolding recordStep
 record-keeps b l x y d h = either _ _ _ tt (either _ _ _ tt (acted-keeps b h (x / 16) y d (x % 16)))
 
