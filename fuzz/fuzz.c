@@ -14,9 +14,11 @@ typedef void operation(const uint8_t *, size_t, uint8_t *, size_t, uint64_t *);
 /* The reference behind the same interface, under names of its own. */
 extern operation reference_run, reference_run_one_writer, reference_list, reference_history;
 extern void reference_judge(const uint8_t *, size_t, uint8_t *, uint64_t *);
+extern void reference_tally(const uint8_t *, size_t, uint8_t *, size_t, struct nuxalder_tally *, uint64_t *);
+extern void reference_average(const struct nuxalder_tally *, uint8_t, uint64_t *);
 extern void reference_merge(const uint8_t *, size_t, const uint8_t *, size_t, uint8_t *, size_t, uint64_t *);
 
-static struct guard file_memory, second_memory, our_memory, their_memory;
+static struct guard file_memory, second_memory, our_memory, their_memory, tally_memory;
 
 /* The bytes looked at of a buffer's memory: the buffer and some beside it. */
 enum { BESIDE = 512 };
@@ -74,7 +76,38 @@ static void compare_judge(const uint8_t *file, size_t length)
     }
 }
 
-/* Judge on the file, and both runs, List and History with buffers just long enough, one byte short and longer. */
+/* Tally on the file: the tally that was lent to the file before, now and then with a cell that is near 32 bits. */
+static void compare_tally(const uint8_t *file, size_t length, size_t room, int at_start)
+{
+    static struct nuxalder_tally season;
+    static unsigned files;
+    uint64_t our[NUXALDER_TALLY_FIELDS] = {0}, their[NUXALDER_TALLY_FIELDS] = {0};
+    uint64_t our_average[NUXALDER_AVERAGE_FIELDS], their_average[NUXALDER_AVERAGE_FIELDS];
+    size_t cells = sizeof season / sizeof(uint32_t);
+
+    if (files++ % 64 == 0)
+        memset(&season, 0, sizeof season);
+    if (files % 4 == 0)
+        ((uint32_t *)&season)[files / 4 % cells] = UINT32_MAX - length % 8;
+    uint8_t *lent = guard_lend(file_memory, length, at_start);
+    memcpy(lent, file, length);
+    fill_both(room, at_start);
+    guard_fill(tally_memory);
+    struct nuxalder_tally *tally = (struct nuxalder_tally *)(void *)guard_lend(tally_memory, sizeof season, at_start);
+    *tally = season;
+    nuxalder_tally(lent, length, guard_lend(our_memory, room, at_start), room, tally, our);
+    reference_tally(lent, length, guard_lend(their_memory, room, at_start), room, &season, their);
+    nuxalder_average(tally, (uint8_t)(files % 9), our_average);
+    reference_average(&season, (uint8_t)(files % 9), their_average);
+    if (memcmp(our, their, sizeof our) != 0 || memcmp(lent, file, length) != 0 || !both_same(room, at_start) ||
+        memcmp(tally, &season, sizeof season) != 0 || memcmp(our_average, their_average, sizeof our_average) != 0 ||
+        !guard_kept(tally_memory, (const uint8_t *)tally, sizeof season)) {
+        fprintf(stderr, "Tally differs from the reference with a buffer of %zu bytes\n", room);
+        abort();
+    }
+}
+
+/* Judge on the file, and both runs, Tally, List and History with buffers just long enough, one byte short and longer. */
 static void compare_all(const uint8_t *file, size_t length)
 {
     size_t count = length < 3 ? 0 : (size_t)file[1] << 8 | file[2];
@@ -92,6 +125,7 @@ static void compare_all(const uint8_t *file, size_t length)
         compare("Run", nuxalder_run, reference_run, NUXALDER_RUN_FIELDS, file, length, row_rooms[i], i & 1);
         compare("The one-writer run", nuxalder_run_one_writer, reference_run_one_writer, NUXALDER_RUN_FIELDS, file, length,
                 row_rooms[i], i & 1);
+        compare_tally(file, length, row_rooms[i], i & 1);
         compare("List", nuxalder_list, reference_list, NUXALDER_LIST_FIELDS, file, length, text_rooms[i],
                 i & 1);
     }
@@ -151,6 +185,7 @@ int LLVMFuzzerTestOneInput(const uint8_t *data, size_t size)
         second_memory = guard_new(MEMORY);
         our_memory = guard_new(BUFFER_MEMORY);
         their_memory = guard_new(BUFFER_MEMORY);
+        tally_memory = guard_new(GUARD_PAGE);
     }
     if (size > MEMORY)
         return -1;

@@ -1,9 +1,10 @@
 /* Nuxalder: a turn-by-turn bench for a lock-free contention adapting search tree.
  *
  * Run, the one-writer run, List and History take a schedule file as bytes, carry it out on a fresh bench and hand
- * back numbers in `report` and bytes in a buffer that the caller lends; Merge takes two, Judge takes a history. They
- * keep no state between calls, allocate nothing, read no byte outside the files and write no byte outside the buffer
- * and the report. The lent memory must not overlap, and no pointer is null, also where its length is 0.
+ * back numbers in `report` and bytes in a buffer that the caller lends; Tally does so and adds what came of it to a
+ * tally that is lent; Merge takes two files, Judge takes a history. They keep no state between calls, allocate
+ * nothing, read no byte outside the files and write no byte outside the buffer, the tally and the report. The lent
+ * memory must not overlap, and no pointer is null, also where its length is 0.
  *
  * A schedule file: version byte, 1, 2 or 3, two-byte big-endian count, then `count` records of two bytes in version 1,
  * of four in version 2, which has a depth, 0 to 9,999 mm, beside each station. Byte 0 of a record: 16 * thread + action
@@ -43,6 +44,7 @@
  * Merge alone, in this order: 1 to 4 for a fault of the first file, then 1 to 4 for one of the second (2: any
  * version but 1), 17 for a thread that is not its file's, 3 for counts that total over 4,096, 18 for an output
  * buffer under 3 + 4 * the smaller count bytes.
+ * Tally alone, beside Run's own number: 19 for a file that would take a field of the tally past 32 bits.
  * History: 1, 3, 4 and 7 to 13 as Run has them for version 1, 2 for any version but 1, 5 for a buffer under
  * 3 + 4 * count bytes. Judge alone: 1, 2, 4, 21 to 23;
  * they stand with nuxalder_judge.
@@ -63,9 +65,9 @@
 
 /* The version of this interface. */
 #define NUXALDER_VERSION_MAJOR 1
-#define NUXALDER_VERSION_MINOR 4
+#define NUXALDER_VERSION_MINOR 5
 #define NUXALDER_VERSION_PATCH 0
-#define NUXALDER_VERSION "1.4.0"
+#define NUXALDER_VERSION "1.5.0"
 
 /* The functions may be called from several threads at once, each with its own report and buffers; a schedule
  * or a history may be shared. A call of one of them uses at most NUXALDER_STACK bytes of stack. */
@@ -124,6 +126,7 @@ enum nuxalder_refusal {
     NUXALDER_REFUSED_STORES = 16,
     NUXALDER_REFUSED_OTHER_THREAD = 17,
     NUXALDER_REFUSED_OUTPUT_BUFFER = 18,
+    NUXALDER_REFUSED_TALLY = 19,
     NUXALDER_REFUSED_EVENT = 21,
     NUXALDER_REFUSED_OPERATIONS = 22,
     NUXALDER_REFUSED_UNFINISHED = 23,
@@ -243,6 +246,59 @@ void nuxalder_merge(const uint8_t *first, size_t first_length,
                     uint8_t *out, size_t out_length,
                     uint64_t report[NUXALDER_MERGE_FIELDS]);
 
+/* ---- tallies */
+
+#define NUXALDER_TALLY_ACTIONS 8   /* cells of a field: one for each action number; 0 and 7 are unused */
+#define NUXALDER_TALLY_REFUSALS 17 /* one for each refusal number; 0 and 6 are never counted */
+
+/* A tally of many runs: 65 numbers of 32 bits, by action and by refusal number. Cells that no run adds to are left as
+ * they are lent. A season begins with all cells 0. */
+struct nuxalder_tally {
+    uint32_t starts[NUXALDER_TALLY_ACTIONS];     /* accepted starts */
+    uint32_t yes[NUXALDER_TALLY_ACTIONS];        /* operations that finished with 1 */
+    uint32_t no[NUXALDER_TALLY_ACTIONS];         /* operations that finished with any other answer: 0, 2 to 7 */
+    uint32_t unfinished[NUXALDER_TALLY_ACTIONS]; /* operations that were open where their run ended */
+    uint32_t steps[NUXALDER_TALLY_ACTIONS];      /* steps of the finished ones: all together */
+    uint32_t largest[NUXALDER_TALLY_ACTIONS];    /* and the most of one */
+    uint32_t refusals[NUXALDER_TALLY_REFUSALS];  /* files that were refused, whole or at a record */
+};
+
+/* What nuxalder_tally writes to report[]: Run's six numbers, NUXALDER_RUN_REFUSAL to NUXALDER_RUN_USED, and */
+enum {
+    NUXALDER_TALLY_REFUSAL = 6 /* 0, or 19 where the tally was left as it was */
+};
+
+/* What nuxalder_average writes to average[]. */
+enum {
+    NUXALDER_AVERAGE_STEPS = 0,
+    NUXALDER_AVERAGE_OPERATIONS = 1
+};
+
+#define NUXALDER_TALLY_FIELDS 7
+#define NUXALDER_AVERAGE_FIELDS 2
+
+/* Carries out the schedule as nuxalder_run does, with the same numbers, rows and refusals, and adds its run to the
+ * tally, field by field, the largest for the largest. A step counts for the operation that its thread has open, the last
+ * one among them. A file that is refused with 1 to 5 adds only its refusal; one whose record is refused adds what was
+ * done before it, and its refusal. Where any field would pass 32 bits no cell changes, and NUXALDER_TALLY_REFUSAL is 19;
+ * the other numbers and the rows are Run's all the same.
+ *
+ *     static struct nuxalder_tally season; // all cells are 0
+ *     uint64_t report[NUXALDER_TALLY_FIELDS], average[NUXALDER_AVERAGE_FIELDS];
+ *     for (each file)
+ *         nuxalder_tally(file, length, rows, sizeof rows, &season, report);
+ *     nuxalder_average(&season, NUXALDER_INSERT, average);
+ */
+void nuxalder_tally(const uint8_t *schedule, size_t schedule_length,
+                    uint8_t *rows, size_t rows_length,
+                    struct nuxalder_tally *tally,
+                    uint64_t report[NUXALDER_TALLY_FIELDS]);
+
+/* The average of an action's row: steps over finished operations as two whole numbers in lowest terms, 0 over 1 where
+ * none has finished and for a number that is no action's, 0 or over 6. The tally is not changed. */
+void nuxalder_average(const struct nuxalder_tally *tally, uint8_t action,
+                      uint64_t average[NUXALDER_AVERAGE_FIELDS]);
+
 /* ---- histories
  *
  * A history file: version byte 1, two-byte big-endian count, then `count` events of four bytes: thread, action
@@ -314,6 +370,7 @@ static inline const char *nuxalder_refusal_words(uint64_t refusal)
     case NUXALDER_REFUSED_STORES: return "a swap that needs a store of a range query, and all 64 are used";
     case NUXALDER_REFUSED_OTHER_THREAD: return "a thread that is not its file's";
     case NUXALDER_REFUSED_OUTPUT_BUFFER: return "an output buffer under 3 + 4 * the smaller count bytes";
+    case NUXALDER_REFUSED_TALLY: return "a file that would take a field of the tally past 32 bits";
     case NUXALDER_REFUSED_EVENT: return "an event out of place";
     case NUXALDER_REFUSED_OPERATIONS: return "more than 12 operations";
     case NUXALDER_REFUSED_UNFINISHED: return "an operation that is not finished";

@@ -1,12 +1,14 @@
 //! Times Run and List, on files of each version, Run on files of many splits and with range queries, and Merge of the library and of the
 //! reference on the same schedules, in turn, and prints the medians and their ratio for each size. Buffers are lent as they are, not cleared
-//! between calls. Then Judge, on hard histories, and the one-writer run on files of one writer. `speed splits`, `speed ranges`, `speed stops`
-//! (version 3), `speed judge` and `speed one-writer` do only those; `speed search N SEED` looks for harder histories with N tries.
+//! between calls. Then Judge, on hard histories, the one-writer run on files of one writer, and Run with a tally beside Run. `speed splits`,
+//! `speed ranges`, `speed stops` (version 3), `speed judge`, `speed one-writer` and `speed tally` do only those; `speed search N SEED` looks
+//! for harder histories with N tries.
 
 mod judge;
 mod ranges;
 mod splits;
 mod stops;
+mod tally;
 
 use differential::library;
 use differential::merges::whole;
@@ -76,6 +78,7 @@ fn main() {
             schedules();
             judge::compare();
             one_writer();
+            tally::time();
         }
         ["splits"] => {
             heading();
@@ -91,11 +94,12 @@ fn main() {
         }
         ["judge"] => judge::compare(),
         ["one-writer"] => one_writer(),
+        ["tally"] => tally::time(),
         ["search", rounds, seed] => judge::search(
             rounds.parse().expect("a number of tries"),
             seed.parse().expect("a seed"),
         ),
-        _ => panic!("usage: speed [splits | ranges | stops | judge | one-writer | search N SEED]"),
+        _ => panic!("usage: speed [splits | ranges | stops | judge | one-writer | tally | search N SEED]"),
     }
 }
 

@@ -14,7 +14,7 @@ enum { MEMORY = 8 * GUARD_PAGE };
 enum { LIST_ROOM = 4096 };
 
 static unsigned long passed, failed;
-static struct guard schedule_memory, rows_memory, text_memory;
+static struct guard schedule_memory, rows_memory, text_memory, tally_memory;
 
 /* What the last calls handed back. */
 static uint64_t run[NUXALDER_RUN_FIELDS];
@@ -836,11 +836,186 @@ static void one_writer(int at_start)
     }
 }
 
+/* Tally on a copy of `before` in guarded memory: Run's answers beside it, and cells that are `after`. */
+static void call_tally(const char *name, const uint8_t *file, size_t length, size_t room, int at_start,
+                       const struct nuxalder_tally *before, const struct nuxalder_tally *after, uint64_t refusal)
+{
+    uint64_t around[NUXALDER_TALLY_FIELDS + 2];
+    uint8_t expected[MEMORY];
+
+    call_run(file, length, room, at_start);
+    memcpy(expected, rows_memory.bytes, sizeof expected);
+    const uint8_t *copy = lend_file(file, length, at_start);
+    guard_fill(rows_memory);
+    guard_fill(tally_memory);
+    struct nuxalder_tally *lent = (struct nuxalder_tally *)(void *)guard_lend(tally_memory, sizeof *lent, at_start);
+    *lent = *before;
+    memset(around, 0x5A, sizeof around);
+    uint64_t canary = around[0];
+    nuxalder_tally(copy, length, guard_lend(rows_memory, room, at_start), room, lent, around + 1);
+    check(around[0] == canary && around[NUXALDER_TALLY_FIELDS + 1] == canary, "%s: Tally wrote outside its report", name);
+    check(memcmp(around + 1, run, sizeof run) == 0 && memcmp(rows_memory.bytes, expected, sizeof expected) == 0,
+          "%s: Tally has other numbers or rows than Run", name);
+    check(around[1 + NUXALDER_TALLY_REFUSAL] == refusal, "%s: Tally says %" PRIu64, name, around[1 + NUXALDER_TALLY_REFUSAL]);
+    const uint32_t *got = (const uint32_t *)lent, *right = (const uint32_t *)after;
+    for (size_t i = 0; i < sizeof *lent / sizeof *got; i++)
+        check(got[i] == right[i], "%s: cell %zu is %" PRIu32 ", not %" PRIu32, name, i, got[i], right[i]);
+    check(guard_kept(tally_memory, (const uint8_t *)lent, sizeof *lent), "%s: Tally wrote beside the tally", name);
+    file_kept(copy, file, length);
+}
+
+/* The tally of one file by hand, then two of it, refused files, and each cell in turn so near 32 bits that the file goes past. */
+static void tallies(int at_start)
+{
+    static struct nuxalder_tally empty, one, two, near, after;
+    static struct plan p;
+    static const uint8_t long_count[] = {1, 16, 1};
+
+    check(sizeof one == 260, "a tally has %zu bytes", sizeof one);
+    memset(&one, 0, sizeof one);
+    /* the printed run, a join that is killed by an insert, lookups of both answers, a join and a lookup left open */
+    plan_printed_run(&p);
+    plan_alone(&p, 0, JOIN, 3, 7);
+    plan_alone(&p, 1, INSERT, 4, 9);
+    plan_steps(&p, 0, 9);
+    plan_alone(&p, 2, LOOKUP, 3, 2);
+    plan_alone(&p, 2, LOOKUP, 5, 2);
+    plan_alone(&p, 2, LOOKUP, 6, 1);
+    plan_alone(&p, 3, REMOVE, 9, 6);
+    plan_alone(&p, 0, JOIN, 3, 4);
+    plan_record(&p, 0x02, 9); /* thread 0 is busy: 11 */
+    one.starts[LOOKUP] = 3;
+    one.yes[LOOKUP] = one.no[LOOKUP] = one.unfinished[LOOKUP] = 1;
+    one.steps[LOOKUP] = 4;
+    one.largest[LOOKUP] = 2;
+    one.starts[INSERT] = one.yes[INSERT] = 3;
+    one.steps[INSERT] = 15;
+    one.largest[INSERT] = 9;
+    one.starts[REMOVE] = one.yes[REMOVE] = 1;
+    one.steps[REMOVE] = one.largest[REMOVE] = 6;
+    one.starts[SPLIT] = one.yes[SPLIT] = 1;
+    one.steps[SPLIT] = one.largest[SPLIT] = 3;
+    one.starts[JOIN] = 2;
+    one.no[JOIN] = one.unfinished[JOIN] = 1;
+    one.steps[JOIN] = one.largest[JOIN] = 16;
+    one.refusals[NUXALDER_REFUSED_BUSY] = 1;
+    size_t need = 2 * plan_count(&p);
+    call_tally("one file", p.file, p.length, need, at_start, &empty, &one, 0);
+    const uint32_t *cells = (const uint32_t *)&one;
+    uint32_t *doubled = (uint32_t *)&two, *edge = (uint32_t *)&near, *right = (uint32_t *)&after;
+    size_t count = sizeof one / sizeof *cells, largest = 5 * NUXALDER_TALLY_ACTIONS;
+    for (size_t i = 0; i < count; i++)
+        doubled[i] = i >= largest && i < largest + NUXALDER_TALLY_ACTIONS ? cells[i] : 2 * cells[i];
+    call_tally("two files", p.file, p.length, need + 5, at_start, &one, &two, 0);
+
+    after = one;
+    after.refusals[NUXALDER_REFUSED_ROWS_BUFFER] = 1;
+    call_tally("a short row buffer", p.file, p.length, need - 1, at_start, &one, &after, 0);
+    after = one;
+    after.refusals[NUXALDER_REFUSED_COUNT] = 1;
+    call_tally("a refused file", long_count, sizeof long_count, 0, at_start, &one, &after, 0);
+
+    for (size_t i = 0; i < count; i++) {
+        int is_largest = i >= largest && i < largest + NUXALDER_TALLY_ACTIONS;
+        memset(&near, 0, sizeof near);
+        edge[i] = UINT32_MAX - cells[i];
+        after = one;
+        right[i] = UINT32_MAX - (is_largest ? cells[i] : 0);
+        call_tally("a cell that just fits", p.file, p.length, need, at_start, &near, &after, 0);
+        if (cells[i] == 0)
+            continue;
+        edge[i]++;
+        after = is_largest ? one : near;
+        right[i] = edge[i];
+        call_tally("a cell past 32 bits", p.file, p.length, need, at_start, &near, &after, is_largest ? 0 : 19);
+    }
+
+    /* version 2 adds to the same rows */
+    static struct deep_plan deep;
+    deep_empty(&deep);
+    deep_alone(&deep, 0, INSERT, 9, 640, 3);
+    deep_alone(&deep, 1, LOOKUP, 9, 0, 1);
+    deep_record(&deep, 0x12, 9, 10000);
+    after = one;
+    after.starts[INSERT]++, after.yes[INSERT]++, after.steps[INSERT] += 3;
+    after.starts[LOOKUP]++, after.yes[LOOKUP]++, after.steps[LOOKUP]++;
+    after.refusals[NUXALDER_REFUSED_DEPTH]++;
+    call_tally("version 2", deep.file, deep.length, 7 * deep_count(&deep), at_start, &one, &after, 0);
+
+    /* its range queries: one that finds both stations, one that finds none, one left open, an upper end that is refused */
+    deep_two_bases(&deep);
+    deep_alone(&deep, 1, RANGE, 0, 63, 16);
+    deep_alone(&deep, 1, RANGE, 0, 2, 7);
+    deep_alone(&deep, 2, RANGE, 0, 63, 2);
+    deep_record(&deep, 0x36, 9, 3);
+    after = one;
+    after.starts[INSERT] += 2, after.yes[INSERT] += 2, after.steps[INSERT] += 6;
+    after.starts[SPLIT]++, after.yes[SPLIT]++, after.steps[SPLIT] += 3;
+    after.starts[RANGE] = 3;
+    after.yes[RANGE] = after.no[RANGE] = after.unfinished[RANGE] = 1;
+    after.steps[RANGE] = 23;
+    after.largest[RANGE] = 16;
+    after.refusals[NUXALDER_REFUSED_UPPER_END] = 1;
+    call_tally("range queries", deep.file, deep.length, 7 * deep_count(&deep), at_start, &one, &after, 0);
+    near = one;
+    near.no[RANGE] = UINT32_MAX;
+    call_tally("a query past 32 bits", deep.file, deep.length, 7 * deep_count(&deep), at_start, &near, &near, 19);
+
+    /* version 3: a lookup takes two steps more below eight routes, and a join between them is stopped, which is a no */
+    deep_chain(&deep);
+    deep_alone(&deep, 1, LOOKUP, 8, 0, 10);
+    deep_alone(&deep, 0, JOIN, 3, 0, 7);
+    deep_steps(&deep, 1, 1);
+    after = one;
+    after.starts[INSERT] += 9, after.yes[INSERT] += 9, after.steps[INSERT] += 69, after.largest[INSERT] = 12;
+    after.starts[SPLIT] += 8, after.yes[SPLIT] += 8, after.steps[SPLIT] += 66, after.largest[SPLIT] = 12;
+    after.starts[LOOKUP]++, after.yes[LOOKUP]++, after.steps[LOOKUP] += 11, after.largest[LOOKUP] = 11;
+    after.starts[JOIN]++, after.no[JOIN]++, after.steps[JOIN] += 7;
+    call_tally("version 3", deep.file, deep.length, 7 * deep_count(&deep), at_start, &one, &after, 0);
+    near = one;
+    near.no[JOIN] = UINT32_MAX;
+    call_tally("a stopped join past 32 bits", deep.file, deep.length, 7 * deep_count(&deep), at_start, &near, &near, 19);
+}
+
+/* Steps over operations in lowest terms. */
+static void averages(int at_start)
+{
+    static const struct {
+        uint32_t steps, yes, no;
+        uint64_t average[NUXALDER_AVERAGE_FIELDS];
+    } cases[] = {
+        {0, 0, 0, {0, 1}}, {7, 0, 0, {0, 1}}, {0, 9, 0, {0, 1}}, {15, 3, 0, {5, 1}}, {12, 5, 3, {3, 2}}, {9, 2, 3, {9, 5}},
+        {UINT32_MAX, UINT32_MAX, UINT32_MAX, {1, 2}}, {UINT32_MAX, UINT32_MAX, 0, {1, 1}}, {1, UINT32_MAX, 1, {1, UINT64_C(4294967296)}},
+        {6, 0, 4, {3, 2}}, {4294967291u, 2, 0, {4294967291u, 2}},
+    };
+    for (size_t i = 0; i < sizeof cases / sizeof cases[0]; i++)
+        for (unsigned action = 0; action < 12; action++) {
+            uint64_t average[NUXALDER_AVERAGE_FIELDS + 1] = {99, 99, 99};
+            guard_fill(tally_memory);
+            struct nuxalder_tally *lent = (struct nuxalder_tally *)(void *)guard_lend(tally_memory, sizeof *lent, at_start);
+            memset(lent, 0x77, sizeof *lent);
+            if (action < NUXALDER_TALLY_ACTIONS) {
+                lent->steps[action] = cases[i].steps;
+                lent->yes[action] = cases[i].yes;
+                lent->no[action] = cases[i].no;
+            }
+            struct nuxalder_tally before = *lent;
+            nuxalder_average(lent, (uint8_t)action, average);
+            int none = action == 0 || action > 6;
+            check(average[NUXALDER_AVERAGE_STEPS] == (none ? 0 : cases[i].average[0]) &&
+                      average[NUXALDER_AVERAGE_OPERATIONS] == (none ? 1 : cases[i].average[1]) && average[2] == 99,
+                  "average %zu of action %u is %" PRIu64 "/%" PRIu64, i, action, average[0], average[1]);
+            check(memcmp(&before, lent, sizeof before) == 0 && guard_kept(tally_memory, (const uint8_t *)lent, sizeof *lent),
+                  "Average wrote to the tally");
+        }
+}
+
 int main(void)
 {
     schedule_memory = guard_new(MEMORY);
     rows_memory = guard_new(MEMORY);
     text_memory = guard_new(MEMORY);
+    tally_memory = guard_new(GUARD_PAGE);
     examples();
     reasons();
     refused_records();
@@ -857,6 +1032,8 @@ int main(void)
         deep_refusals(at_start);
         stops(at_start);
         one_writer(at_start);
+        tallies(at_start);
+        averages(at_start);
     }
     printf("%lu passed, %lu failed\n", passed, failed);
     return failed == 0 && passed > 0 ? EXIT_SUCCESS : EXIT_FAILURE;

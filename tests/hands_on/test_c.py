@@ -45,19 +45,27 @@ int main(void) {
 """
 
 
-# Calls both runs, from the installed files.
+# Calls both runs and Tally, from the installed files.
 CALLS = """#include <nuxalder.h>
 #include <stdio.h>
 int main(void) {
-    const uint8_t schedule[] = {NUXALDER_FILE_VERSION, 0, 2, NUXALDER_FIRST_BYTE(1, NUXALDER_LOOKUP), 9,
-                                NUXALDER_FIRST_BYTE(2, NUXALDER_INSERT), 9};
+    const uint8_t schedule[] = {NUXALDER_FILE_VERSION, 0, 3, NUXALDER_FIRST_BYTE(1, NUXALDER_LOOKUP), 9,
+                                NUXALDER_FIRST_BYTE(1, NUXALDER_STEP), 0, NUXALDER_FIRST_BYTE(2, NUXALDER_INSERT), 9};
+    static struct nuxalder_tally season;
     uint8_t rows[NUXALDER_ROWS_BUFFER];
-    uint64_t report[NUXALDER_RUN_FIELDS];
+    uint64_t report[NUXALDER_TALLY_FIELDS], average[NUXALDER_AVERAGE_FIELDS];
     nuxalder_run(schedule, sizeof schedule, rows, sizeof rows, report);
     printf("%d %s\\n", (int)report[NUXALDER_RUN_RECORDS], nuxalder_refusal_words(report[NUXALDER_RUN_REFUSAL]));
     nuxalder_run_one_writer(schedule, sizeof schedule, rows, sizeof rows, report);
     printf("%d %s\\n", (int)report[NUXALDER_RUN_RECORDS], nuxalder_refusal_words(report[NUXALDER_RUN_REFUSAL]));
-    return report[NUXALDER_RUN_REFUSAL] != NUXALDER_REFUSED_WRITER;
+    nuxalder_tally(schedule, sizeof schedule, rows, sizeof rows, &season, report);
+    nuxalder_average(&season, NUXALDER_LOOKUP, average);
+    printf("%d %d %d/%d\\n", (int)season.no[NUXALDER_LOOKUP], (int)season.unfinished[NUXALDER_INSERT],
+           (int)average[NUXALDER_AVERAGE_STEPS], (int)average[NUXALDER_AVERAGE_OPERATIONS]);
+    season.starts[NUXALDER_INSERT] = UINT32_MAX;
+    nuxalder_tally(schedule, sizeof schedule, rows, sizeof rows, &season, report);
+    printf("%d %s\\n", (int)season.no[NUXALDER_LOOKUP], nuxalder_refusal_words(report[NUXALDER_TALLY_REFUSAL]));
+    return sizeof season != 65 * sizeof(uint32_t);
 }
 """
 
@@ -125,8 +133,9 @@ def install(checks):
     calls = HOME / "calls.c"
     calls.write_text(CALLS)
     built = run("cc", "-std=c99", *STRICT, calls, *words, "-o", HOME / "calls")
-    checks.equal("a program with both runs is built from them", built, (0, "", ""))
-    checks.equal("and they differ in 24", run(HOME / "calls"), (0, f"2 not refused\n1 {bench.REFUSALS[24]}\n", ""))
+    checks.equal("a program with both runs and a tally is built from them", built, (0, "", ""))
+    told = f"3 not refused\n2 {bench.REFUSALS[24]}\n1 1 1/1\n1 {bench.REFUSALS[19]}\n"
+    checks.equal("the runs differ in 24, and it tallies", run(HOME / "calls"), (0, told, ""))
     code = EXAMPLE.read_text()
     checks.that(f"it has at most {LINES_MOST} lines", len(code.splitlines()) <= LINES_MOST)
     readme = (ROOT / "README.md").read_text()
@@ -151,8 +160,9 @@ def threads(checks):
     checks.that("and runs written as histories", told["written"] >= 50, out)
     checks.that("and histories of both verdicts", len(files) // 2 <= told["accepted"] < len(files), out)
     checks.that("and one-writer runs that end at a barred record, and others", 20 <= told["barred"] < len(files), out)
+    checks.that("and tallies with inserts", told["averaged"] >= 50, out)
     stack = int(re.search(r"#define NUXALDER_STACK (\d+)", HEADER.read_text())[1])
-    most = max(told[name] for name in ("run", "one-writer", "list", "merge", "history", "judge"))
+    most = max(told[name] for name in ("run", "one-writer", "tally", "list", "merge", "history", "judge"))
     # A tree of 63 levels, the deepest there can be, is a few frames deeper than the one measured.
     checks.that(f"the stack used is what the header says: {out.strip()}", stack / 4 < most and most + 2048 < stack)
     checks.that("the header says that threads may call", "from several threads at once" in HEADER.read_text())

@@ -6,10 +6,11 @@
 
 #include "nuxalder.h"
 
-enum { GOOD, WRONG, CRASH, HANG, QUIT, CHATTY, SCRIBBLE, LIAR, LATE, DEEP };
+enum { GOOD, WRONG, CRASH, HANG, QUIT, CHATTY, SCRIBBLE, LIAR, LATE, DEEP, FULL };
 
 void own_run(const uint8_t *, size_t, uint8_t *, size_t, uint64_t *);
 void own_run_one_writer(const uint8_t *, size_t, uint8_t *, size_t, uint64_t *);
+void own_tally(const uint8_t *, size_t, uint8_t *, size_t, struct nuxalder_tally *, uint64_t *);
 void own_list(const uint8_t *, size_t, uint8_t *, size_t, uint64_t *);
 void own_merge(const uint8_t *, size_t, const uint8_t *, size_t, uint8_t *, size_t, uint64_t *);
 
@@ -38,6 +39,23 @@ void nuxalder_run_one_writer(const uint8_t *schedule, size_t length, uint8_t *ro
     if (FAULT == WRONG && report[NUXALDER_RUN_REFUSAL] == NUXALDER_REFUSED_WRITER) report[NUXALDER_RUN_REFUSAL] = 12;
     if (FAULT == CRASH) abort();
     if (FAULT == SCRIBBLE) rows[room - 1] = 1;
+}
+
+void nuxalder_tally(const uint8_t *schedule, size_t length, uint8_t *rows, size_t room, struct nuxalder_tally *tally, uint64_t *report)
+{
+    struct nuxalder_tally before = *tally;
+
+    own_tally(schedule, length, rows, room, tally, report);
+    if (FAULT == WRONG) tally->no[NUXALDER_INSERT]++;
+    if (FAULT == CRASH && length > 40) abort();
+    if (FAULT == QUIT && length > 40) exit(0);
+    if (FAULT == CHATTY) printf("file 0 0 0\n");
+    if (FAULT == SCRIBBLE) rows[room - 1] = 1;
+    /* As if a field had been near 32 bits. */
+    if (FAULT == FULL && length > 40) {
+        *tally = before;
+        report[NUXALDER_TALLY_REFUSAL] = NUXALDER_REFUSED_TALLY;
+    }
 }
 
 void nuxalder_list(const uint8_t *schedule, size_t length, uint8_t *text, size_t room, uint64_t *report)

@@ -37,6 +37,7 @@ REFUSALS = {
     16: "a swap that needs a store of a range query, and all 64 are used",
     17: "a thread that is not its file's",
     18: "an output buffer under 3 + 4 * the smaller count bytes",
+    19: "a file that would take a field of the tally past 32 bits",
     21: "an event out of place",
     22: "more than 12 operations",
     23: "an operation that is not finished",

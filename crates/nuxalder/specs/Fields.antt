@@ -7,6 +7,8 @@ use Rattle.definitions.specs.declared.Listed.{Listed}
 use Rattle.definitions.specs.Merge.{Merged}
 use Rattle.definitions.specs.declared.Written.{Written}
 use Rattle.definitions.specs.declared.Judged.{Judged}
+use Rattle.season.specs.declared.Tallied.{Tallied}
+use Rattle.season.specs.declared.Average.{Average}
 
 abbrev pub runFields : Report → List ℕ
 runFields r = r .refusal ∷ r .records ∷ r .rows ∷ r .set ∷ r .stored ∷ r .used ∷ []
@@ -23,3 +25,10 @@ writtenFields r = r .refusal ∷ r .length ∷ []
 -- 1 for accepted, else 0; the order's twelve bytes stand apart
 abbrev pub judgedFields : Judged → List ℕ
 judgedFields r = r .refusal ∷ once (r .accepted) ∷ r .operations ∷ []
+
+-- Run's six numbers, then 19 or 0
+abbrev pub tallyFields : Tallied → List ℕ
+tallyFields r = r .report .refusal ∷ r .report .records ∷ r .report .rows ∷ r .report .set ∷ r .report .stored ∷ r .report .used ∷ r .refusal ∷ []
+
+abbrev pub averageFields : Average → List ℕ
+averageFields r = r .steps ∷ r .operations ∷ []

@@ -1,4 +1,4 @@
-// Run, the one-writer run, List, Merge, History and Judge for a C host; include/nuxalder.h says what each number means.
+// Run, the one-writer run, List, Merge, History, Judge and Tally for a C host; include/nuxalder.h says what each number means.
 ghost use mathlib.Core.Path.{_≡_};
 ghost use lib.ListN.{length};
 ghost use Rattle.definitions.specs.Run.{runReport, runBuffer};
@@ -8,7 +8,9 @@ ghost use Rattle.definitions.specs.Merge.{mergeReport, mergeBuffer};
 ghost use Rattle.definitions.specs.Written.{writtenReport, writtenBuffer};
 ghost use Rattle.definitions.specs.Judgement.{Judgement, once};
 ghost use Rattle.definitions.specs.declared.Judged.{Judged};
-ghost use Rattle.nuxalder.specs.Fields.{runFields, listFields, mergeFields, writtenFields, judgedFields};
+ghost use Rattle.season.specs.Tally.{tallyReport, tallyNumbers};
+ghost use Rattle.season.specs.Season.{averageOf};
+ghost use Rattle.nuxalder.specs.Fields.{runFields, listFields, mergeFields, writtenFields, judgedFields, tallyFields, averageFields};
 
 // void nuxalder_run(const uint8_t *schedule, size_t length, uint8_t *rows, size_t length, uint64_t report[6])
 #[no_mangle]
@@ -88,4 +90,36 @@ pub extern "C" fn nuxalder_judge(history: &[u8], order: &mut [u8; 12], report: &
     let numbers = r.order;
     *order = numbers;
     *report = [r.refusal, yes, r.operations];
+}
+
+// void nuxalder_tally(const uint8_t *schedule, size_t length, uint8_t *rows, size_t length, uint32_t tally[65], uint64_t report[7])
+#[no_mangle]
+pub extern "C" fn nuxalder_tally(
+    schedule: &[u8],
+    rows: &mut [u8],
+    tally: &mut [u32; 65],
+    report: &mut [u64; 7],
+)
+    ensures { λ _. ⌜ (now (report .exit) ≡ tallyFields (tallyReport (now (schedule .entry)) (length (now (rows .entry))) (now (tally .entry)))) × ((now (rows .exit) ≡ runBuffer (now (schedule .entry)) (now (rows .entry))) × (now (tally .exit) ≡ tallyNumbers (now (schedule .entry)) (length (now (rows .entry))) (now (tally .entry)))) ⌝ }
+{
+    let t = tally::tally(schedule, rows, tally);
+    let r = t.report;
+    *report = [
+        r.refusal,
+        r.records,
+        r.rows,
+        r.set,
+        r.stored,
+        r.used,
+        t.refusal,
+    ];
+}
+
+// void nuxalder_average(const uint32_t tally[65], uint8_t action, uint64_t average[2])
+#[no_mangle]
+pub extern "C" fn nuxalder_average(tally: &[u32; 65], action: u8, average: &mut [u64; 2])
+    ensures { λ _. ⌜ now (average .exit) ≡ averageFields (averageOf (now (tally .entry)) action) ⌝ }
+{
+    let r = tally::average_of(tally, action);
+    *average = [r.steps, r.operations];
 }

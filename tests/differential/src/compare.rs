@@ -3,7 +3,7 @@
 use crate::guard::Guarded;
 use crate::library;
 use crate::rng::Rng;
-use reference::{sizes, Counter, Observer, EVENT, HISTORY_HEADER, MAX_RECORDS};
+use reference::{sizes, Counter, Observer, RunReport, Tally, EVENT, HISTORY_HEADER, MAX_RECORDS, TALLY_CELLS};
 use std::fmt::Debug;
 use std::ops::Range;
 
@@ -21,6 +21,7 @@ enum Which {
 pub struct Comparer {
     file: Guarded,
     buffer: Guarded,
+    tally: Guarded,
     twin: Vec<u8>,
     /// What the reference's Run reached, in files of version 2, of version 3 and in all others.
     pub counters: [Counter; 3],
@@ -36,6 +37,7 @@ impl Comparer {
         Comparer {
             file: Guarded::new(longest),
             buffer: Guarded::new(sizes(2)[2] * MAX_RECORDS + SLACK),
+            tally: Guarded::new(4 * TALLY_CELLS),
             twin: Vec::new(),
             counters: [(); 3].map(|()| Counter::new()),
             one_writer: [(); 3].map(|()| Counter::new()),
@@ -117,6 +119,45 @@ impl Comparer {
             reached.refusal(5, 0);
         }
         self.judge(name, room, file, place, (got, expected))
+    }
+
+    /// Compares Tally on a file, with a tally lent to both and a row buffer of `room` bytes. Hands back what the tally then
+    /// holds, what Run says, and 0 or 19.
+    pub fn tally(
+        &mut self,
+        file: &[u8],
+        room: usize,
+        lent: &Tally,
+        rng: &mut Rng,
+    ) -> Result<(Tally, RunReport, u64), String> {
+        let place = prepare(
+            &mut self.file,
+            &mut self.buffer,
+            &mut self.twin,
+            file,
+            room,
+            rng,
+        );
+        let mut after = *lent;
+        let expected = reference::tally(file, &mut self.twin[place.twin.clone()], &mut after);
+        let at = self.tally.place(4 * TALLY_CELLS, rng.once_in(2));
+        // a mapping begins at a page, and a tally is whole words
+        let (_, words, _) = unsafe { self.tally.bytes_mut().align_to_mut::<u32>() };
+        words.fill(0x5A5A_A5A5);
+        let cells = &mut words[at.start / 4..at.end / 4];
+        cells.copy_from_slice(&lent.cells());
+        let buffer = &mut self.buffer.bytes_mut()[place.buffer.clone()];
+        let got = library::tally(&self.file.bytes()[place.file.clone()], buffer, cells);
+        if let Some(i) = (0..TALLY_CELLS).find(|&i| cells[i] != after.cells()[i]) {
+            let (was, now, right) = (lent.cells()[i], cells[i], after.cells()[i]);
+            return Err(format!("Tally: cell {i}, {was} before, is {now}, not {right}"));
+        }
+        cells.fill(0x5A5A_A5A5);
+        if words.iter().any(|&word| word != 0x5A5A_A5A5) {
+            return Err("Tally wrote beside the tally".into());
+        }
+        self.judge("Tally", room, file, place, (got, expected))?;
+        Ok((after, expected.0, expected.1))
     }
 
     fn list(&mut self, file: &[u8], room: usize, rng: &mut Rng) -> Result<(), String> {
@@ -227,7 +268,7 @@ pub fn version_index(file: &[u8]) -> usize {
 }
 
 /// The count that the header states, as far as there is a header, and no more than a file may hold.
-fn claimed(file: &[u8]) -> usize {
+pub fn claimed(file: &[u8]) -> usize {
     match file {
         [_, high, low, ..] => usize::from(u16::from_be_bytes([*high, *low])).min(MAX_RECORDS),
         _ => 0,

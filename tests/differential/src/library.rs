@@ -1,6 +1,8 @@
 //! The library through include/nuxalder.h.
 
-use reference::{HistoryReport, JudgeReport, ListReport, MergeReport, RunReport, MAX_OPERATIONS};
+use reference::{
+    HistoryReport, JudgeReport, ListReport, MergeReport, RunReport, MAX_OPERATIONS, TALLY_CELLS,
+};
 
 extern "C" {
     fn nuxalder_run(
@@ -17,6 +19,15 @@ extern "C" {
         rows_length: usize,
         report: *mut u64,
     );
+    fn nuxalder_tally(
+        file: *const u8,
+        length: usize,
+        rows: *mut u8,
+        rows_length: usize,
+        tally: *mut u32,
+        report: *mut u64,
+    );
+    fn nuxalder_average(tally: *const u32, action: u8, average: *mut u64);
     fn nuxalder_list(
         file: *const u8,
         length: usize,
@@ -91,6 +102,41 @@ pub fn run(file: &[u8], rows: &mut [u8]) -> RunReport {
 #[inline]
 pub fn run_one_writer(file: &[u8], rows: &mut [u8]) -> RunReport {
     report(call::<6, 8>(nuxalder_run_one_writer, file, rows))
+}
+
+/// Run with a tally of `TALLY_CELLS` numbers: what Run says, and 0 or 19.
+#[inline]
+pub fn tally(file: &[u8], rows: &mut [u8], tally: &mut [u32]) -> (RunReport, u64) {
+    assert_eq!(tally.len(), TALLY_CELLS);
+    let mut words = [CANARY; 9];
+    // The slices are valid for their lengths and do not overlap, and the report has seven fields.
+    unsafe {
+        nuxalder_tally(
+            file.as_ptr(),
+            file.len(),
+            rows.as_mut_ptr(),
+            rows.len(),
+            tally.as_mut_ptr(),
+            words[1..].as_mut_ptr(),
+        );
+    }
+    assert!(
+        words[0] == CANARY && words[8] == CANARY,
+        "the library wrote outside its report"
+    );
+    (report(std::array::from_fn(|i| words[i + 1])), words[7])
+}
+
+#[inline]
+pub fn average(tally: &[u32; TALLY_CELLS], action: u8) -> [u64; 2] {
+    let mut words = [CANARY; 4];
+    // The tally is only read, and the average has two numbers.
+    unsafe { nuxalder_average(tally.as_ptr(), action, words[1..].as_mut_ptr()) };
+    assert!(
+        words[0] == CANARY && words[3] == CANARY,
+        "the library wrote outside its average"
+    );
+    [words[1], words[2]]
 }
 
 #[inline]

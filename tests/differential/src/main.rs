@@ -2,10 +2,11 @@
 //!
 //! `differential [--files N] [--records N] [--seed S] [--first] [--trace] [--write PATH]`: pairs of files to merge, N
 //! of them at random, and histories; then files for the one-writer run, N / 4 of them at random; then the systematic
-//! files of all versions, then random ones until there are N files and N records carried out; and the answers rule of
-//! the library alone. `--first` ends at the first difference and looks for nothing else: no rule is checked of the
-//! reference. `--trace` names each file before it is run; `--write` puts them all into one file, each after its length in
-//! four bytes, the low one first. `differential --outside CASE` says what one case of `outside` comes to.
+//! files of all versions, then random ones until there are N files and N records carried out, these in seasons that
+//! share a tally; and the answers rule of the library alone. `--first` ends at the first difference and looks for nothing
+//! else: no rule is checked of the reference. `--trace` names each file before it is run; `--write` puts them all into one
+//! file, each after its length in four bytes, the low one first. `differential --outside CASE` says what one case of
+//! `outside` comes to.
 
 use differential::compare::Comparer;
 use differential::histories::Histories;
@@ -13,6 +14,7 @@ use differential::merges::Merger;
 use differential::profiles::Profiles;
 use differential::ranges::Ranges;
 use differential::rng::Rng;
+use differential::seasons::Seasons;
 use differential::stops::Stops;
 use differential::ways::Ways;
 use differential::{answers, coverage, outside, random, systematic};
@@ -77,6 +79,7 @@ struct Session {
     profiles: Profiles,
     ranges: Ranges,
     stops: Stops,
+    seasons: Seasons,
     histories: Histories,
     rng: Rng,
     first: bool,
@@ -97,7 +100,10 @@ impl Session {
             self.histories.run_of(file, &mut self.rng);
             rule = answers::check(file, &mut self.ways, &mut self.ranges, &mut self.stops);
         }
-        let compared = rule.and_then(|()| self.comparer.file(file, &mut self.rng));
+        let compared = rule
+            .and_then(|()| self.comparer.file(file, &mut self.rng))
+            .and_then(|()| self.seasons.file(file, &mut self.comparer, &mut self.rng))
+            .and_then(|()| self.seasons.average(&mut self.rng));
         self.end(name, file, compared);
     }
 
@@ -182,6 +188,7 @@ fn main() -> ExitCode {
         profiles: Profiles::default(),
         ranges: Ranges::default(),
         stops: Stops::default(),
+        seasons: Seasons::default(),
         histories: Histories::new(),
         rng: Rng::new(!options.seed),
         first: options.first,
@@ -263,6 +270,7 @@ fn main() -> ExitCode {
         missing.extend(coverage::report(index, counter));
     }
     missing.extend(session.profiles.report(&session.comparer.one_writer));
+    missing.extend(session.seasons.report());
     missing.extend(merger.missing());
     missing.extend(session.histories.report());
     let mut wrong: Vec<String> = missing.iter().map(|what| format!("{what} was never reached")).collect();

@@ -1,0 +1,4 @@
+pub mod Cases
+pub mod Tallies
+pub mod StopTallies
+pub mod Averages

@@ -1,0 +1,16 @@
+pub mod Sums
+pub mod Laid
+pub mod Season
+pub mod Averages
+pub mod Threads
+pub mod RowsRead
+pub mod Walks
+pub mod Matching
+pub mod Lanes
+pub mod Whole
+pub mod Starts
+pub mod Refusals
+pub mod Unused
+pub mod Cases
+pub mod Loops
+pub mod Files
