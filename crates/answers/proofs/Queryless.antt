@@ -1,10 +1,11 @@
--- In a run of version 1 no query is ever under way: no thread stands at 60 or above or has a frame, no node is a range base, no store is shown
--- and none is set (`version-1`). The code lends such a run no memory for queries. It rests on QuerylessSteps.antt.
-use mathlib.Core.Path.{_≡_, refl, sym, _∙_, ap, subst}
+-- In the run of a file that asks for no query none is ever under way: no thread stands at 60 or above or has a frame, no node is a range base, no
+-- store is shown and none is set (`unasked`); so it is in version 1 (`version-1`). The code lends such a run no memory for queries. It rests on
+-- QuerylessSteps.antt.
+use mathlib.Core.Path.{_≡_, refl, _∙_, ap}
 use mathlib.Core.Logic.{_≢_}
 use mathlib.Core.Bool.{Bool, true, false}
 use mathlib.Core.List.{List}
-use Prim.Native.Nat.{ℕ, zero, suc, _+_, _/_, _%_, _≤_}
+use Prim.Native.Nat.{ℕ, zero, suc, _+_, _/_, _%_}
 use native.Mathlib.Omega.{arith}
 use lib.Dec.{eqb}
 use borrow.Author.Tests.{eq-eqb, ne-eqb, ltb-false}
@@ -24,6 +25,7 @@ use Rattle.definitions.specs.Records.{Result, refused, carried, taken, stepped,
 use Rattle.definitions.specs.Versions.{version}
 use Rattle.definitions.specs.Schedule.{Rec, recordAt}
 use Rattle.definitions.specs.Run.{Progress, advanceBy, advance, after}
+use Rattle.answers.specs.Reachable.{Unasked}
 use Rattle.answers.proofs.Tools.{_==?_, clash}
 use Rattle.answers.proofs.QuerylessSteps.{Unasking, Untouched, Queryless, Mild, Level, normal-range, neighbour-range, route-range, level-at}
 
@@ -75,7 +77,7 @@ mild : (e : Effect) (s : Store) → Mild e → Untouched s → Untouched (perfor
 mild e s m u = let z = mild-stores e s m in
     record { nodes = mild-nodes e s m (u .nodes); stores = λ k. ap (λ (f : Stores). f k) (z .0) ∙ u .stores k; shown = z .1 ∙ u .shown }
 
--- ---- one record of version 1, whose last action is 5
+-- ---- one record that asks for no query
 
 abbrev Keeps : Result → Type 0
 Keeps (refused k) = Unit {0}
@@ -106,28 +108,31 @@ module _ (b : Bench) (h : Queryless b) (t y d : ℕ) where
   unfolding stepped
   stepped-keeps = either _ _ _ (λ _. either _ _ _ (λ _. either _ _ _ (λ _. tt) (λ _. taken-keeps _ (level-at (sightOf (b .store)) (h .store .nodes) (b .threads t) (h .threads t) (b .threads t .place) (h .threads t .place)))) (λ _. tt)) (λ _. tt)
 
-  acted-keeps : (n : ℕ) → n ≤ 5 → Keeps (acted n b t y d)
-  acted-keeps zero l = stepped-keeps
-  acted-keeps (suc zero) l = started-keeps Lookup (λ e. clash (cc))
-  acted-keeps (suc (suc zero)) l = started-keeps Insert (λ e. clash (cc))
-  acted-keeps (suc (suc (suc zero))) l = started-keeps Remove (λ e. clash (cc))
-  acted-keeps (suc (suc (suc (suc zero)))) l = started-keeps Split (λ e. clash (cc))
-  acted-keeps (suc (suc (suc (suc (suc zero))))) l = started-keeps Join (λ e. clash (cc))
-  acted-keeps (suc (suc (suc (suc (suc (suc n)))))) l = absurd (omega arith)
+  acted-keeps : (n : ℕ) → (n ≡ 6 → ⊥) → Keeps (acted n b t y d)
+  acted-keeps zero o = stepped-keeps
+  acted-keeps (suc zero) o = started-keeps Lookup (λ e. clash (cc))
+  acted-keeps (suc (suc zero)) o = started-keeps Insert (λ e. clash (cc))
+  acted-keeps (suc (suc (suc zero))) o = started-keeps Remove (λ e. clash (cc))
+  acted-keeps (suc (suc (suc (suc zero)))) o = started-keeps Split (λ e. clash (cc))
+  acted-keeps (suc (suc (suc (suc (suc zero))))) o = started-keeps Join (λ e. clash (cc))
+  acted-keeps (suc (suc (suc (suc (suc (suc zero)))))) o = absurd (o refl)
+  acted-keeps (suc (suc (suc (suc (suc (suc (suc n))))))) o = tt
 
-record-keeps : (b : Bench) (x y d : ℕ) → Queryless b → Keeps (recordStep b 5 x y d)
+-- action 6 is none, or is past the last one, l
+record-keeps : (b : Bench) (l x y d : ℕ) → (x % 16 ≡ 6 → l ≡ 5) → Queryless b → Keeps (recordStep b l x y d)
 unfolding recordStep
-record-keeps b x y d h = either _ _ _ (λ _. tt) (λ _. either _ _ _ (λ _. tt) (λ e. acted-keeps b h (x / 16) y d (x % 16) (ltb-false 5 (x % 16) e)))
+record-keeps b l x y d o h = either _ _ _ (λ _. tt) (λ _. either _ _ _ (λ _. tt) (λ e. acted-keeps b h (x / 16) y d (x % 16) (λ z. omega (arith, ltb-false l (x % 16) e, o z))))
 
--- ---- every run of version 1
+-- ---- every run
 
 last-five : (file : List ℕ) (k : ℕ) → version file ≡ 1 → recordAt file k .last ≡ 5
 unfolding recordAt ite
 last-five file k e = rw (eq-eqb (version file) 1 e)
 
-advance-keeps : (file : List ℕ) (p : Progress) (r : Rec) → r .last ≡ 5 → Queryless (p .bench) → Queryless (advance file p r .bench)
+advance-keeps : (file : List ℕ) (p : Progress) (r : Rec) → (r .first % 16 ≡ 6 → r .last ≡ 5) → Queryless (p .bench) → Queryless (advance file p r .bench)
 unfolding advance ite
-advance-keeps file p r e h = by (eqb (p .refusal) 0) (onward (recordStep (p .bench) (r .last) (r .first) (r .second) (r .extra)) (subst (λ l. Keeps (recordStep (p .bench) l (r .first) (r .second) (r .extra))) (sym e) (record-keeps (p .bench) (r .first) (r .second) (r .extra) h)))
+advance-keeps file p r o h =
+    by (eqb (p .refusal) 0) (onward (recordStep (p .bench) (r .last) (r .first) (r .second) (r .extra)) (record-keeps (p .bench) (r .last) (r .first) (r .second) (r .extra) o h))
   where
     onward : (v : Result) → Keeps v → Queryless (advanceBy file p (r .first / 16) v .bench)
     onward (refused k) g = h
@@ -138,10 +143,13 @@ advance-keeps file p r e h = by (eqb (p .refusal) 0) (onward (recordStep (p .ben
     by true g = g
     by false g = h
 
-pub version-1 : (file : List ℕ) (k : ℕ) → version file ≡ 1 → Queryless (after file k .bench)
+pub unasked : (file : List ℕ) (k : ℕ) → Unasked file → Queryless (after file k .bench)
 unfolding after
-version-1 file zero e = record {
+unasked file zero o = record {
   store = record { nodes = λ x. normal-range; stores = λ k. refl; shown = refl };
   threads = λ t. record { place = omega arith; frames = refl; action = λ z. clash (cc) };
 }
-version-1 file (suc k) e = advance-keeps file (after file k) (recordAt file k) (last-five file k e) (version-1 file k e)
+unasked file (suc k) o = advance-keeps file (after file k) (recordAt file k) (λ z. last-five file k (o k z)) (unasked file k o)
+
+pub version-1 : (file : List ℕ) (k : ℕ) → version file ≡ 1 → Queryless (after file k .bench)
+version-1 file k e = unasked file k (λ _ _. e)

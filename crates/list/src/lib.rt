@@ -5,6 +5,7 @@ ghost use lib.Dec.{eqb};
 ghost use lib.ListN.{length};
 ghost use Rattle.container.specs.Choice.{ite};
 ghost use Rattle.schedule.specs.Proper.{Proper};
+ghost use Rattle.answers.specs.Reachable.{Unasked};
 ghost use Rattle.run.specs.Standing.{Lent, Spare};
 ghost use Rattle.definitions.specs.Run.{ended, overlay};
 ghost use Rattle.definitions.specs.Listing.{listing, listedAt, listRefusal, listReport, listBuffer};
@@ -71,7 +72,29 @@ fn report(
     }
 }
 
-// List: the report, and the text in the buffer. Version 1 has no use for depths, nor for a query's memory.
+// List of a file that is not refused and asks for no query, over the depths that are lent: it is lent no memory for queries.
+fn plain_report(depths: &mut [u16], schedule: &[u8], text: &mut [u8]) -> Listed
+    requires { ⌜ Proper (now schedule) × (Lent (now schedule) (now depths) × (Unasked (now schedule) × (4096 ≤ length (now text)))) ⌝ }
+    ensures { λ r. ⌜ (r ≡ listedAt (now (schedule .entry)) (ended (now (schedule .entry)))) × (now (text .exit) ≡ overlay (listing (now (schedule .entry)) (ended (now (schedule .entry)) .bench)) (now (text .entry))) ⌝ }
+{
+    let mut results = [0u64; 0];
+    let mut stacks = [[0u8; 1408]; 0];
+    let mut backups = [[0u8; 1408]; 0];
+    let mut notes = [[0u8; 128]; 0];
+    let mut words = [[0u64; 64]; 0];
+    report(
+        depths,
+        &mut results[..],
+        &mut stacks[..],
+        &mut backups[..],
+        &mut notes[..],
+        &mut words[..],
+        schedule,
+        text,
+    )
+}
+
+// List: the report, and the text in the buffer. Version 1 has no use for depths.
 pub fn list(schedule: &[u8], text: &mut [u8]) -> Listed
     ensures { λ r. ⌜ (r ≡ listReport (now (schedule .entry)) (length (now (text .entry)))) × (now (text .exit) ≡ listBuffer (now (schedule .entry)) (now (text .entry))) ⌝ }
 {
@@ -80,11 +103,15 @@ pub fn list(schedule: &[u8], text: &mut [u8]) -> Listed
     if bad == 0 {
         if schedule[0] == 1 {
             let mut depths = [0u16; 0];
-            let mut results = [0u64; 0];
-            let mut stacks = [[0u8; 1408]; 0];
-            let mut backups = [[0u8; 1408]; 0];
-            let mut notes = [[0u8; 128]; 0];
-            let mut words = [[0u64; 64]; 0];
+            return plain_report(&mut depths[..], schedule, text);
+        }
+        let mut depths = [0u16; 16384];
+        if run::may_ask(schedule) {
+            let mut results = [0u64; 256];
+            let mut stacks = [[0u8; 1408]; 1];
+            let mut backups = [[0u8; 1408]; 1];
+            let mut notes = [[0u8; 128]; 1];
+            let mut words = [[0u64; 64]; 1];
             return report(
                 &mut depths[..],
                 &mut results[..],
@@ -96,22 +123,7 @@ pub fn list(schedule: &[u8], text: &mut [u8]) -> Listed
                 text,
             );
         }
-        let mut depths = [0u16; 16384];
-        let mut results = [0u64; 256];
-        let mut stacks = [[0u8; 1408]; 1];
-        let mut backups = [[0u8; 1408]; 1];
-        let mut notes = [[0u8; 128]; 1];
-        let mut words = [[0u64; 64]; 1];
-        return report(
-            &mut depths[..],
-            &mut results[..],
-            &mut stacks[..],
-            &mut backups[..],
-            &mut notes[..],
-            &mut words[..],
-            schedule,
-            text,
-        );
+        return plain_report(&mut depths[..], schedule, text);
     }
     Listed {
         refusal: bad,

@@ -1,5 +1,6 @@
 -- Where a run begins and where it has ended: what the code then holds is what 01 says of the file and the row buffer. Assumes nothing.
 use mathlib.Core.Path.{_≡_, refl, sym, ap, _∙_, fun-ext}
+use mathlib.Core.Logic.{inl, inr}
 use mathlib.Core.List.{List, [], _∷_}
 use Prim.Native.Nat.{ℕ, zero, suc, _+_, _-_, _≤_, _<_}
 use native.Mathlib.Omega.{arith}
@@ -7,6 +8,7 @@ use borrow.Author.Tests.{eq-eqb, ne-eqb}
 use lib.ListN.{length, getD, replicate, length-replicate}
 use Rattle.container.specs.Choice.{ite}
 use Rattle.container.specs.Container.{all}
+use Rattle.answers.specs.Reachable.{Unasked}
 use Rattle.buffer.specs.Page.{Page, putAll}
 use Rattle.buffer.proofs.Laws.{put-fits, putAll-length}
 use Rattle.depths.specs.Rows.{rows, full}
@@ -120,11 +122,11 @@ lent-none file e = record { blank = blank 0; none = λ _. refl; whole = λ n. ab
 pub lent-all : (file : List ℕ) → (version file ≡ 1 → ⊥) → Lent file (replicate 16384 0)
 lent-all file n = record { blank = blank 16384; none = λ e. absurd (n e); whole = λ _. length-replicate {A = ℕ} 16384 0 }
 
-pub spare-none : (file : List ℕ) → version file ≡ 1 → Spare file [] [] [] [] []
-spare-none file e = record { none = λ _. record { results = refl; stacks = refl; backups = refl; notes = refl; words = refl }; whole = λ n. absurd (n e) }
+pub spare-none : (file : List ℕ) → Unasked file → Spare file [] [] [] [] []
+spare-none file o = inl o
 
-pub spare-all : (file : List ℕ) {s b n w : List ℕ} → (version file ≡ 1 → ⊥) → Spare file (replicate 256 0) (s ∷ []) (b ∷ []) (n ∷ []) (w ∷ [])
-spare-all file v = record { none = λ e. absurd (v e); whole = λ _. record { results = length-replicate {A = ℕ} 256 0; stacks = refl; backups = refl; notes = refl; words = refl } }
+pub spare-all : (file : List ℕ) {s b n w : List ℕ} → Spare file (replicate 256 0) (s ∷ []) (b ∷ []) (n ∷ []) (w ∷ [])
+spare-all file = inr (record { results = length-replicate {A = ℕ} 256 0; stacks = refl; backups = refl; notes = refl; words = refl })
 
 -- ---- all records carried out
 module _ (file first : List ℕ) {n : Shapes} {l : List ℕ} {k : Stores} {s : Standing} {buffer : List ℕ} {count : ℕ} (d : count ≡ countOf file) (h : Carried file count n l k s first buffer) where

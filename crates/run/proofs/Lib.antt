@@ -13,5 +13,6 @@ pub mod Threads
 pub mod Turn
 pub mod Queried
 pub mod Wide
+pub mod Looked
 pub mod Reading
 pub mod Ended

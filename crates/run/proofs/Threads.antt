@@ -2,6 +2,7 @@
 -- frames that lie apart in the lent arrays, which keep their sizes. Assumes nothing.
 use mathlib.Core.Path.{_≡_, refl, sym, ap, _∙_, fun-ext, subst}
 use mathlib.Core.Bool.{Bool, true, false, cond}
+use mathlib.Core.Logic.{inl, inr}
 use mathlib.Core.List.{List, [], _∷_}
 use Prim.Native.Nat.{ℕ, zero, suc, _≤_, _<_}
 use native.Mathlib.Omega.{arith}
@@ -10,6 +11,7 @@ use lib.Dec.{eqb, ltb}
 use lib.ListN.{length, getD, set, replicate, length-set}
 use lib.Seq.{getD-set-same, getD-set-other}
 use Rattle.container.specs.Choice.{upd}
+use Rattle.answers.specs.Reachable.{Unasked}
 use Rattle.frames.specs.View.{held, framesOf}
 use Rattle.frames.specs.Turns.{Backs}
 use Rattle.frames.specs.Outcomes.{Opens}
@@ -19,7 +21,6 @@ use Rattle.definitions.specs.declared.Link.the-variants.{Nil}
 use Rattle.definitions.specs.declared.Action.the-variants.{Lookup}
 use Rattle.steps.specs.declared.Notes.{Notes}
 use Rattle.steps.specs.Decision.{thread}
-use Rattle.definitions.specs.Versions.{version}
 use Rattle.run.specs.Standing.{Sizes, Spare}
 use Rattle.run.specs.Query.{Leaves}
 use Rattle.run.specs.declared.query.Left.{Left}
@@ -139,10 +140,9 @@ pub all-kept : {l r : List ℕ} {s b n w : List (List ℕ)} → Kept l r s b n w
 all-kept = record { depths = refl; results = refl; stacks = refl; backups = refl; notes = refl; words = refl }
 
 module _ {l r : List ℕ} {s b n w : List (List ℕ)} {l' r' : List ℕ} {s' b' n' w' : List (List ℕ)} (q : Kept l r s b n w l' r' s' b' n' w') where
-  pub kept-sizes : (file : List ℕ) → Spare file r s b n w → (version file ≡ 1 → ⊥) → Sizes 256 1 r' s' b' n' w'
-  kept-sizes file p v =
-      let z : Sizes 256 1 r s b n w = p .whole v in
-      record { results = q .results ∙ z .results; stacks = q .stacks ∙ z .stacks; backups = q .backups ∙ z .backups; notes = q .notes ∙ z .notes; words = q .words ∙ z .words }
+  pub kept-sizes : (file : List ℕ) → Spare file r s b n w → (Unasked file → ⊥) → Sizes 256 1 r' s' b' n' w'
+  kept-sizes file (inl o) v = absurd (v o)
+  kept-sizes file (inr z) v = record { results = q .results ∙ z .results; stacks = q .stacks ∙ z .stacks; backups = q .backups ∙ z .backups; notes = q .notes ∙ z .notes; words = q .words ∙ z .words }
 
   pub kept-deep : {l'' : List ℕ} → length l'' ≡ length l' → Kept l r s b n w l'' r' s' b' n' w'
   kept-deep e = record { depths = e ∙ q .depths; results = q .results; stacks = q .stacks; backups = q .backups; notes = q .notes; words = q .words }

@@ -2,8 +2,10 @@
 -- where they are lent; the rows in a page of the lent buffer.
 use Prim.Native.Nat.{ℕ}
 use mathlib.Core.Path.{_≡_}
+use mathlib.Core.Logic.{_⊎_}
 use mathlib.Core.List.{List, [], _∷_}
 use lib.ListN.{length}
+use Rattle.answers.specs.Reachable.{Unasked}
 use Rattle.buffer.specs.Page.{page, putAll}
 use Rattle.depths.specs.Rows.{Rows, rows, full}
 use Rattle.definitions.specs.Nodes.{Shapes, Stores}
@@ -33,10 +35,10 @@ pub record Sizes (n j : ℕ) (r : List ℕ) (s b m w : List (List ℕ)) : Type 0
   pub notes : length m ≡ j
   pub words : length w ≡ j
 
--- the memory for queries that it is lent: the stores' results, and the arrays that hold frames, each alone in a list. None in version 1
-pub record Spare (file results : List ℕ) (stacks backups notes words : List (List ℕ)) : Type 0 where
-  pub none : version file ≡ 1 → Sizes 0 0 results stacks backups notes words
-  pub whole : (version file ≡ 1 → ⊥) → Sizes 256 1 results stacks backups notes words
+-- the memory for queries that it is lent: the stores' results, and the arrays that hold frames, each alone in a list. A file that asks for no query
+-- needs none
+abbrev pub Spare : List ℕ → List ℕ → List (List ℕ) → List (List ℕ) → List (List ℕ) → List (List ℕ) → Type 0
+Spare file results stacks backups notes words = Unasked file ⊎ Sizes 256 1 results stacks backups notes words
 
 -- ---- a row
 

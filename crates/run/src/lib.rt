@@ -1,5 +1,6 @@
 // Run: a schedule carried out on a fresh bench, with its rows written into a lent buffer.
 ghost use mathlib.Core.Path.{_≡_};
+ghost use mathlib.Core.Bool.{false};
 ghost use mathlib.Core.List.{[], _∷_};
 ghost use Prim.Native.Nat.{_+_, _*_, _/_, _%_, _≤_};
 ghost use lib.Dec.{eqb};
@@ -10,6 +11,7 @@ ghost use Rattle.nodes.specs.Stores.{stores};
 ghost use Rattle.depths.specs.Rows.{rows as depthRows};
 ghost use Rattle.machine.specs.Enacted.{depthBy};
 ghost use Rattle.schedule.specs.Proper.{Proper};
+ghost use Rattle.answers.specs.Reachable.{Unasked};
 ghost use Rattle.buffer.specs.Page.{page, putAll};
 ghost use Rattle.definitions.specs.Nodes.{shape, emptyBase};
 ghost use Rattle.definitions.specs.declared.Shared.the-variants.{Unset};
@@ -106,8 +108,9 @@ pub fn put_row(
 // All records of a file that is not refused, from a fresh bench; the first one refused ends them. A thread's record changes where it
 // lies; what decides a step gets a copy, made once the place is known, so that only the notes it reads are loaded. The first two bytes
 // of a record are read as in version 1; a version that has more reads it again, whole, so that version 1 pays nothing for it. `frames`
-// has how many frames each thread has; the arrays that hold them may hold anything at first. Version 1 has no frame and no result of a
-// store, so it is lent no memory for them. Last in `frames` is the count of the stop: a variable of its own would cost every record more.
+// has how many frames each thread has; the arrays that hold them may hold anything at first. A file that asks for no query has no frame
+// and no result of a store, and may be lent no memory for them. Last in `frames` is the count of the stop: a variable of its own would
+// cost every record more.
 pub fn carry_out(
     cells: &mut [u8; 5120],
     sets: &mut [u64; 256],
@@ -428,6 +431,24 @@ fn room_for(v: u8, count: usize) -> usize
     if v == 1 { 2 * count } else { 7 * count }
 }
 
+// Whether a file from version 2 on may ask for a query: not if it has at most 64 records and none of them does. So many are looked at
+// sooner than the memory for queries is cleared; the run of a longer file takes far longer than either.
+pub fn may_ask(schedule: &[u8]) -> bool
+    ensures { λ r. ⌜ (r ≡ false → Unasked (now (schedule .entry))) ⌝ }
+{
+    if 259 < schedule.len() {
+        return true;
+    }
+    let mut from = 3usize;
+    while from < schedule.len() {
+        if schedule[from] % 16 == 6 {
+            return true;
+        }
+        from = from + 4;
+    }
+    false
+}
+
 // The refusal of a file and a row buffer, 0 for none.
 pub fn refusal_of(schedule: &[u8], room: usize) -> u64
     ensures { λ r. ⌜ (r ≡ runRefusal (now (schedule .entry)) room) × (r ≡ 0 → Proper (now (schedule .entry))) ⌝ }
@@ -486,7 +507,29 @@ fn report(
     }
 }
 
-// Run: the report, and the rows in the buffer. Version 1 has no use for depths, nor for a query's memory.
+// Run of a file that is not refused and asks for no query, over the depths that are lent: it is lent no memory for queries.
+fn plain_report(depths: &mut [u16], schedule: &[u8], rows: &mut [u8]) -> Report
+    requires { ⌜ Proper (now schedule) × (Lent (now schedule) (now depths) × (Unasked (now schedule) × (by (now schedule) 2 7 * countOf (now schedule) ≤ length (now rows)))) ⌝ }
+    ensures { λ r. ⌜ (r ≡ reportOf (ended (now (schedule .entry)))) × (now (rows .exit) ≡ overlay (ended (now (schedule .entry)) .rows) (now (rows .entry))) ⌝ }
+{
+    let mut results = [0u64; 0];
+    let mut stacks = [[0u8; 1408]; 0];
+    let mut backups = [[0u8; 1408]; 0];
+    let mut notes = [[0u8; 128]; 0];
+    let mut words = [[0u64; 64]; 0];
+    report(
+        depths,
+        &mut results[..],
+        &mut stacks[..],
+        &mut backups[..],
+        &mut notes[..],
+        &mut words[..],
+        schedule,
+        rows,
+    )
+}
+
+// Run: the report, and the rows in the buffer. Version 1 has no use for depths.
 pub fn run(schedule: &[u8], rows: &mut [u8]) -> Report
     ensures { λ r. ⌜ (r ≡ runReport (now (schedule .entry)) (length (now (rows .entry)))) × (now (rows .exit) ≡ runBuffer (now (schedule .entry)) (now (rows .entry))) ⌝ }
 {
@@ -495,11 +538,15 @@ pub fn run(schedule: &[u8], rows: &mut [u8]) -> Report
     if bad == 0 {
         if schedule[0] == 1 {
             let mut depths = [0u16; 0];
-            let mut results = [0u64; 0];
-            let mut stacks = [[0u8; 1408]; 0];
-            let mut backups = [[0u8; 1408]; 0];
-            let mut notes = [[0u8; 128]; 0];
-            let mut words = [[0u64; 64]; 0];
+            return plain_report(&mut depths[..], schedule, rows);
+        }
+        let mut depths = [0u16; 16384];
+        if may_ask(schedule) {
+            let mut results = [0u64; 256];
+            let mut stacks = [[0u8; 1408]; 1];
+            let mut backups = [[0u8; 1408]; 1];
+            let mut notes = [[0u8; 128]; 1];
+            let mut words = [[0u64; 64]; 1];
             return report(
                 &mut depths[..],
                 &mut results[..],
@@ -511,22 +558,7 @@ pub fn run(schedule: &[u8], rows: &mut [u8]) -> Report
                 rows,
             );
         }
-        let mut depths = [0u16; 16384];
-        let mut results = [0u64; 256];
-        let mut stacks = [[0u8; 1408]; 1];
-        let mut backups = [[0u8; 1408]; 1];
-        let mut notes = [[0u8; 128]; 1];
-        let mut words = [[0u64; 64]; 1];
-        return report(
-            &mut depths[..],
-            &mut results[..],
-            &mut stacks[..],
-            &mut backups[..],
-            &mut notes[..],
-            &mut words[..],
-            schedule,
-            rows,
-        );
+        return plain_report(&mut depths[..], schedule, rows);
     }
     Report {
         refusal: bad,

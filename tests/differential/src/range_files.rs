@@ -1,8 +1,9 @@
 //! Schedules of version 2 or 3 that together are certain to reach what `ranges` lists: queries alone, stopped at each of their
 //! places while another thread works, over joins in every stage, riding, helping up to three deep, short of node numbers
-//! and of stores.
+//! and of stores; and files about as long as those whose records are looked at for a query before the run.
 
 use crate::plan::Plan;
+use crate::ranges::SHORT;
 use crate::systematic::{grow, stopped_join, SHAPES, STATIONS};
 use reference::{INSERT, JOIN, LOOKUP, RANGE_PLACES, REMOVE, SPLIT};
 
@@ -31,6 +32,7 @@ pub fn each(version: u8, emit: &mut impl FnMut(&'static str, Vec<u8>)) {
         short_of_stores(version, shape, emit);
     }
     deep(version, emit);
+    about_short(version, emit);
 }
 
 /// A tree with a query of thread 0 stopped at `place` when it comes there the `visit`th time, if it does.
@@ -257,6 +259,37 @@ fn deep(version: u8, emit: &mut impl FnMut(&'static str, Vec<u8>)) {
                     emit("deep help, others finish from above", fallen.file());
                 }
             }
+        }
+    }
+}
+
+/// Files as long as the longest that is short, and a little shorter and longer: none of their records asks, or one of them,
+/// the first, the last or one between.
+fn about_short(version: u8, emit: &mut impl FnMut(&'static str, Vec<u8>)) {
+    let work = |plan: &mut Plan, count: usize| {
+        let mut turn = 0;
+        while plan.count() < count {
+            let (thread, station) = (turn % 3, STATIONS[usize::from(turn) % 4]);
+            match plan.is_idle(thread) {
+                true => plan.start(thread, [INSERT, SPLIT, LOOKUP, JOIN, REMOVE][usize::from(turn) % 5], station),
+                false => plan.step(thread),
+            }
+            turn = (turn + 1) % 60;
+        }
+    };
+    for count in [1, 2, 3, SHORT - 1, SHORT, SHORT + 1, 2 * SHORT] {
+        let mut plan = Plan::new(version);
+        work(&mut plan, count);
+        emit("no query", plan.file());
+        for asks in [0, 1, count / 2, SHORT - 1, SHORT, count - 1].into_iter().filter(|&asks| asks < count) {
+            let mut plan = Plan::new(version);
+            work(&mut plan, asks);
+            plan.ask(3, 3, 40);
+            while !plan.is_idle(3) && plan.count() < count {
+                plan.step(3);
+            }
+            work(&mut plan, count);
+            emit("one query", plan.file());
         }
     }
 }

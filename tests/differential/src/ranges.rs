@@ -108,8 +108,18 @@ const WAYS: [&str; 99] = [
     "82 to 70",
 ];
 
+/// The records of such a file are looked at before its run, and where none asks for a query it is lent no memory for one.
+pub const SHORT: usize = 64;
+
 /// What else must be reached.
-const OTHERS: [&str; 24] = [
+const OTHERS: [&str; 31] = [
+    "1 record, none asks",
+    "64 records, none asks",
+    "65 records, none asks",
+    "1 record asks, of 1",
+    "1 record asks, of 64, the first",
+    "1 record asks, of 64, the last",
+    "1 record asks, of 65, the last",
     "72 passes over a route that is not valid",
     "frames of a query: 2",
     "frames of a query: 3",
@@ -185,6 +195,22 @@ impl Ranges {
     /// A file begins.
     pub fn header(&mut self, file: &[u8]) {
         self.other = file.first() == Some(&3);
+        let count = file.get(1..3).map_or(0, |bytes| u16::from_be_bytes([bytes[0], bytes[1]]).into());
+        if file.first() != Some(&2) || file.len() != 3 + 4 * count {
+            return;
+        }
+        let firsts: Vec<u8> = file[3..].chunks_exact(4).map(|record| record[0]).collect();
+        let asking: Vec<usize> = (0..firsts.len()).filter(|&k| firsts[k] & 15 == RANGE).collect();
+        match (firsts.len(), &asking[..]) {
+            (1, []) => self.reach("1 record, none asks"),
+            (1, [_]) => self.reach("1 record asks, of 1"),
+            (SHORT, []) => self.reach("64 records, none asks"),
+            (SHORT, [0]) => self.reach("1 record asks, of 64, the first"),
+            (SHORT, [k]) if k + 1 == SHORT => self.reach("1 record asks, of 64, the last"),
+            (len, []) if len == SHORT + 1 => self.reach("65 records, none asks"),
+            (len, [SHORT]) if len == SHORT + 1 => self.reach("1 record asks, of 65, the last"),
+            _ => {}
+        }
     }
 
     /// A record comes; `action` is what its thread has open.

@@ -7,6 +7,7 @@ use native.Mathlib.Omega.{arith}
 use lib.Dec.{eqb}
 use lib.ListN.{length, getD}
 use mathlib.Core.Bool.{false}
+use Rattle.answers.specs.Reachable.{Unasked}
 use Rattle.nodes.specs.Cells.{table}
 use Rattle.nodes.specs.Stores.{stores}
 use Rattle.steps.specs.declared.Notes.{Notes}
@@ -15,7 +16,7 @@ use Rattle.steps.specs.Decision.{Decides, finding}
 use Rattle.definitions.specs.declared.Action.the-variants.{Lookup}
 use Rattle.definitions.specs.declared.Link.the-variants.{Nil}
 use Rattle.definitions.specs.Bench.{stop, sight}
-use Rattle.definitions.specs.Versions.{version, stopOf, width}
+use Rattle.definitions.specs.Versions.{stopOf, width}
 use Rattle.definitions.specs.Schedule.{countOf}
 use Rattle.definitions.specs.Run.{after}
 use Rattle.run.specs.Standing.{Sizes, Stands}
@@ -120,7 +121,7 @@ asking-whole c =
 pub sizes : (c : tie.After-ask2 Inv-loop μ-loop) →
     let l = c .before .before .before .before .before .before .before in
     let s = l .before .before .before .before .before .before .before in
-    (version (s .args .schedule .now) ≡ 1 → ⊥) → Sizes 256 1 (l .loop .results) (l .loop .stacks) (l .loop .backups) (l .loop .notes) (l .loop .words)
+    (Unasked (s .args .schedule .now) → ⊥) → Sizes 256 1 (l .loop .results) (l .loop .stacks) (l .loop .backups) (l .loop .notes) (l .loop .words)
 sizes c v =
     let l = c .before .before .before .before .before .before .before in
     let s = l .before .before .before .before .before .before .before in
