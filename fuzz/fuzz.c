@@ -1,13 +1,13 @@
 /* A libFuzzer target: each input as a schedule file and as a history, as it is and with its header put right, and
  * its two halves as two files to merge, as they are and with headers and threads put right, through the library
- * and the reference; the header is put right for either version. Any difference in a field or a byte, and any byte touched outside the memory
+ * and the reference; the header is put right for each version. Any difference in a field or a byte, and any byte touched outside the memory
  * lent, ends the program. The reference is built with coverage counters, so that inputs grow towards places
  * not seen yet. */
 #define _DEFAULT_SOURCE
 #include "guard.h"
 #include "nuxalder.h"
 
-enum { MOST_RECORDS = 4096, MEMORY = 5 * GUARD_PAGE, BUFFER_MEMORY = 8 * GUARD_PAGE };
+enum { MOST_RECORDS = 4096, MEMORY = 5 * GUARD_PAGE, BUFFER_MEMORY = 13 * GUARD_PAGE };
 
 typedef void operation(const uint8_t *, size_t, uint8_t *, size_t, uint64_t *);
 
@@ -16,6 +16,7 @@ extern operation reference_run, reference_run_one_writer, reference_list, refere
 extern void reference_judge(const uint8_t *, size_t, uint8_t *, uint64_t *);
 extern void reference_tally(const uint8_t *, size_t, uint8_t *, size_t, struct nuxalder_tally *, uint64_t *);
 extern void reference_average(const struct nuxalder_tally *, uint8_t, uint64_t *);
+extern void reference_state(const uint8_t *, size_t, uint64_t, uint8_t *, size_t, uint64_t *);
 extern void reference_merge(const uint8_t *, size_t, const uint8_t *, size_t, uint8_t *, size_t, uint64_t *);
 
 static struct guard file_memory, second_memory, our_memory, their_memory, tally_memory;
@@ -107,7 +108,32 @@ static void compare_tally(const uint8_t *file, size_t length, size_t room, int a
     }
 }
 
-/* Judge on the file, and both runs, Tally, List and History with buffers just long enough, one byte short and longer. */
+/* State after some of the file's records, after all or after more; the buffer is long enough, now and then a byte short or longer.
+ * The file's own bytes decide. It is large, so this is done of one file in four. */
+static void compare_state(const uint8_t *file, size_t length, size_t count)
+{
+    uint64_t our[NUXALDER_STATE_FIELDS] = {0}, their[NUXALDER_STATE_FIELDS] = {0}, draw = length;
+    for (size_t i = 0; i < length && i < 16; i++)
+        draw = (draw ^ file[i] ^ file[length - 1 - i]) * UINT64_C(0x100000001B3);
+    draw ^= draw >> 29;
+    if (draw % 4 != 0)
+        return;
+    int at_start = draw / 4 % 2 == 0;
+    unsigned way = (unsigned)(draw / 8 % 16);
+    size_t room = NUXALDER_STATE_BUFFER + (way == 0 ? 17 : 0) - (way == 1 ? 1 : 0);
+    uint64_t records = way == 2 ? count : way == 3 ? count + draw / 128 : draw / 128 % (count + 1);
+    uint8_t *lent = guard_lend(file_memory, length, at_start);
+    memcpy(lent, file, length);
+    fill_both(room, at_start);
+    nuxalder_state(lent, length, records, guard_lend(our_memory, room, at_start), room, our);
+    reference_state(lent, length, records, guard_lend(their_memory, room, at_start), room, their);
+    if (memcmp(our, their, sizeof our) != 0 || memcmp(lent, file, length) != 0 || !both_same(room, at_start)) {
+        fprintf(stderr, "State differs from the reference after %llu records\n", (unsigned long long)records);
+        abort();
+    }
+}
+
+/* Judge and State on the file, and both runs, Tally, List and History with buffers just long enough, one byte short and longer. */
 static void compare_all(const uint8_t *file, size_t length)
 {
     size_t count = length < 3 ? 0 : (size_t)file[1] << 8 | file[2];
@@ -119,6 +145,7 @@ static void compare_all(const uint8_t *file, size_t length)
     const size_t text_rooms[] = {text, text - 1, text + 17};
     const size_t event_rooms[] = {events, events - 1, events + 17};
     compare_judge(file, length);
+    compare_state(file, length, count);
     for (int i = 0; i < 3; i++) {
         compare("History", nuxalder_history, reference_history, NUXALDER_HISTORY_FIELDS, file, length,
                 event_rooms[i], i & 1);

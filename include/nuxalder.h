@@ -1,6 +1,6 @@
 /* Nuxalder: a turn-by-turn bench for a lock-free contention adapting search tree.
  *
- * Run, the one-writer run, List and History take a schedule file as bytes, carry it out on a fresh bench and hand
+ * Run, the one-writer run, List, State and History take a schedule file as bytes, carry it out on a fresh bench and hand
  * back numbers in `report` and bytes in a buffer that the caller lends; Tally does so and adds what came of it to a
  * tally that is lent; Merge takes two files, Judge takes a history. They keep no state between calls, allocate
  * nothing, read no byte outside the files and write no byte outside the buffer, the tally and the report. The lent
@@ -41,6 +41,7 @@
  * A record is refused in this order: 7, 8; a start then for 9, 14, 15 or 10, 11; a step for 10, 12, 13, 16.
  * The one-writer run alone: 24 for a start of an insert, remove, split or join on threads 1 to 3, and in version 2 of a range
  * query on any thread, after 8 and before 9; and 2 for version 3.
+ * State alone: 25 for a buffer under 48,912 bytes, after 4.
  * Merge alone, in this order: 1 to 4 for a fault of the first file, then 1 to 4 for one of the second (2: any
  * version but 1), 17 for a thread that is not its file's, 3 for counts that total over 4,096, 18 for an output
  * buffer under 3 + 4 * the smaller count bytes.
@@ -65,9 +66,9 @@
 
 /* The version of this interface. */
 #define NUXALDER_VERSION_MAJOR 1
-#define NUXALDER_VERSION_MINOR 5
+#define NUXALDER_VERSION_MINOR 6
 #define NUXALDER_VERSION_PATCH 0
-#define NUXALDER_VERSION "1.5.0"
+#define NUXALDER_VERSION "1.6.0"
 
 /* The functions may be called from several threads at once, each with its own report and buffers; a schedule
  * or a history may be shared. A call of one of them uses at most NUXALDER_STACK bytes of stack. */
@@ -130,7 +131,8 @@ enum nuxalder_refusal {
     NUXALDER_REFUSED_EVENT = 21,
     NUXALDER_REFUSED_OPERATIONS = 22,
     NUXALDER_REFUSED_UNFINISHED = 23,
-    NUXALDER_REFUSED_WRITER = 24
+    NUXALDER_REFUSED_WRITER = 24,
+    NUXALDER_REFUSED_STATE_BUFFER = 25
 };
 
 #ifdef __cplusplus
@@ -222,6 +224,158 @@ void nuxalder_run_one_writer(const uint8_t *schedule, size_t schedule_length,
 void nuxalder_list(const uint8_t *schedule, size_t schedule_length,
                    uint8_t *text, size_t text_length,
                    uint64_t report[NUXALDER_LIST_FIELDS]);
+
+/* ---- the state
+ *
+ * The whole bench after the first records of a schedule: a head, four threads, the nodes used and the stores shown, in records of
+ * fixed size at the offsets below. Numbers of more than one byte are big-endian; a link is two bytes, 1 and a number, or 0
+ * and 0 for none. A field that a node's kind has not, and a note that no later step of its thread reads, is 0: docs/STATE.md
+ * has a table of which note is shown at which place. */
+
+#define NUXALDER_STATE_LAYOUT 1    /* the first byte of every state */
+#define NUXALDER_STATE_BUFFER 48912 /* what a state's buffer needs: no state is longer */
+#define NUXALDER_STATE_FIELDS 3
+
+/* What nuxalder_state writes to report[]. */
+enum {
+    NUXALDER_STATE_REFUSAL = 0, /* refusal number, 0 for none */
+    NUXALDER_STATE_RECORDS = 1, /* records done */
+    NUXALDER_STATE_LENGTH = 2   /* bytes of the state written */
+};
+
+/* Bytes of the head. */
+enum {
+    NUXALDER_HEAD_LAYOUT = 0,
+    NUXALDER_HEAD_VERSION = 1, /* of the file */
+    NUXALDER_HEAD_RECORDS = 2, /* two bytes: records done */
+    NUXALDER_HEAD_REFUSAL = 4, /* of the record that ended them, 0 for none */
+    NUXALDER_HEAD_ROOT = 5,
+    NUXALDER_HEAD_USED = 6,    /* two bytes: node numbers used */
+    NUXALDER_HEAD_SHOWN = 8,   /* stores shown */
+    NUXALDER_HEAD_STOP = 9,    /* 1 where searches stop joins */
+    NUXALDER_HEAD_COUNT = 10,  /* the searches that stop joins now */
+    NUXALDER_HEAD_SIZE = 16
+};
+
+/* Bytes of a thread. Those of two bytes after OWN are links to nodes. */
+enum {
+    NUXALDER_THREAD_PLACE = 0, /* 0 where it is idle; then all else is 0 */
+    NUXALDER_THREAD_ACTION = 1,
+    NUXALDER_THREAD_STATION = 2,
+    NUXALDER_THREAD_EXTRA = 3, /* two bytes: an insert's depth, a query's upper end */
+    NUXALDER_THREAD_READ = 5,  /* routes read since 1 */
+    NUXALDER_THREAD_SIDE = 6,  /* 1: the base is its parent's left child, 2: its right */
+    NUXALDER_THREAD_OWN = 7,   /* 1 where the main is the thread's own */
+    NUXALDER_THREAD_ROUTE = 8,
+    NUXALDER_THREAD_BASE = 10,
+    NUXALDER_THREAD_PARENT = 12,
+    NUXALDER_THREAD_FOUND = 14,
+    NUXALDER_THREAD_NEIGHBOUR = 16,
+    NUXALDER_THREAD_MAIN = 18,
+    NUXALDER_THREAD_GRANDPARENT = 20,
+    NUXALDER_THREAD_OTHER = 22,
+    NUXALDER_THREAD_FRAMES = 24,  /* how many frames it has */
+    NUXALDER_THREAD_FRAME = 32,   /* the first, which is the one that is carried on */
+    NUXALDER_THREAD_SIZE = 816
+};
+
+/* Bytes of a frame. */
+enum {
+    NUXALDER_FRAME_LOWER = 0,
+    NUXALDER_FRAME_UPPER = 1,
+    NUXALDER_FRAME_STORE = 2,  /* link to a store */
+    NUXALDER_FRAME_BASE = 4,   /* link: the base in hand */
+    NUXALDER_FRAME_POPPED = 6, /* link: the base popped last */
+    NUXALDER_FRAME_KEY = 8,    /* 1 and the key noted */
+    NUXALDER_FRAME_BEGUN = 10, /* 1 where a base is done */
+    NUXALDER_FRAME_STACK_LENGTH = 11,
+    NUXALDER_FRAME_BACKUP_LENGTH = 12,
+    NUXALDER_FRAME_DONE = 16,  /* eight bytes: the stations done */
+    NUXALDER_FRAME_STACK = 24, /* node numbers, the top first */
+    NUXALDER_FRAME_BACKUP = 110,
+    NUXALDER_FRAME_SIZE = 196,
+    NUXALDER_FRAMES_MOST = 4
+};
+
+/* Bytes of a node, its kinds and the stages of a main. */
+enum {
+    NUXALDER_NODE_KIND = 0,
+    NUXALDER_NODE_REACHABLE = 1, /* 1 where it is */
+    NUXALDER_NODE_RANGE = 2,     /* eight bytes */
+    NUXALDER_NODE_KEY = 10,      /* of a route, and the four below */
+    NUXALDER_NODE_LEFT = 11,
+    NUXALDER_NODE_RIGHT = 12,
+    NUXALDER_NODE_VALID = 13,
+    NUXALDER_NODE_MARK = 14,      /* link to a main */
+    NUXALDER_NODE_PARENT = 16,    /* link; of a base, and the container */
+    NUXALDER_NODE_CONTAINER = 18, /* eight bytes */
+    NUXALDER_NODE_STAGE = 26,     /* of a main, and the four below: links */
+    NUXALDER_NODE_UNION = 28,
+    NUXALDER_NODE_NEIGHBOUR = 30,
+    NUXALDER_NODE_GRANDPARENT = 32,
+    NUXALDER_NODE_OTHER = 34,
+    NUXALDER_NODE_MAIN = 36,  /* link; of a neighbour */
+    NUXALDER_NODE_LOWER = 38, /* of a range base, and the two below */
+    NUXALDER_NODE_UPPER = 39,
+    NUXALDER_NODE_STORE = 40,  /* link to a store */
+    NUXALDER_NODE_DEPTHS = 48, /* two bytes for each station */
+    NUXALDER_NODE_SIZE = 176
+};
+
+enum { NUXALDER_NORMAL = 0, NUXALDER_ROUTE = 1, NUXALDER_MAIN = 2, NUXALDER_NEIGHBOUR = 3, NUXALDER_RANGE_BASE = 4 };
+
+enum { NUXALDER_PREPARING = 1, NUXALDER_DECIDED = 2, NUXALDER_ABORTED = 3, NUXALDER_DONE = 4 };
+
+/* Bytes of a store. */
+enum {
+    NUXALDER_STORE_SET = 0,    /* 1 where its result is set */
+    NUXALDER_STORE_RESULT = 1, /* eight bytes */
+    NUXALDER_STORE_SIZE = 9
+};
+
+/* Two bytes, and eight, as a number. */
+static inline unsigned nuxalder_state_two(const uint8_t *at)
+{
+    return 256u * at[0] + at[1];
+}
+
+static inline uint64_t nuxalder_state_word(const uint8_t *at)
+{
+    uint64_t word = 0;
+    int i;
+    for (i = 0; i < 8; i++) word = word << 8 | at[i];
+    return word;
+}
+
+/* What a link names, or -1 for none. */
+static inline int nuxalder_state_link(const uint8_t *at)
+{
+    return at[0] ? at[1] : -1;
+}
+
+/* Where thread t, node x and store j of a state begin. */
+static inline const uint8_t *nuxalder_state_thread(const uint8_t *state, int t)
+{
+    return state + NUXALDER_HEAD_SIZE + NUXALDER_THREAD_SIZE * t;
+}
+
+static inline const uint8_t *nuxalder_state_node(const uint8_t *state, int x)
+{
+    return nuxalder_state_thread(state, NUXALDER_THREADS) + NUXALDER_NODE_SIZE * x;
+}
+
+static inline const uint8_t *nuxalder_state_store(const uint8_t *state, int j)
+{
+    return nuxalder_state_node(state, (int)nuxalder_state_two(state + NUXALDER_HEAD_USED)) + NUXALDER_STORE_SIZE * j;
+}
+
+/* Carries out the first `records` records of the schedule, all of them where it has no more, and writes the state there.
+ * `state` needs NUXALDER_STATE_BUFFER bytes; on fewer the refusal is 25. On refusals 1 to 4 and 25 nothing is written and
+ * the other fields are 0. On refusals 7 to 16, of one of these records, the state is the one before it. Bytes of `state` past
+ * the length are untouched. */
+void nuxalder_state(const uint8_t *schedule, size_t schedule_length, uint64_t records,
+                    uint8_t *state, size_t state_length,
+                    uint64_t report[NUXALDER_STATE_FIELDS]);
 
 /* Merges two schedules of version 1, the first for threads 0 and 1 only, the second for 2 and 3 only. It runs
  * nothing. A header that counts the records of both, and the records taken in turns, first file first, as long
@@ -375,6 +529,7 @@ static inline const char *nuxalder_refusal_words(uint64_t refusal)
     case NUXALDER_REFUSED_OPERATIONS: return "more than 12 operations";
     case NUXALDER_REFUSED_UNFINISHED: return "an operation that is not finished";
     case NUXALDER_REFUSED_WRITER: return "an insert, remove, split or join on threads 1 to 3, or a range query, where only thread 0 writes";
+    case NUXALDER_REFUSED_STATE_BUFFER: return "a state buffer under 48,912 bytes";
     default: return "unknown";
     }
 }

@@ -1,12 +1,13 @@
 //! Times Run and List, on files of each version, Run on files of many splits and with range queries, and Merge of the library and of the
 //! reference on the same schedules, in turn, and prints the medians and their ratio for each size. Buffers are lent as they are, not cleared
-//! between calls. Then Judge, on hard histories, the one-writer run on files of one writer, and Run with a tally beside Run. `speed splits`,
-//! `speed ranges`, `speed stops` (version 3), `speed judge`, `speed one-writer` and `speed tally` do only those; `speed search N SEED` looks
-//! for harder histories with N tries.
+//! between calls. Then State after all records, Judge, on hard histories, the one-writer run on files of one writer, and Run with a tally beside
+//! Run. `speed splits`, `speed ranges`, `speed stops` (version 3), `speed state`, `speed judge`, `speed one-writer` and `speed tally` do only
+//! those; `speed search N SEED` looks for harder histories with N tries.
 
 mod judge;
 mod ranges;
 mod splits;
+mod state;
 mod stops;
 mod tally;
 
@@ -76,6 +77,7 @@ fn main() {
     match words.iter().map(String::as_str).collect::<Vec<_>>()[..] {
         [] => {
             schedules();
+            state::time();
             judge::compare();
             one_writer();
             tally::time();
@@ -92,6 +94,10 @@ fn main() {
             heading();
             stops::time();
         }
+        ["state"] => {
+            heading();
+            state::time();
+        }
         ["judge"] => judge::compare(),
         ["one-writer"] => one_writer(),
         ["tally"] => tally::time(),
@@ -99,7 +105,7 @@ fn main() {
             rounds.parse().expect("a number of tries"),
             seed.parse().expect("a seed"),
         ),
-        _ => panic!("usage: speed [splits | ranges | stops | judge | one-writer | tally | search N SEED]"),
+        _ => panic!("usage: speed [splits | ranges | stops | state | judge | one-writer | tally | search N SEED]"),
     }
 }
 

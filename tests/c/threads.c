@@ -8,17 +8,18 @@
 #include <stdlib.h>
 #include <string.h>
 
-enum { THREADS = 8, FILES_MOST = 256, STACK = 1 << 18, PAINT = 0xC7, NEAR = 512, FUNCTIONS = 7 };
+enum { THREADS = 8, FILES_MOST = 256, STACK = 1 << 18, PAINT = 0xC7, NEAR = 512, FUNCTIONS = 8 };
 enum { EVENT = 4, EVENTS = 2 * NUXALDER_JUDGE_ORDER };
 
 struct answer {
     uint64_t run[NUXALDER_RUN_FIELDS], one_writer[NUXALDER_RUN_FIELDS], list[NUXALDER_LIST_FIELDS], merge[NUXALDER_MERGE_FIELDS];
     uint64_t history[NUXALDER_HISTORY_FIELDS], judge[NUXALDER_JUDGE_FIELDS];
     uint64_t tallied[NUXALDER_TALLY_FIELDS], average[NUXALDER_AVERAGE_FIELDS];
+    uint64_t stated[2][NUXALDER_STATE_FIELDS];
     struct nuxalder_tally tally;
     uint8_t rows[NUXALDER_ROWS_BUFFER], written[NUXALDER_ROWS_BUFFER], again[NUXALDER_ROWS_BUFFER];
     uint8_t text[NUXALDER_LIST_BUFFER], out[NUXALDER_FILE_MOST];
-    uint8_t events[NUXALDER_HISTORY_BUFFER], order[NUXALDER_JUDGE_ORDER];
+    uint8_t events[NUXALDER_HISTORY_BUFFER], order[NUXALDER_JUDGE_ORDER], states[2][NUXALDER_STATE_BUFFER];
 };
 
 struct part {
@@ -86,8 +87,17 @@ static void call_tally(const struct file *file, struct answer *answer)
     nuxalder_average(&answer->tally, NUXALDER_INSERT, answer->average);
 }
 
+/* After half of the records, and after all. */
+static void call_state(const struct file *file, struct answer *answer)
+{
+    uint64_t half = (((uint64_t)file->bytes[1] << 8) + file->bytes[2]) / 2;
+
+    nuxalder_state(file->bytes, file->length, half, answer->states[0], sizeof answer->states[0], answer->stated[0]);
+    nuxalder_state(file->bytes, file->length, UINT64_MAX, answer->states[1], sizeof answer->states[1], answer->stated[1]);
+}
+
 static void (*const calls[FUNCTIONS])(const struct file *, struct answer *) = {
-    call_run, call_list, call_merge, call_history, call_judge, call_one_writer, call_tally};
+    call_run, call_list, call_merge, call_history, call_judge, call_one_writer, call_tally, call_state};
 
 /* Paints the stack below this frame, calls, and gives how far down the paint is gone. */
 __attribute__((noinline)) static size_t measured(struct thread *thread, const struct file *file,
@@ -218,7 +228,7 @@ int main(int argc, char **argv)
 {
     static struct thread threads[THREADS];
     pthread_t ids[THREADS];
-    size_t i, k, merged = 0, written = 0, accepted = 0, barred = 0, averaged = 0, most[FUNCTIONS] = {0};
+    size_t i, k, merged = 0, written = 0, accepted = 0, barred = 0, averaged = 0, halfway = 0, most[FUNCTIONS] = {0};
     unsigned long wrong = 0;
     const uint8_t *line;
     int deepest = 0;
@@ -239,6 +249,7 @@ int main(int argc, char **argv)
         accepted += files[i].alone.judge[NUXALDER_JUDGE_ACCEPTED] == 1;
         barred += files[i].alone.one_writer[NUXALDER_RUN_REFUSAL] == NUXALDER_REFUSED_WRITER;
         averaged += files[i].alone.average[NUXALDER_AVERAGE_STEPS] > 0;
+        halfway += files[i].alone.stated[0][NUXALDER_STATE_RECORDS] < files[i].alone.stated[1][NUXALDER_STATE_RECORDS];
     }
     for (line = files[0].alone.text; *line != 's'; line = (const uint8_t *)strchr((const char *)line, '\n') + 1)
         if (atoi((const char *)line) > deepest) deepest = atoi((const char *)line);
@@ -256,9 +267,9 @@ int main(int argc, char **argv)
         for (k = 0; k < FUNCTIONS; k++)
             if (threads[i].most[k] > most[k]) most[k] = threads[i].most[k];
     }
-    printf("files %zu merged %zu written %zu accepted %zu barred %zu averaged %zu deepest %d wrong %lu run %zu list %zu merge %zu "
-           "history %zu judge %zu one-writer %zu tally %zu\n",
-           count, merged, written, accepted, barred, averaged, deepest, wrong, most[0], most[1], most[2], most[3], most[4], most[5],
-           most[6]);
+    printf("files %zu merged %zu written %zu accepted %zu barred %zu averaged %zu halfway %zu deepest %d wrong %lu run %zu list %zu "
+           "merge %zu history %zu judge %zu one-writer %zu tally %zu state %zu\n",
+           count, merged, written, accepted, barred, averaged, halfway, deepest, wrong, most[0], most[1], most[2], most[3], most[4],
+           most[5], most[6], most[7]);
     return 0;
 }

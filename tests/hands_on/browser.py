@@ -14,7 +14,8 @@ FLAGS = (
     "--headless=new --no-sandbox --disable-gpu --disable-dev-shm-usage --no-first-run --disable-extensions "
     "--disable-background-networking --hide-scrollbars --mute-audio --remote-debugging-pipe"
 ).split()
-KEY_CODES = dict(PageUp=33, PageDown=34, End=35, Home=36, ArrowLeft=37, ArrowUp=38, ArrowRight=39, ArrowDown=40)
+KEY_CODES = dict(PageUp=33, PageDown=34, End=35, Home=36, ArrowLeft=37, ArrowUp=38, ArrowRight=39, ArrowDown=40, Enter=13, Escape=27)
+KEY_CODES.update({" ": 32, "+": 187, "-": 189, "0": 48})
 SHIFT = 8
 CALL_SECONDS_MOST = 180  # 200 steps on a machine that does other work too
 
@@ -134,6 +135,25 @@ class Page:
         given = {"x": x + width * part_across, "y": y + height / 2, "button": "left", "clickCount": 1}
         self.call("Input.dispatchMouseEvent", type="mousePressed", **given)
         self.call("Input.dispatchMouseEvent", type="mouseReleased", **given)
+
+    def write(self, selector, text):
+        """Types into the first element that the selector finds, in place of what stands there."""
+        self.evaluate(f"(() => {{ const e = document.querySelector({json.dumps(selector)}); e.focus(); e.value = ''; }})()")
+        self.call("Input.insertText", text=text)
+
+    def resize(self, width, height):
+        self.call("Emulation.setDeviceMetricsOverride", **{**self.size, "width": width, "height": height})
+
+    def step_cost(self, steps, expression):
+        """Milliseconds of the page's own processor time for each of so many steps that an expression takes, and what it gives."""
+        self.call("Performance.enable", timeDomain="threadTicks")
+
+        def spent():
+            return next(one["value"] for one in self.call("Performance.getMetrics")["metrics"] if one["name"] == "TaskDuration")
+
+        before = spent()
+        given = self.evaluate(expression)
+        return 1000 * (spent() - before) / steps, given
 
     def scheme(self, name):
         self.call("Emulation.setEmulatedMedia", features=[{"name": "prefers-color-scheme", "value": name}])

@@ -45,14 +45,14 @@ int main(void) {
 """
 
 
-# Calls both runs and Tally, from the installed files.
+# Calls both runs, Tally and State, from the installed files.
 CALLS = """#include <nuxalder.h>
 #include <stdio.h>
 int main(void) {
     const uint8_t schedule[] = {NUXALDER_FILE_VERSION, 0, 3, NUXALDER_FIRST_BYTE(1, NUXALDER_LOOKUP), 9,
                                 NUXALDER_FIRST_BYTE(1, NUXALDER_STEP), 0, NUXALDER_FIRST_BYTE(2, NUXALDER_INSERT), 9};
     static struct nuxalder_tally season;
-    uint8_t rows[NUXALDER_ROWS_BUFFER];
+    uint8_t rows[NUXALDER_ROWS_BUFFER], state[NUXALDER_STATE_BUFFER];
     uint64_t report[NUXALDER_TALLY_FIELDS], average[NUXALDER_AVERAGE_FIELDS];
     nuxalder_run(schedule, sizeof schedule, rows, sizeof rows, report);
     printf("%d %s\\n", (int)report[NUXALDER_RUN_RECORDS], nuxalder_refusal_words(report[NUXALDER_RUN_REFUSAL]));
@@ -65,6 +65,11 @@ int main(void) {
     season.starts[NUXALDER_INSERT] = UINT32_MAX;
     nuxalder_tally(schedule, sizeof schedule, rows, sizeof rows, &season, report);
     printf("%d %s\\n", (int)season.no[NUXALDER_LOOKUP], nuxalder_refusal_words(report[NUXALDER_TALLY_REFUSAL]));
+    nuxalder_state(schedule, sizeof schedule, 3, state, sizeof state, report);
+    printf("%d %d %d\\n", (int)report[NUXALDER_STATE_RECORDS], nuxalder_state_thread(state, 2)[NUXALDER_THREAD_PLACE],
+           nuxalder_state_node(state, 0)[NUXALDER_NODE_KIND]);
+    nuxalder_state(schedule, sizeof schedule, 3, state, sizeof state - 1, report);
+    printf("%d %s\\n", (int)report[NUXALDER_STATE_LENGTH], nuxalder_refusal_words(report[NUXALDER_STATE_REFUSAL]));
     return sizeof season != 65 * sizeof(uint32_t);
 }
 """
@@ -133,9 +138,9 @@ def install(checks):
     calls = HOME / "calls.c"
     calls.write_text(CALLS)
     built = run("cc", "-std=c99", *STRICT, calls, *words, "-o", HOME / "calls")
-    checks.equal("a program with both runs and a tally is built from them", built, (0, "", ""))
-    told = f"3 not refused\n2 {bench.REFUSALS[24]}\n1 1 1/1\n1 {bench.REFUSALS[19]}\n"
-    checks.equal("the runs differ in 24, and it tallies", run(HOME / "calls"), (0, told, ""))
+    checks.equal("a program with both runs, a tally and states is built from them", built, (0, "", ""))
+    told = f"3 not refused\n2 {bench.REFUSALS[24]}\n1 1 1/1\n1 {bench.REFUSALS[19]}\n3 1 0\n0 {bench.REFUSALS[25]}\n"
+    checks.equal("the runs differ in 24, it tallies, and it tells a state", run(HOME / "calls"), (0, told, ""))
     code = EXAMPLE.read_text()
     checks.that(f"it has at most {LINES_MOST} lines", len(code.splitlines()) <= LINES_MOST)
     readme = (ROOT / "README.md").read_text()
@@ -161,8 +166,9 @@ def threads(checks):
     checks.that("and histories of both verdicts", len(files) // 2 <= told["accepted"] < len(files), out)
     checks.that("and one-writer runs that end at a barred record, and others", 20 <= told["barred"] < len(files), out)
     checks.that("and tallies with inserts", told["averaged"] >= 50, out)
+    checks.that("and states halfway and at the end", told["halfway"] >= 50, out)
     stack = int(re.search(r"#define NUXALDER_STACK (\d+)", HEADER.read_text())[1])
-    most = max(told[name] for name in ("run", "one-writer", "tally", "list", "merge", "history", "judge"))
+    most = max(told[name] for name in ("run", "one-writer", "tally", "list", "state", "merge", "history", "judge"))
     # A tree of 63 levels, the deepest there can be, is a few frames deeper than the one measured.
     checks.that(f"the stack used is what the header says: {out.strip()}", stack / 4 < most and most + 2048 < stack)
     checks.that("the header says that threads may call", "from several threads at once" in HEADER.read_text())

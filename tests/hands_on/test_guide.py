@@ -20,7 +20,7 @@ def all_of(checks):
     checks.group("guide: its commands")
     folder = OUT / "guide"
     folder.mkdir(parents=True, exist_ok=True)
-    for name in ("tools", "examples"):
+    for name in ("tools", "examples", "tests"):
         if not (folder / name).exists():
             (folder / name).symlink_to(ROOT / name)
     for command, output in blocks():

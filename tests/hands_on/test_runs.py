@@ -4,7 +4,6 @@ import os
 import re
 import shutil
 import time
-from collections import Counter
 
 import bench
 import text_form
@@ -26,27 +25,27 @@ FIGURES = {
     "longest-lookup": ["own step 62, row: t1 lookup 1 yes"],
     "longest-lookup-3": ["own step 64, row: t1 lookup 1 yes 0"],
     "helped-join": ["own step 19, row: t1 insert 10 yes", "own step 18, row: t0 join 12 yes"],
-    "depth-replaced": ["own step 3, row: t0 insert 3 yes", "insert 3 815, own step 3, row: t0 insert 3 no\n           - 0 normal 3=640\n"],
-    "depth-lookup": ["row: t1 lookup 9 yes 0\n", "own step 2, row: t1 lookup 3 yes 640\n", "row: t2 lookup 3 yes 815\n", "row: t3 lookup 4 no\n"],
-    "depth-split-join": ["join 3, own step 21, row: t0 join 3 yes", "+ 1 normal 9=1200", "+ 0 neighbour 3=640 9=1200"],
+    "depth-replaced": ["own step 3, row: t0 insert 3 yes", "insert 3 815, own step 3, row: t0 insert 3 no", "root from normal 1 to new normal 2 with 3=815"],
+    "depth-lookup": ["row: t1 lookup 9 yes 0\n", "own step 2, row: t1 lookup 3 yes 640", "row: t2 lookup 3 yes 815\n", "row: t3 lookup 4 no\n"],
+    "depth-split-join": ["join 3, own step 21, row: t0 join 3 yes", "new normal 5 with 9=1200", "to node 8, whose container is 3=640 9=1200"],
     "depth-during-join": ["insert 3 815, own step 9, row: t1 insert 3 no", "own step 16, row: t0 join 3 no (stood down)"],
-    "range-query": ["range 3 10, own step 5\n           - 1 normal 3=640\n           + 1 range 3=640\n", "range 3 10, own step 14, row: t1 range 3 yes (found 3 9)"],
+    "range-query": ["range 3 10, own step 5: left of route 3 from normal 4 to new range base 7 with 3=640", "range 3 10, own step 14, row: t1 range 3 yes (found 3 9)"],
     "range-piggyback": ["own step 14, row: t2 range 0 yes (found 3 9)", "own step 9, row: t1 range 5 yes (found 9)"],
     "range-helped": ["own step 21, row: t2 insert 4 yes", "own step 9, row: t1 range 0 yes (found 3 9)"],
     "range-join": ["own step 23, row: t0 join 14 yes", "own step 18, row: t1 range 0 yes (found 3 9 14)"],
     "stop-join": ["join 3, own step 7, row: t0 join 3 no (joins stopped)", "own step 11, row: t1 lookup 8 yes 0", "own step 31, row: t0 join 3 yes"],
     "stop-lookup": ["own step 8, row: t1 lookup 6 yes 0", "own step 15, row: t0 remove 8 yes", "own step 11, row: t1 lookup 8 yes 640"],
     "refused-15-range": ["raw 06 09 00 03", "refused 15: a range query with an upper end over 63 or below its station"],
-    "refused-16-stores": ["turn 392   t0 step            refused 16", "records 391 of 392 refusal 16"],
+    "refused-16-stores": ["turn 392   t0 step at 64 (put the first range base: swap the root or look left): refused 16", "records 391 of 392 refusal 16"],
     "refused-14-depth": ["raw 02 09 27 10", "refused 14: an insert with a depth over 9,999: a depth is 0 to 9999 mm"],
     "refused-10-depth": ["raw 01 03 02 80", "refused 10: unused bytes that are not 0: only an insert has a depth and only a range an upper end"],
     "refused-4-length-2": ["refused 4: a length other than 3 + 4 * count: a record of version 2 has four bytes"],
     "refused-2-version": ["refused 2: a version other than 1, 2 and 3"],
     "refused-7-thread": ["raw 40 00", "refused 7: a thread over 3"],
     "refused-12-idle": ["refused 12: a step of an idle thread"],
-    "refused-13-numbers": ["turn 1024  t0 step         refused 13", "records 1023 of 1024 refusal 13"],
+    "refused-13-numbers": ["turn 1024  t0 step at 10 (swap the root or look left): refused 13", "records 1023 of 1024 refusal 13"],
     "refused-3-count": ["refused 3: a count over 4,096"],
-    "one-writer-deep": ["turn 4079  t0 step         insert 5, own step 64, row: t0 insert 5 no"],
+    "one-writer-deep": ["insert 5, own step 64, row: t0 insert 5 no"],
     "second-writer": ["own step 2, row: t1 lookup 9 yes", "own step 6, row: t3 insert 20 yes"],
 }
 
@@ -106,27 +105,18 @@ def vectors(checks):
         checks.that(f"each row of vectors/{what}", told == lines, len(told))
 
 
+ROW = "; row: "
+
+
 def printed_row(line):
     """The row of a turn's line as the program prints it, without the reason of a split or join."""
-    return line.split(", row: ")[1].split(" (")[0]
+    return line.split(ROW)[1].split(" (")[0]
 
 
-def replay(lines):
-    """After each turn of a trace: the tree's lines as a bag, the rows so far and the counts line."""
-    bag, rows, counts, states = Counter(), [], "", []
-    for line in lines:
-        if re.match(r"turn \d+ ", line):
-            if ", row: " in line:
-                rows.append(printed_row(line))
-            states.append(None)
-        elif line.startswith("           + "):
-            bag[line[13:]] += 1
-        elif line.startswith("           - "):
-            bag[line[13:]] -= 1
-        elif line.startswith("           stored "):
-            counts = line.strip()
-        states[-1] = (+bag, list(rows), counts)
-    return states
+def told_figure(text, told):
+    """Whether a trace tells a figure; `own step 3, row: ..` has what the step did between the two."""
+    step, found, row = text.partition(", row: ")
+    return re.search(f"{re.escape(step)}: .*{ROW}{re.escape(row)}(\n| \\()", told) if found and step else text in told
 
 
 def sample(file, last):
@@ -146,9 +136,10 @@ def traces(checks):
         lines = out.decode().splitlines()
         whole = Expected(file, len(text_form.records_of(file)))
         last = whole.done + (1 if whole.refusal else 0)
-        states = replay(lines[:-1])
+        turns = [line for line in lines if re.match(r"turn \d+ ", line)]
         refused = 3 if whole.refusal else 0
-        checks.equal(f"trace {name} has all turns", (status, bool(err), len(states)), (refused, bool(refused), last + 1))
+        checks.equal(f"trace {name} has all turns, a line each", (status, bool(err), len(turns)), (refused, bool(refused), last + 1))
+        checks.equal(f"trace {name} has no other lines", len(lines), last + 2 + bool(refused))
         head = path.with_suffix(".printed").read_text().splitlines()[0]
         checks.equal(f"trace {name} ends with the head of the run", lines[-1], head)
         binary = OUT / f"{name}.schedule"
@@ -156,15 +147,15 @@ def traces(checks):
         checks.that(f"trace of the binary {name} is the same", tool("trace", binary)[1] == out)
         for turn in sample(file, last):
             expected = Expected(file, turn)
-            counts = f"stored {expected.stored} used {expected.used}"
-            checks.equal(f"{name} turn {turn}", states[turn], (Counter(expected.listing), expected.rows, counts))
-            one_turn(checks, path, turn, expected, counts)
+            rows = [printed_row(line) for line in turns[: turn + 1] if ROW in line]
+            checks.equal(f"{name} rows at turn {turn}", rows, expected.rows)
+            one_turn(checks, path, turn, expected, f"stored {expected.stored} used {expected.used}")
     told = tool("trace", EXAMPLES / "reasons.txt")[1].decode().splitlines()
-    given = {int(line.split()[1]): line.split(" (")[1][:-1] for line in told if " (" in line}
+    given = {int(line.split()[1]): line.split(ROW)[1].split(" (")[1][:-1] for line in told if ROW in line and line.endswith(")")}
     checks.equal("the trace says every reason in words", given, REASONS)
     for name, texts in FIGURES.items():
         told = tool("trace", EXAMPLES / f"{name}.txt")[1].decode()
-        checks.that(f"the figures of 01 for {name}", all(text in told for text in texts), told)
+        checks.that(f"the figures of 01 for {name}", all(told_figure(text, told) for text in texts), told)
 
 
 def one_turn(checks, path, turn, expected, counts):
@@ -172,12 +163,13 @@ def one_turn(checks, path, turn, expected, counts):
     status, out, err = tool("trace", path, "--at", turn)
     lines = out.decode().splitlines()
     tree = [line[13:] for line in lines if re.match(r" {11}[+ ] (\d|set)", line)]
-    opened = [f"t{thread} {given[0]}" for thread, given in expected.open.items() if given]
+    opened = [f"t{thread} {given[0]}" for thread, given in sorted(expected.open.items()) if given]
     refused = 3 if expected.refusal else 0
     shown = (status, bool(err), tree, lines[-1].strip())
     checks.equal(f"--at {turn} of {path.stem}", shown, (refused, bool(refused), expected.listing, counts))
-    checks.that(f"--at {turn}: open", f"           open: {', '.join(opened) or '-'}" in lines, lines)
-    if ", row: " in lines[0]:
+    threads = [match[1] for match in (re.match(r" {11}(t\d .*) at \d+ \(", line) for line in lines) if match]
+    checks.equal(f"--at {turn}: open", (threads, "           all threads are idle" in lines), (opened, not opened))
+    if ROW in lines[0]:
         checks.equal(f"--at {turn}: row", printed_row(lines[0]), expected.rows[-1])
 
 

@@ -103,16 +103,13 @@ def _parts(out):
         yield word, numbers, text
 
 
-def ask(path, file, first, last, limit=None, scan=False, one_writer=False):
-    """The parts that turns.c gives for a file and its turns `first` to `last`, the end left out; of the one-writer run if asked."""
-    words = [str(first), str(last), *(["scan"] if scan else [])]
-    program = helper("turns.c", path, *(["ONE_WRITER"] if one_writer else []))
+def output(program, name, words, file, limit=None):
+    """What a helper of this name writes for a file; the last line is `end`, or it gave no whole answer."""
     status, out, err = communicate([program, *words], file, limit)
-    parts = list(_parts(out))
-    if parts and parts[-1][0] == "end" and status == 0:
-        return parts[:-1]
+    if status == 0 and (out == b"end\n" or out.endswith(b"\nend\n")):
+        return out
     said = err.decode("utf-8", "replace").strip().splitlines()
-    mine = [line.removeprefix("turns: ") for line in said if line.startswith("turns: ")]
+    mine = [line.removeprefix(f"{name}: ") for line in said if line.startswith(f"{name}: ")]
     if status is None:
         reason = f"no answer in {limit:g} s"
     elif mine:
@@ -121,4 +118,11 @@ def ask(path, file, first, last, limit=None, scan=False, one_writer=False):
         reason = "it ended the process before its answer was whole"
     else:
         reason = ended(status) + (f", having said: {said[-1][:200]}" if said else "")
-    raise NoAnswer(reason, parts)
+    raise NoAnswer(reason, _parts(out) if name == "turns" else ())
+
+
+def ask(path, file, first, last, limit=None, scan=False, one_writer=False):
+    """The parts that turns.c gives for a file and its turns `first` to `last`, the end left out; of the one-writer run if asked."""
+    words = [str(first), str(last), *(["scan"] if scan else [])]
+    program = helper("turns.c", path, *(["ONE_WRITER"] if one_writer else []))
+    return list(_parts(output(program, "turns", words, file, limit)))[:-1]

@@ -42,6 +42,7 @@ REFUSALS = {
     22: "more than 12 operations",
     23: "an operation that is not finished",
     24: "an insert, remove, split or join on threads 1 to 3, or a range query, where only thread 0 writes",
+    25: "a state buffer under 48,912 bytes",
 }
 # What they say of a file of one version, and for versions 2 and 3 what would be right.
 OF_VERSION = {

@@ -1,247 +1,96 @@
-// Steps through the run whose data stands in the page. All that is shown of the tree, the set, the rows and the
-// counts is the library's answer at that turn; this program only finds the turn and draws it.
-"use strict";
+// ---- One turn, and how one gets to it ----
 
-const run = JSON.parse(document.getElementById("data").textContent);
-const refusedFile = run.listings.length === 0;
-const lastTurn = run.done + (run.refusal && !refusedFile ? 1 : 0);
-const part = (id) => document.getElementById(id);
-const rowAt = new Map(run.rows.map(([turn, row, reason]) => [turn, { row, reason }]));
 const changeTurns = [...new Set([...run.listings, ...run.rows].map(([turn]) => turn).concat(lastTurn))].sort((a, b) => a - b);
 let now = -1;
-let rowsShown = 0;
 
-// The index of the last entry [turn, ..] whose turn is not after the one given, or -1.
-function lastAt(entries, turn) {
-  let low = 0, high = entries.length;
-  while (low < high) {
-    const middle = (low + high) >> 1;
-    if (entries[middle][0] <= turn) low = middle + 1; else high = middle;
-  }
-  return low - 1;
-}
-const valueAt = (entries, turn) => (lastAt(entries, turn) < 0 ? null : entries[lastAt(entries, turn)][1]);
-
-// For each thread the turns of its accepted records.
-const threadTurns = [[], [], [], []];
-run.deeds.forEach(([thread], at) => threadTurns[thread].push([at + 1]));
-
-const badge = (thread) => `<b class="badge b${thread}">t${thread}</b>`;
-// A row's words: thread, action, station, answer and, for a lookup's yes in versions 2 and 3, the depth found.
-const wordsOf = ({ row }) => row.split(" ");
-const answer = (given) => { const word = wordsOf(given)[3]; return `<em class="answer ${word}">${word}</em>`; };
-const found = (given) => { const depth = wordsOf(given)[4]; return depth === undefined ? "" : `<span class="found">${depth}</span>`; };
-// Why a split or join did nothing; the stations that a range query found.
-const why = ({ reason }) => (reason ? `<small class="why" title="${reason}">${reason}</small>` : "");
-// "t0 insert 3" with the thread as a badge; a raw record stands as it is.
-const withBadge = (text) => (/^t[0-3] /.test(text) ? `${badge(text[1])}<span>${text.slice(3)}</span>` : `<span>${text}</span>`);
-const rowHtml = (given) => `${withBadge(wordsOf(given).slice(0, 3).join(" "))}${why(given)}${answer(given)}${found(given)}`;
-
-// ---- The listing as a tree ----
-
-// A container and the set are words, "3" or in versions 2 and 3 "3=640": a station and its depth.
-function parse(listing) {
-  const lines = listing.trimEnd().split("\n");
-  const set = lines.pop();
-  let at = 0;
-  const node = () => {
-    const [depth, kind, ...rest] = lines[at++].split(" ");
-    const made = { depth: Number(depth), kind, content: rest.join(" ") };
-    if (kind === "route") {
-      made.key = Number(rest[0]);
-      made.left = node();
-      made.right = node();
-    } else {
-      made.stations = rest[0] === "-" ? [] : rest;
-    }
-    return made;
-  };
-  return { root: node(), set: set === "set -" ? [] : set.split(" ").slice(1) };
-}
-
-const nameOf = (node) => `${node.kind} ${node.content}`;
-function namesIn(node, into = new Set()) {
-  into.add(nameOf(node));
-  if (node.left) { namesIn(node.left, into); namesIn(node.right, into); }
-  return into;
-}
-
-// ---- The drawing ----
-
-const LINE = 20, LEVEL = 94, GAP = 18, RADIUS = 24, EDGE = 12;
-// The width of a station, the most in a line, and how much wider than high a container is.
-const [CELL, COLUMNS, SPREAD] = run.deep ? [62, 4, 0.7] : [25, 8, 1.7];
-
-function measure(base) {
-  const columns = Math.max(1, Math.min(COLUMNS, Math.ceil(Math.sqrt(base.stations.length * SPREAD))));
-  base.columns = columns;
-  base.width = Math.max(82, columns * CELL + 14);
-  base.height = 26 + Math.max(1, Math.ceil(base.stations.length / columns)) * LINE + 6;
-}
-
-// Gives each child its distance from its route, `shift`, as small as no two nodes on a level need more. The answer
-// is the subtree's outline: for each level from the node down, how far it reaches to the left and to the right.
-function outline(node) {
-  if (node.kind !== "route") {
-    measure(node);
-    return Array(Math.ceil((node.height + LEVEL / 3) / LEVEL)).fill([-node.width / 2, node.width / 2]);
-  }
-  const left = outline(node.left), right = outline(node.right);
-  let apart = 3 * RADIUS;
-  for (let level = 0; level < Math.min(left.length, right.length); level++) {
-    apart = Math.max(apart, left[level][1] - right[level][0] + GAP);
-  }
-  node.left.shift = -apart / 2;
-  node.right.shift = apart / 2;
-  const below = Array.from({ length: Math.max(left.length, right.length) }, (_, level) => {
-    const [a, b] = left[level] || [Infinity, -Infinity], [c, d] = right[level] || [Infinity, -Infinity];
-    return [Math.min(a - apart / 2, c + apart / 2), Math.max(b - apart / 2, d + apart / 2)];
-  });
-  return [[-RADIUS, RADIUS], ...below];
-}
-
-// Sets the places of a subtree's nodes; gives its lowest point.
-function place(node, x) {
-  node.x = x;
-  node.y = EDGE + node.depth * LEVEL;
-  if (node.kind !== "route") return node.y + node.height;
-  return Math.max(place(node.left, x + node.left.shift), place(node.right, x + node.right.shift));
-}
-
-function edge(from, to, word) {
-  const top = from.y + 2 * RADIUS, middle = (top + to.y) / 2, x = (from.x + to.x) / 2;
-  return `<path class="edge" d="M${from.x} ${top}C${from.x} ${middle + 12} ${to.x} ${middle - 12} ${to.x} ${to.y}"/>` +
-    `<g class="when"><rect x="${x - 17}" y="${middle - 9}" width="34" height="18" rx="9"/><text x="${x}" y="${middle + 4}">${word}</text></g>`;
-}
-
-function drawRoute(node) {
-  const y = node.y + RADIUS;
-  const circle = (name, radius) => `<circle class="${name}" cx="${node.x}" cy="${y}" r="${radius}"/>`;
-  return circle("ring", RADIUS + 5) + circle("shape", RADIUS) +
-    `<text class="word" x="${node.x}" y="${y - 6}">route</text><text class="value" x="${node.x}" y="${y + 12}">${node.key}</text>`;
-}
-
-function drawBase(node, low, high) {
-  const box = (name, out) => `<rect class="${name}" x="${node.x - node.width / 2 - out}" y="${node.y - out}" width="${node.width + 2 * out}" height="${node.height + 2 * out}" rx="${9 + out}"/>`;
-  const across = Math.min(node.columns, node.stations.length || 1);
-  const stations = node.stations.map((word, at) => {
-    const [station, depth] = word.split("=");
-    const x = node.x + ((at % node.columns) - (across - 1) / 2) * CELL;
-    const y = node.y + 38 + Math.floor(at / node.columns) * LINE;
-    const outside = Number(station) < low || Number(station) >= high;
-    const deep = depth === undefined ? "" : `<tspan class="depth">=${depth}</tspan>`;
-    return `<text class="station${outside ? " outside" : ""}" x="${x}" y="${y}">${station}${deep}</text>`;
-  });
-  const empty = `<text class="station none" x="${node.x}" y="${node.y + 38}">-</text>`;
-  return `${box("ring", 5)}${box("shape", 0)}<text class="word" x="${node.x}" y="${node.y + 17}">${node.kind}</text>${stations.join("") || empty}`;
-}
-
-// Draws a subtree into two lists, nodes in the order of the listing. Its range goes from `low` up to, not with, `high`;
-// a node whose name is not in `before` is marked as new.
-function draw(node, before, low, high, edges, nodes) {
-  const isRoute = node.kind === "route";
-  const fresh = before && !before.has(nameOf(node)) ? " new" : "";
-  nodes.push(`<g class="node ${node.kind}${fresh}" data-depth="${node.depth}">${isRoute ? drawRoute(node) : drawBase(node, low, high)}</g>`);
-  if (!isRoute) return;
-  edges.push(edge(node, node.left, `&lt; ${node.key}`), edge(node, node.right, `\u2265 ${node.key}`));
-  draw(node.left, before, low, Math.min(high, node.key), edges, nodes);
-  draw(node.right, before, Math.max(low, node.key), high, edges, nodes);
-}
-
-// Whether a node of the subtree is where the canvas is scrolled to.
-function inSight(node, scale, canvas) {
-  const x = node.x * scale - canvas.scrollLeft, y = node.y * scale - canvas.scrollTop;
-  return (x > 0 && x < canvas.clientWidth && y > 0 && y < canvas.clientHeight) ||
-    (node.kind === "route" && (inSight(node.left, scale, canvas) || inSight(node.right, scale, canvas)));
-}
-
-function drawTree(tree, before) {
-  const edges = [], nodes = [], canvas = part("canvas");
-  const levels = outline(tree.root);
-  const reachLeft = Math.min(...levels.map(([left]) => left)), reachRight = Math.max(...levels.map(([, right]) => right));
-  const width = reachRight - reachLeft + 2 * EDGE, height = place(tree.root, EDGE - reachLeft) + EDGE;
-  draw(tree.root, before, 0, 64, edges, nodes);
-  const roomDown = matchMedia("(max-width: 1000px)").matches ? Infinity : canvas.clientHeight - 12;
-  const scale = Math.max(0.62, Math.min(1.3, (canvas.clientWidth - 4) / width, roomDown / height));
-  canvas.innerHTML = `<svg role="img" aria-label="The tree" width="${width * scale}" height="${height * scale}" viewBox="0 0 ${width} ${height}">${edges.join("")}${nodes.join("")}</svg>`;
-  const fresh = canvas.querySelector(".new");
-  if (fresh) fresh.scrollIntoView({ block: "nearest", inline: "nearest" });
-  else if (!inSight(tree.root, scale, canvas)) canvas.scrollTo(tree.root.x * scale - canvas.clientWidth / 2, 0);
-}
-
-// ---- One turn ----
-
-function showTree(turn) {
+let listingKey = "", setKey = "";
+function showListing(turn) {
   const text = valueAt(run.listings, turn);
   const textBefore = turn > 0 && turn <= run.done ? valueAt(run.listings, turn - 1) : text;
-  const tree = parse(text);
-  const linesBefore = new Set(textBefore.split("\n"));
-  part("listing").innerHTML = text.trimEnd().split("\n")
-    .map((line) => `<span class="${linesBefore.has(line) ? "" : "new"}">${line}\n</span>`).join("");
-  drawTree(tree, textBefore === text ? null : namesIn(parse(textBefore).root));
-  const depthOf = new Map(tree.set.map((word) => word.split("=")));
-  [...part("grid").children].forEach((cell, station) => {
-    const stored = depthOf.has(String(station));
-    cell.classList.toggle("in", stored);
-    if (run.deep) cell.title = stored ? `station ${station}: ${depthOf.get(String(station))} mm` : "";
-  });
-  part("set").textContent = tree.set.join(" ") || "-";
-  part("size").textContent = `${tree.set.length} of 64 stations`;
-  const [stored, used] = valueAt(run.counts, turn);
+  const key = `${lastAt(run.listings, turn)} ${text === textBefore}`;
+  if (key !== listingKey) {
+    const linesBefore = new Set(textBefore.split("\n"));
+    part("listing").innerHTML = text.trimEnd().split("\n")
+      .map((line) => `<span class="${linesBefore.has(line) ? "" : "new"}">${line}\n</span>`).join("");
+    listingKey = key;
+  }
+  const line = text.trimEnd().split("\n").pop(), plain = plainAt(Math.min(turn, run.done));
+  if (`${line} ${plain}` !== setKey) showSet(line === "set -" ? [] : line.split(" ").slice(1), plain);
+  setKey = `${line} ${plain}`;
+  const [stored, used] = valueAt(run.counts, turn), [shown, count] = valueAt(run.shared, Math.min(turn, run.done));
   part("stored").textContent = stored;
   part("used").textContent = used;
   part("meter").style.width = `${(100 * used) / 256}%`;
+  part("stores").textContent = shown ? run.stores.slice(0, shown).map((changes, number) => `${number}: ${valueAt(changes, Math.min(turn, run.done)) ?? "unset"}`).join("; ") : "none";
+  part("count").textContent = count;
 }
 
-// A thread's open operation: that of its last accepted record, unless that record finished it.
+// The tree's set and the plain table beside it: words that may have depths.
+function showSet(set, plain) {
+  const depthOf = new Map(set.map((word) => word.split("="))), plainly = new Set(plain.map((word) => word.split("=")[0]));
+  [...part("grid").children].forEach((cell, station) => {
+    const stored = depthOf.has(String(station));
+    cell.classList.toggle("in", stored);
+    cell.classList.toggle("plain", plainly.has(String(station)));
+    if (run.deep) cell.title = stored ? `station ${station}: ${depthOf.get(String(station))} mm` : "";
+  });
+  const same = plain.join(" ") === set.join(" ");
+  part("set").textContent = set.join(" ") || "-";
+  part("plain").textContent = plain.join(" ") || "-";
+  part("plain").classList.toggle("differs", !same);
+  part("size").textContent = `${set.length} of 64 stations, ${same ? "as" : "NOT as"} in the plain ${run.deep ? "table" : "set"}`;
+}
+
+const turnWords = (from, to) => (from === to ? `turn ${from}` : `turns ${from} to ${to}`);
+
+// The moments of a lookup's span, in words.
+function momentWords(operation, turn) {
+  const station = operation[1].split(" ")[1];
+  return momentsOf(operation).filter(([from]) => from <= turn)
+    .map(([from, to, depth]) => `${depth < 0 ? `${station} out` : `${plainWord(station, depth)} in`} at ${turnWords(from, Math.min(to, turn))}`).join(", ");
+}
+
+// What is said of the moments of a lookup, or of a query that has its row at this turn.
+function spanWords(operation, row, turn) {
+  if (operation[1].startsWith("lookup ")) return momentWords(operation, turn);
+  if (!operation[1].startsWith("range ") || !row) return "";
+  const turns = agreements(operation, row.reason.replace("found ", "")).map(([from, to]) => turnWords(from, to));
+  return turns.length ? `as in the plain table at ${turns.join(", ")}` : "NOT as in the plain table at any turn";
+}
+
+// A thread's open operation with its place and notes, or its last one with its answer.
 function showThreads(turn) {
   part("threads").innerHTML = threadTurns.map((turns, thread) => {
-    const at = lastAt(turns, turn);
-    const last = at < 0 ? 0 : turns[at][0];
+    const at = lastAt(turns, turn), last = at < 0 ? 0 : turns[at][0];
     const [, operation, steps] = last ? run.deeds[last - 1] : [];
-    const row = rowAt.get(last);
-    const idle = !last || row;
+    const row = rowAt.get(last), idle = !last || row, [place, notes] = threadAt(thread, turn);
     const note = row ? `${operation} ${answer(row)}` : last ? `${steps} own step${steps === 1 ? "" : "s"}` : "";
-    return `<div class="thread${idle ? " idle" : ""}${last === turn && turn ? " now" : ""}" data-thread="${thread}">` +
-      `<p>${badge(thread)}<span class="operation">${idle ? "idle" : operation}</span></p><p class="note">${note}</p></div>`;
+    const where = idle ? "" : `<p class="where"><b>${place}</b> ${placeWords(place)}</p>`;
+    const known = notes.length ? `<ul class="notes">${notes.map((word) => `<li>${escaped(word)}</li>`).join("")}</ul>` : "";
+    const open = valueAt(threadOperations[thread], turn);
+    const said = open && open[3] && open[3] <= turn && (!row || last === turn) ? spanWords(open, row, turn) : "";
+    const moments = said ? `<p class="moments">${said}</p>` : "";
+    return `<li class="thread${idle ? " idle" : ""}${last === turn && turn ? " now" : ""}" data-thread="${thread}">` +
+      `<p>${badge(thread)}<span class="operation">${idle ? "idle" : operation}</span></p><p class="note">${note}</p>${where}${known}${moments}</li>`;
   }).join("");
-}
-
-function showRows(turn) {
-  const items = part("rows").children;
-  const count = lastAt(run.rows, turn) + 1;
-  for (; rowsShown < count; rowsShown++) items[rowsShown].hidden = false;
-  for (; rowsShown > count; rowsShown--) items[rowsShown - 1].hidden = true;
-  part("finished").textContent = count ? `${count} so far` : "none yet";
-  const marked = part("rows").querySelector(".now");
-  if (marked) marked.classList.remove("now");
-  if (rowAt.has(turn)) items[count - 1].classList.add("now");
-  part("rows").scrollTop = part("rows").scrollHeight;
 }
 
 function showCaption(turn) {
   const refused = turn > run.done;
   part("refusal").hidden = !refused && !refusedFile;
+  part("comment").textContent = part("comment").title = turn ? commentWords(turn) : "";
   if (turn === 0) {
     part("caption").innerHTML = refusedFile ? "No record was looked at" : '<b>A fresh bench</b><span class="what">root 0, all threads idle</span>';
     return;
   }
   const text = run.records[turn - 1];
-  const [, operation, steps] = refused ? [] : run.deeds[turn - 1];
+  const [, operation, steps] = refused ? [] : run.deeds[turn - 1], [place, told, goes] = refused ? [] : run.told[turn - 1];
+  const at = place ? `<span class="at"><b>${place}</b> ${placeWords(place)}</span>` : "";
+  const to = refused || rowAt.has(turn) ? "" : `<span class="goes">goes to <b>${goes}</b> ${placeWords(goes)}</span>`;
   const what = refused ? "refused" : steps ? `${operation}, own step ${steps}` : `opens ${operation}`;
   const row = rowAt.has(turn) ? `<span class="row">${rowHtml(rowAt.get(turn))}</span>` : "";
-  part("caption").innerHTML = `${withBadge(text).replace("<span>", '<b class="text">').replace("</span>", "</b>")}<span class="what">${what}</span>${row}`;
-}
-
-function showRecord(turn) {
-  const items = part("records").children;
-  if (now > 0) { items[now - 1].classList.remove("now"); items[now - 1].removeAttribute("aria-current"); }
-  const list = part("records");
-  if (turn === 0) { list.scrollTop = 0; return; }
-  const item = items[turn - 1];
-  item.classList.add("now");
-  item.setAttribute("aria-current", "true");
-  list.scrollTop = item.offsetTop - list.clientHeight / 2 + 13;
+  part("caption").innerHTML = `${withBadge(text).replace("<span>", '<b class="text">').replace("</span>", "</b>")}<span class="what">${what}</span>${at}` +
+    `${place ? `<span class="told">${escaped(told)}</span>` : ""}${to}${row}`;
 }
 
 let noting = 0;
@@ -252,19 +101,64 @@ function noteTurn() {
 
 function show(wanted) {
   const turn = Math.max(0, Math.min(lastTurn, wanted));
-  if (turn === now) return;
+  if (turn === now || !Number.isFinite(turn)) return;
   const first = now < 0;
-  showRecord(turn);
+  now = turn;
   showCaption(turn);
   showThreads(turn);
-  if (!refusedFile) { showTree(turn); showRows(turn); }
+  if (!refusedFile) { showListing(turn); showTree(turn); showRows(turn); showLanes(turn); }
+  showRecord(turn);
   part("turn").innerHTML = `turn <b>${turn}</b> of ${lastTurn}`;
   part("slider").value = turn;
   part("first").disabled = part("back").disabled = turn === 0;
   part("end").disabled = part("on").disabled = turn === lastTurn;
   document.body.dataset.turn = turn;
-  now = turn;
+  if (turn === lastTurn) stop();
   if (!first) noteTurn();
+}
+
+// ---- Playing ----
+
+let playing = 0;
+function stop() {
+  clearInterval(playing);
+  playing = 0;
+  part("play").classList.remove("playing");
+  part("play").setAttribute("aria-label", "Play");
+}
+function togglePlay() {
+  if (playing) { stop(); return; }
+  if (now === lastTurn) show(0);
+  playing = setInterval(() => show(now + 1), 1000 / Number(part("speed").value));
+  part("play").classList.add("playing");
+  part("play").setAttribute("aria-label", "Pause");
+}
+
+// ---- Searching: "9" or "station 9", "node 6", "place 35", "t1", or words of what is told ----
+
+function matches(text) {
+  const words = text.trim().toLowerCase();
+  const kind = /^(station|node|place)?\s*(\d+)$/.exec(words), number = kind && Number(kind[2]);
+  const turns = [];
+  if (!words) return turns;
+  for (let turn = 1; turn <= run.done; turn++) {
+    const [thread, operation] = run.deeds[turn - 1], [place, told, goes, named] = run.told[turn - 1];
+    const hit = kind
+      ? kind[1] === "place" ? place === number || goes === number
+        : kind[1] === "node" ? named.includes(number) || threadAt(thread, turn)[2].includes(number)
+          : operation.split(" ")[1] === String(number)
+      : /^t[0-3]$/.test(words) ? thread === Number(words[1]) : `${operation} ${told} ${placeWords(place)}`.includes(words);
+    if (hit) turns.push(turn);
+  }
+  return turns;
+}
+
+function search(step) {
+  const turns = matches(part("find").value), count = turns.length;
+  const to = step > 0 ? turns.find((turn) => turn > now) ?? turns[0] : turns.filter((turn) => turn < now).pop() ?? turns[count - 1];
+  if (count && step) show(to);
+  const at = turns.indexOf(now);
+  part("matches").textContent = part("find").value.trim() ? (count ? `${at < 0 ? "" : `${at + 1} of `}${count} turn${count === 1 ? "" : "s"}` : "none") : "";
 }
 
 // ---- Setting up ----
@@ -287,51 +181,66 @@ function turnInAddress() {
   return given ? Number(given[1]) : 0;
 }
 
+// Sizes that a step need not ask for again.
+function measureAll() {
+  measureRecords();
+  measureView();
+}
+
 function setUp() {
   document.title = `${run.name} \u2013 Nuxalder`;
   part("name").textContent = run.name;
   part("done").textContent = `${run.done} of ${run.records.length} done`;
-  const changes = new Set(run.listings.map(([turn]) => turn));
-  part("records").innerHTML = run.records.map((text, at) => {
-    const turn = at + 1;
-    const kind = [/step$/.test(text) ? "step" : "start"];
-    if (changes.has(turn)) kind.push("changes");
-    if (turn > run.done) kind.push(turn === lastTurn ? "refused" : "left");
-    const mark = rowAt.has(turn) ? answer(rowAt.get(turn)) : "";
-    return `<li class="${kind.join(" ")}" data-turn="${turn}"><i>${turn}</i>${withBadge(text)}${mark}</li>`;
-  }).join("");
-  part("rows").innerHTML = run.rows.map(([turn, row, reason]) => `<li hidden data-turn="${turn}">${rowHtml({ row, reason })}<i>${turn}</i></li>`).join("");
+  setUpLists();
   part("grid").innerHTML = Array.from({ length: 64 }, (_, station) => `<i>${station}</i>`).join("");
   if (run.deep) part("hint").textContent += " 3=640: station 3 at a depth of 640 mm.";
   part("range-key").hidden = !run.listings.some(([, text]) => / range /.test(text));
+  part("stores-part").hidden = !run.deep;
+  part("count-part").hidden = run.version !== 3;
+  if (run.deep) part("plain-word").textContent = "plain table";
   if (run.refusal) {
     const left = run.records.length - lastTurn;
     part("refusal").textContent = refusedFile ? `The file is ${run.why}.`
       : `Record ${lastTurn}${run.where ? `, ${run.where},` : ""} is ${run.why}. The run ends before it${left ? `; ${left} more not carried out` : ""}.`;
   }
-  part("slider").max = lastTurn;
+  part("slider").max = part("jump").max = lastTurn;
   const marks = (entries) => entries.map(([turn]) => `M${turn} 0V8`).join("");
   part("ticks").setAttribute("viewBox", `0 0 ${lastTurn || 1} 8`);
   part("ticks").innerHTML = `<path class="change" d="${marks(run.listings.slice(1))}"/><path class="row" d="${marks(run.rows)}"/>`;
 
-  for (const list of [part("records"), part("rows")]) {
-    list.addEventListener("click", (event) => {
-      const item = event.target.closest("li");
-      if (item && !item.classList.contains("left")) show(Number(item.dataset.turn));
-    });
-  }
   part("slider").addEventListener("input", () => show(Number(part("slider").value)));
   part("first").addEventListener("click", () => show(0));
   part("back").addEventListener("click", () => show(now - 1));
   part("on").addEventListener("click", () => show(now + 1));
   part("end").addEventListener("click", () => show(lastTurn));
+  part("play").addEventListener("click", togglePlay);
+  part("speed").addEventListener("change", () => { if (playing) { stop(); togglePlay(); } });
+  part("jump").addEventListener("keydown", (event) => { if (event.key === "Enter") { show(Number(part("jump").value)); part("jump").value = ""; part("jump").blur(); } });
+  part("find").addEventListener("input", () => search(0));
+  part("find").addEventListener("keydown", (event) => { if (event.key === "Enter") search(event.shiftKey ? -1 : 1); });
+  part("find-on").addEventListener("click", () => search(1));
+  part("find-back").addEventListener("click", () => search(-1));
   document.addEventListener("keydown", (event) => {
-    if (event.altKey || event.ctrlKey || event.metaKey || !KEYS[event.key]) return;
+    const typing = event.target.closest && event.target.closest("input[type=search], input[type=number], select");
+    if (typing && event.key === "Escape") typing.blur();
+    if (typing || event.altKey || event.ctrlKey || event.metaKey) return;
+    if (event.key === " " && !event.target.closest?.("button")) { event.preventDefault(); togglePlay(); return; }
+    if (event.key === "/") { event.preventDefault(); part("find").focus(); return; }
+    if (VIEW_KEYS[event.key] && !refusedFile) { event.preventDefault(); VIEW_KEYS[event.key](); return; }
+    if (!KEYS[event.key]) return;
     event.preventDefault();
+    stop();
     show(KEYS[event.key](event.shiftKey));
   });
   window.addEventListener("hashchange", () => show(turnInAddress()));
-  window.addEventListener("resize", () => { if (!refusedFile) showTree(now); });
+  window.addEventListener("resize", () => {
+    measureAll();
+    if (!refusedFile) { view.key = view.apart = ""; showTree(now); lanes.drawn = false; showLanes(now); }
+  });
+  setUpLanes();
+  if (!refusedFile) drawLanes();
+  measureAll();
+  setUpView();
   show(turnInAddress());
 }
 

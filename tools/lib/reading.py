@@ -24,16 +24,21 @@ BYTES_MOST = SCHEDULE[text_form.VERSION][2]
 
 @dataclass
 class Given:
-    """A schedule file, the name that it was given by and, where it was text, the line of each of its bytes."""
+    """A schedule file, the name that it was given by and, where it was text, the line of each of its bytes and the text."""
 
     name: str
     file: bytes
     lines: list
+    text: bytes = b""
 
     def place(self, record):
         """Where a record, counted from 1, stands: the name, and the line where there is one."""
         at = text_form.HEADER + text_form.RECORD[text_form.version_of(self.file)] * (record - 1)
         return f"{self.name}:{self.lines[at]}" if at < len(self.lines) and self.lines[at] else self.name
+
+    def record(self, byte):
+        """The record, counted from 1, that a byte of the file lies in."""
+        return (byte - text_form.HEADER) // text_form.RECORD[text_form.version_of(self.file)] + 1
 
 
 def _stream(name):
@@ -73,4 +78,4 @@ def given(name, kind=None):
     data, kind = read(name, kind)
     if kind == "binary":
         return Given(name, data, [])
-    return Given(name, *text_form.encode_with_lines(data, name))
+    return Given(name, *text_form.encode_with_lines(data, name), data)

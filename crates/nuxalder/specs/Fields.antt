@@ -7,6 +7,7 @@ use Rattle.definitions.specs.declared.Listed.{Listed}
 use Rattle.definitions.specs.Merge.{Merged}
 use Rattle.definitions.specs.declared.Written.{Written}
 use Rattle.definitions.specs.declared.Judged.{Judged}
+use Rattle.snapshot.specs.declared.Stated.{Stated}
 use Rattle.season.specs.declared.Tallied.{Tallied}
 use Rattle.season.specs.declared.Average.{Average}
 
@@ -15,6 +16,9 @@ runFields r = r .refusal ∷ r .records ∷ r .rows ∷ r .set ∷ r .stored ∷
 
 abbrev pub listFields : Listed → List ℕ
 listFields r = r .refusal ∷ r .length ∷ []
+
+abbrev pub stateFields : Stated → List ℕ
+stateFields r = r .refusal ∷ r .records ∷ r .length ∷ []
 
 abbrev pub mergeFields : Merged → List ℕ
 mergeFields m = m .refusal ∷ m .file ∷ m .start ∷ m .length ∷ []

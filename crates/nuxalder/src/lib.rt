@@ -1,16 +1,17 @@
-// Run, the one-writer run, List, Merge, History, Judge and Tally for a C host; include/nuxalder.h says what each number means.
+// Run, the one-writer run, List, State, Merge, History, Judge and Tally for a C host; include/nuxalder.h says what each number means.
 ghost use mathlib.Core.Path.{_≡_};
 ghost use lib.ListN.{length};
 ghost use Rattle.definitions.specs.Run.{runReport, runBuffer};
 ghost use Rattle.definitions.specs.Profile.{profileReport, profileBuffer};
 ghost use Rattle.definitions.specs.Listing.{listReport, listBuffer};
+ghost use Rattle.snapshot.specs.State.{stateReport, stateBuffer};
 ghost use Rattle.definitions.specs.Merge.{mergeReport, mergeBuffer};
 ghost use Rattle.definitions.specs.Written.{writtenReport, writtenBuffer};
 ghost use Rattle.definitions.specs.Judgement.{Judgement, once};
 ghost use Rattle.definitions.specs.declared.Judged.{Judged};
 ghost use Rattle.season.specs.Tally.{tallyReport, tallyNumbers};
 ghost use Rattle.season.specs.Season.{averageOf};
-ghost use Rattle.nuxalder.specs.Fields.{runFields, listFields, mergeFields, writtenFields, judgedFields, tallyFields, averageFields};
+ghost use Rattle.nuxalder.specs.Fields.{runFields, listFields, stateFields, mergeFields, writtenFields, judgedFields, tallyFields, averageFields};
 
 // void nuxalder_run(const uint8_t *schedule, size_t length, uint8_t *rows, size_t length, uint64_t report[6])
 #[no_mangle]
@@ -37,6 +38,20 @@ pub extern "C" fn nuxalder_list(schedule: &[u8], text: &mut [u8], report: &mut [
 {
     let r = list::list(schedule, text);
     *report = [r.refusal, r.length];
+}
+
+// void nuxalder_state(const uint8_t *schedule, size_t length, uint64_t records, uint8_t *state, size_t length, uint64_t report[3])
+#[no_mangle]
+pub extern "C" fn nuxalder_state(
+    schedule: &[u8],
+    records: u64,
+    state: &mut [u8],
+    report: &mut [u64; 3],
+)
+    ensures { λ _. ⌜ (now (report .exit) ≡ stateFields (stateReport (now (schedule .entry)) records (length (now (state .entry))))) × (now (state .exit) ≡ stateBuffer (now (schedule .entry)) records (now (state .entry))) ⌝ }
+{
+    let r = state::state(schedule, records, state);
+    *report = [r.refusal, r.records, r.length];
 }
 
 // void nuxalder_merge(const uint8_t *first, size_t length, const uint8_t *second, size_t length, uint8_t *out, size_t length, uint64_t report[4])

@@ -11,9 +11,11 @@ use lib.ListN.{length, getD, set, length-set}
 use lib.Seq.{set-set, getD-set-same, getD-set-other}
 use Rattle.definitions.specs.Nodes.{Shapes, Stores}
 use Rattle.definitions.specs.Bench.{stop, Sight, sight}
+use Rattle.definitions.specs.declared.Action.the-variants.{Query}
 use Rattle.steps.specs.declared.Notes.{Notes}
 use Rattle.steps.specs.declared.Decision.{Decision}
 use Rattle.steps.specs.Decision.{Decides, readAt, finding}
+use Rattle.run.proofs.Framed.{never-full}
 use Rattle.run.proofs.Decided.{reread, recounted, Decided, decided-find}
 
 -- `threads'` has in its place t the notes of `threads` with r routes read
@@ -64,9 +66,10 @@ recount-set {p} {c} {c'} r t m i u j = elim (ℕ-discrete u t) [
 pub record Begun (s : Sight) (t : ℕ) (end : Notes) (threads threads' : List Notes) (d : Decision) : Type 0 where
   pub decided : Decided s (getD threads t end) (getD threads' t end .read) d
   pub rereads : Rereads t (getD threads' t end .read) end threads threads'
+  pub kept : d .what ≡ 2 → threads' ≡ threads
 
 pub begun-at : {s : Sight} (t : ℕ) (end : Notes) (threads : List Notes) {threads' : List Notes} {d : Decision} → Decided s (getD threads t end) (getD threads t end .read) d → threads' ≡ threads → Begun s t end threads threads' d
-begun-at t end threads q e = rw e (record { decided = q; rereads = reread-none t end threads })
+begun-at t end threads q e = rw e (record { decided = q; rereads = reread-none t end threads; kept = λ _. refl })
 
 -- 1, 2
 module _ (n : Shapes) (root used : ℕ) (k : Stores) (shown : ℕ) (on : Bool) (c t : ℕ) (end : Notes) (threads : List Notes) {threads' : List Notes} {d : Decision} (g : 0 < getD threads t end .place) (h : getD threads t end .place < 3)
@@ -77,8 +80,9 @@ module _ (n : Shapes) (root used : ℕ) (k : Stores) (shown : ℕ) (on : Bool) (
       let j : Decides th d (finding (th .place) on n root) = rw e at i in
       begun-at t end threads (decided-find n root used k shown on c th (rw o) g h j) e
 
-  pub begun-on : {r : ℕ} → on ≡ true → t < length threads → r ≡ readAt (getD threads t end .place) (getD threads t end .read) → threads' ≡ set threads t (reread r (getD threads t end)) → Begun (sight n root used k shown (stop on c)) t end threads threads' d
-  begun-on {r} o l f e =
+  pub begun-on : {r : ℕ} → on ≡ true → t < length threads → r ≡ readAt (getD threads t end .place) (getD threads t end .read) → threads' ≡ set threads t (reread r (getD threads t end))
+      → (getD threads t end .action ≡ Query → ⊥) → Begun (sight n root used k shown (stop on c)) t end threads threads' d
+  begun-on {r} o l f e a =
       let th : Notes = getD threads t end in
       let own : getD threads' t end ≡ reread r th = rw e (getD-set-same threads t (reread r th) end l) in
       let j : Decides (reread r th) d (finding (th .place) on n root) = subst (λ (v : Notes). Decides v d (finding (v .place) on n root)) own i in
@@ -86,4 +90,5 @@ module _ (n : Shapes) (root used : ℕ) (k : Stores) (shown : ℕ) (on : Bool) (
       record {
         decided = rw same (decided-find n root used k shown on c th (rw (o, f)) g h j);
         rereads = rw (same, e) (reread-one t r end threads l);
+        kept = λ w. absurd (never-full (th .place) on n root j a w);
       }

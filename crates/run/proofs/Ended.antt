@@ -29,9 +29,10 @@ use Rattle.definitions.specs.Run.{Progress, advance, after, ended, reportOf, ov
 use Rattle.definitions.specs.declared.Report.{Report}
 use Rattle.definitions.specs.declared.Shared.the-variants.{Unset}
 use Rattle.definitions.specs.declared.Stop.{Stop}
-use Rattle.run.specs.Standing.{Lent, Spare, Stands, Carried}
+use Rattle.run.specs.Threads.{threadsOf, heldIn}
+use Rattle.run.specs.Standing.{Lent, Spare, Stands, Carried, Handed}
 use Rattle.run.specs.declared.Standing.{Standing}
-use Rattle.run.proofs.Threads.{threadsOf, all-idle}
+use Rattle.run.proofs.Threads.{all-idle}
 use Rattle.run.proofs.Turn.{stand}
 use Rattle.run.proofs.Rows.{rows-fit}
 use Rattle.run.proofs.Room.{has-room}
@@ -58,12 +59,22 @@ none-yet file first h {th = th} e f b g = record {
   rows = refl;
 }
 
--- a standing does not say which threads it stands over, nor which stop
-pub all-done : (file : List ℕ) (k count : ℕ) {n : Shapes} {l : List ℕ} {s : Stores} {z : Stop} {threads : ℕ → Thread} {t : Standing} {first buffer : List ℕ} → after file k ≡ after file count → Stands n l s z threads t first buffer (after file k) → Carried file count n l s t first buffer
-all-done file k count {z = z} {threads = threads} e h =
-    let same : threads ≡ after file count .bench .threads = ap (λ (b : Bench). b .threads) (h .bench) ∙ ap (λ (p : Progress). p .bench .threads) e in
-    let stopped : z ≡ after file count .bench .store .stop = ap (λ (b : Bench). b .store .stop) (h .bench) ∙ ap (λ (p : Progress). p .bench .store .stop) e in
-    rw (same, stopped, e) at h
+-- a standing does not say which threads it stands over, nor which stop: they are handed out beside it
+abbrev pub handing : ℕ → ℕ → ℕ → ℕ → ℕ → ℕ → ℕ → List Notes → List ℕ → Standing
+handing root used shown refusal done finished at threads frames =
+    record { root = root; used = used; shown = shown; refusal = refusal; done = done; finished = finished; at = at; threads = threads; frames = frames }
+
+module _ (file : List ℕ) (k count : ℕ) {n : Shapes} {l : List ℕ} {s : Stores} {root used shown refusal done finished at : ℕ} {threads : List Notes} {frames : List ℕ} {stacks backups notes words : List (List ℕ)} {first buffer : List ℕ} where
+  pub all-done : after file k ≡ after file count
+      → Stands n l s (stop (stopOf file) (getD frames 4 0)) (threadsOf threads frames (heldIn stacks backups notes words)) (stand root used shown refusal done finished at) first buffer (after file k)
+      → Carried file count n l s (handing root used shown refusal done finished at threads frames) first buffer × Handed file (after file count .bench) (handing root used shown refusal done finished at threads frames) stacks backups notes words
+  all-done e h =
+      let table : threadsOf threads frames (heldIn stacks backups notes words) ≡ after file count .bench .threads = ap (λ (b : Bench). b .threads) (h .bench) ∙ ap (λ (p : Progress). p .bench .threads) e in
+      let switch : stop (stopOf file) (getD frames 4 0) ≡ after file count .bench .store .stop = ap (λ (b : Bench). b .store .stop) (h .bench) ∙ ap (λ (p : Progress). p .bench .store .stop) e in
+      let g : Stands n l s (after file count .bench .store .stop) (after file count .bench .threads) (stand root used shown refusal done finished at) first buffer (after file count) = rw (table, switch, e) at h in (
+        record { deep = g .deep; bench = g .bench; depths = g .depths; refusal = g .refusal; done = g .done; finished = g .finished; rows = g .rows },
+        record { threads = table; stop = switch },
+      )
 
 -- a record that is refused ends them
 still : (file : List ℕ) (p : Progress) (r : Rec) → (p .refusal ≡ 0 → ⊥) → advance file p r ≡ p
@@ -84,8 +95,11 @@ ended-early : (file : List ℕ) (k count : ℕ) {n : Shapes} {l : List ℕ} {s :
 ended-early file k count i r h = let sum : count ≡ k + (count - k) = omega arith in sym (stays file k (count - k) count sum (λ e. r (h .refusal ∙ e)))
 
 -- the refused record was the last
-pub stopped : (file : List ℕ) (k count : ℕ) {n : Shapes} {l : List ℕ} {s : Stores} {z : Stop} {threads : ℕ → Thread} {t : Standing} {first buffer : List ℕ} → k < count → (t .refusal ≡ 0 → ⊥) → Stands n l s z threads t first buffer (after file (k + 1)) → Carried file count n l s t first buffer
-stopped file k count i r h = all-done file (k + 1) count (ended-early file (k + 1) count (omega arith) r h) h
+module _ (file : List ℕ) (k count : ℕ) {n : Shapes} {l : List ℕ} {s : Stores} {root used shown refusal done finished at : ℕ} {threads : List Notes} {frames : List ℕ} {stacks backups notes words : List (List ℕ)} {first buffer : List ℕ} where
+  pub stopped : k < count → (refusal ≡ 0 → ⊥)
+      → Stands n l s (stop (stopOf file) (getD frames 4 0)) (threadsOf threads frames (heldIn stacks backups notes words)) (stand root used shown refusal done finished at) first buffer (after file (k + 1))
+      → Carried file count n l s (handing root used shown refusal done finished at threads frames) first buffer × Handed file (after file count .bench) (handing root used shown refusal done finished at threads frames) stacks backups notes words
+  stopped i r h = all-done file (k + 1) count (ended-early file (k + 1) count (omega arith) r h) h
 
 -- ---- the tree
 module _ {n : Shapes} {l : List ℕ} {k : Stores} {z : Stop} {threads : ℕ → Thread} {s : Standing} {first buffer : List ℕ} {p : Progress} (h : Stands n l k z threads s first buffer p) where

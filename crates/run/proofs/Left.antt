@@ -155,8 +155,8 @@ module _ (t : Shapes) (k : Stores) (o u j : ℕ) (h h' : ℕ → Frame) (i n : �
 
       pub turn-nodes : r ≡ NodesOut → Leaves t l k o u j h i n th t l k h' (left 13 o u j p x c 0)
       unfolding taken
-      turn-nodes a = record { effect = Quiet; turn = λ b d z s y. told-in a b d z s y; depths = λ _. refl; others = q .others; same = λ _. (refl, (refl, refl)) }
+      turn-nodes a = record { effect = Quiet; turn = λ b d z s y. told-in a b d z s y; depths = λ _. refl; others = q .others; same = λ _. (refl, (refl, (refl, q .same (rw a tt)))) }
 
       pub turn-stores : r ≡ StoresOut → Leaves t l k o u j h i n th t l k h' (left 16 o u j p x c 0)
       unfolding taken
-      turn-stores a = record { effect = Quiet; turn = λ b d z s y. told-in a b d z s y; depths = λ _. refl; others = q .others; same = λ _. (refl, (refl, refl)) }
+      turn-stores a = record { effect = Quiet; turn = λ b d z s y. told-in a b d z s y; depths = λ _. refl; others = q .others; same = λ _. (refl, (refl, (refl, q .same (rw a tt)))) }

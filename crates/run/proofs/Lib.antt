@@ -5,6 +5,8 @@ pub mod Numbers
 pub mod Decided
 pub mod Outcome
 pub mod Finding
+pub mod FramedSteps
+pub mod Framed
 pub mod Changed
 pub mod Joint
 pub mod Ranging

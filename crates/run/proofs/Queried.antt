@@ -27,13 +27,15 @@ use Rattle.definitions.specs.Places.{toBase}
 use Rattle.definitions.specs.Records.{noRow, row, refused, recordStep}
 use Rattle.definitions.specs.Versions.{version, lastAction, stopOf}
 use Rattle.definitions.specs.Run.{after}
+use Rattle.definitions.specs.declared.Action.the-variants.{Query}
 use Rattle.definitions.specs.declared.Link.the-variants.{Nil}
+use Rattle.run.specs.Threads.{threadsOf}
 use Rattle.run.specs.Standing.{Stands}
 use Rattle.run.specs.Query.{resultOf, Leaves, foundRow}
 use Rattle.run.specs.declared.query.Left.{Left}
 use Rattle.run.proofs.Cases.{found-as}
-use Rattle.run.proofs.Threads.{threadsOf}
-use Rattle.run.proofs.Turn.{seen, stand, Asking, here, own-frames, own, wants, asked-on, wants-step, wants-query, carried-on, refused-at, table-with, count-kept}
+use Rattle.run.proofs.Framed.{no-query}
+use Rattle.run.proofs.Turn.{seen, stand, Asking, here, own-frames, own, wants, asked-on, wants-step, wants-query, carried-on, refused-at, awake, table-with, count-kept}
 
 module _ {file : List ℕ} {k x y e : ℕ} {n : Shapes} {l : List ℕ} {s : Stores} {threads : List Notes} {counts : List ℕ} {h : ℕ → Frame} {root used shown finished at : ℕ} {first buffer : List ℕ} {a : ℕ} {end : Notes} (q : Asking file k x y e n l s threads counts h root used shown finished at first buffer a end) where
   -- a query's start: one frame, from y to e
@@ -45,6 +47,12 @@ module _ {file : List ℕ} {k x y e : ℕ} {n : Shapes} {l : List ℕ} {s : Stor
       let low : e % 256 ≡ e = omega (arith, query-ends (lastAction file) x y e (seen threads x end .place) w) in
       let one : framesOf h' (x / 16 % 4) 1 ≡ newFrame y e Nil ∷ [] = rw low at (o .frames) in
       carried-on q (set counts (x / 16 % 4) 1) (thread v (framesOf h' (x / 16 % 4) 1)) noRow (table-with q v 1 (o .others)) (count-kept q counts 1) (asked-on q w ∙ rw (one, query-begun (lastAction file) x y e (seen threads x end .place) w f)) (q .stands .depths) (omega arith) refl
+
+  -- a step at 1 or 2 is none of a query
+  pub searching : a ≡ 0 → seen threads x end .place < 3 → seen threads x end .action ≡ Query → ⊥
+  searching z l e =
+      let at : after file k .bench .threads (x / 16 % 4) ≡ thread (seen threads x end) (own-frames q) = sym (ap (λ (b : Bench). b .threads (x / 16 % 4)) (q .stands .bench)) ∙ own q in
+      no-query file k (x / 16 % 4) (seen threads x end .place) (ap (λ (t : Thread). t .place) at) (awake q z) l (ap (λ (t : Thread). t .action) at ∙ e)
 
   -- what a step at a place from 60 on relies on
   pub stack-fits : 60 ≤ seen threads x end .place → Room (seen threads x end .place) (own-frames q)
@@ -84,5 +92,5 @@ module _ {file : List ℕ} {k x y e : ℕ} {n : Shapes} {l : List ℕ} {s : Stor
     refused-by (suc zero) o b b' c = absurd (omega arith)
     refused-by (suc (suc m)) o b b' c = refl
 
-    pub left-refused : 1 < r .what → Stands n' l' s' (stop (stopOf file) (getD counts 4 0)) (threadsOf threads counts h) (stand root used shown (r .what) k finished at) first buffer (after file (k + 1))
-    left-refused o = rw (g .same o .0, g .same o .1 .0, g .same o .1 .1) (refused-at q (r .what) (left-by refl ∙ refused-by (r .what) o _ _ (r .set)))
+    pub left-refused : 1 < r .what → Stands n' l' s' (stop (stopOf file) (getD counts 4 0)) (threadsOf threads counts h') (stand root used shown (r .what) k finished at) first buffer (after file (k + 1))
+    left-refused o = rw (g .same o .0, g .same o .1 .0, g .same o .1 .1 .0, g .same o .1 .1 .1) (refused-at q (r .what) (left-by refl ∙ refused-by (r .what) o _ _ (r .set)))

@@ -17,28 +17,15 @@ use Rattle.frames.specs.Turns.{Backs}
 use Rattle.frames.specs.Outcomes.{Opens}
 use Rattle.definitions.specs.Nodes.{Shapes, Stores}
 use Rattle.definitions.specs.Threads.{Frame, Thread, idle}
-use Rattle.definitions.specs.declared.Link.the-variants.{Nil}
-use Rattle.definitions.specs.declared.Action.the-variants.{Lookup}
 use Rattle.steps.specs.declared.Notes.{Notes}
 use Rattle.steps.specs.Decision.{thread}
+use Rattle.run.specs.Threads.{none, framed, threadsOf, heldIn}
 use Rattle.run.specs.Standing.{Sizes, Spare}
 use Rattle.run.specs.Query.{Leaves}
 use Rattle.run.specs.declared.query.Left.{Left}
 
--- the notes of an idle thread
-abbrev none : Notes
-none = record { action = Lookup; station = 0; extra = 0; place = 0; route = 0; read = 0; base = 0; parent = 0; left = true; found = 0; neighbour = 0; main = 0; owner = false; grandparent = Nil; other = 0 }
-
 abbrev notesOf : Thread → Notes
 notesOf th = record { action = th .action; station = th .station; extra = th .extra; place = th .place; route = th .route; read = th .read; base = th .base; parent = th .parent; left = th .left; found = th .found; neighbour = th .neighbour; main = th .main; owner = th .owner; grandparent = th .grandparent; other = th .other }
-
--- how many frames thread t has, of four
-abbrev pub framed : List ℕ → ℕ → ℕ
-framed c t = cond (ltb t 4) (getD c t 0) 0
-
--- its threads, by number: the notes l, the numbers of frames c, the frames that h holds
-abbrev pub threadsOf : List Notes → List ℕ → (ℕ → Frame) → ℕ → Thread
-threadsOf l c h t = thread (getD l t none) (framesOf h t (framed c t))
 
 -- what the code reads within an array, whatever it would read past its end
 pub within : {A : Type 0} (l : List A) (t : ℕ) (d d' : A) → t < length l → getD l t d ≡ getD l t d'
@@ -104,10 +91,7 @@ pub frames-count : (h : ℕ → Frame) (t d : ℕ) → length (framesOf h t d) �
 frames-count h t zero = refl
 frames-count h t (suc d) = ap suc (frames-count h t d)
 
--- ---- the lent arrays, each alone in its list where it is lent
-abbrev pub heldIn : List (List ℕ) → List (List ℕ) → List (List ℕ) → List (List ℕ) → ℕ → Frame
-heldIn s b n w = held (getD s 0 []) (getD b 0 []) (getD n 0 []) (getD w 0 [])
-
+-- ---- the lent arrays
 module _ {r : List ℕ} {s b n w : List (List ℕ)} (z : Sizes 256 1 r s b n w) (s' b' n' w' : List ℕ) where
   held-set : heldIn (set s 0 s') (set b 0 b') (set n 0 n') (set w 0 w') ≡ held s' b' n' w'
   held-set = rw (getD-set-same s 0 s' [] (omega (arith, z .stacks)), getD-set-same b 0 b' [] (omega (arith, z .backups)), getD-set-same n 0 n' [] (omega (arith, z .notes)), getD-set-same w 0 w' [] (omega (arith, z .words)))

@@ -51,6 +51,7 @@ use Rattle.definitions.specs.declared.Effect.the-variants.{Quiet}
 use Rattle.effects.specs.declared.Write.{Write}
 use Rattle.definitions.specs.declared.Link.the-variants.{To}
 use Rattle.definitions.specs.declared.Stop.{Stop}
+use Rattle.run.specs.Threads.{framed, threadsOf}
 use Rattle.run.specs.Standing.{rowOf, Stands}
 use Rattle.run.specs.Query.{helping}
 use Rattle.run.specs.declared.Standing.{Standing}
@@ -61,10 +62,9 @@ use Rattle.run.proofs.Outcome.{outcome, goes-on, finishes, runs-out, go
 use Rattle.run.proofs.Finding.{depth-still, opened}
 use Rattle.run.proofs.Changed.{Rereads, Recounts, recount-set}
 use Rattle.run.proofs.Joint.{joint, joint-step, joint-start, joint-over, busy}
-use Rattle.run.proofs.Threads.{framed, threadsOf, at-own, framed-own, same-counts, put, put-notes, frames-count}
+use Rattle.run.proofs.Threads.{at-own, framed-own, same-counts, put, put-notes, frames-count}
 
 -- ---- one record more
-
 -- only a record of one of the four threads is carried out
 named : (b : Bench) (a x y e : ℕ) {b' : Bench} {w : Row} → recordStep b a x y e ≡ carried b' w → x / 16 ≤ 3
 unfolding recordStep ite
@@ -79,7 +79,7 @@ abbrev pub seen : List Notes → ℕ → Notes → Notes
 seen threads x end = getD threads (x / 16 % 4) end
 
 abbrev pub stand : ℕ → ℕ → ℕ → ℕ → ℕ → ℕ → ℕ → Standing
-stand root used shown refusal done finished at = record { root = root; used = used; shown = shown; refusal = refusal; done = done; finished = finished; at = at }
+stand root used shown refusal done finished at = record { root = root; used = used; shown = shown; refusal = refusal; done = done; finished = finished; at = at; threads = []; frames = [] }
 
 unrefused : (file : List ℕ) (p : Progress) (r : Rec) → p .refusal ≡ 0 → advance file p r ≡ advanceBy file p (r .first / 16) (recordStep (p .bench) (r .last) (r .first) (r .second) (r .extra))
 unfolding advance ite
@@ -296,8 +296,8 @@ module _ {file : List ℕ} {k x y e : ℕ} {n : Shapes} {l : List ℕ} {s : Stor
     top = topAfter (step (placeOf (seen threads x end .place)) (sight n root used s shown (stop (stopOf file) (getD counts 4 0))) (thread (seen threads x end) own-frames))
 
     -- numbers have run out
-    pub full-on : d .what ≡ 2 → Stands n l s (stop (stopOf file) (getD counts 4 0)) (threadsOf threads counts h) (stand root used shown 13 k finished at) first buffer (after file (k + 1))
-    full-on o = refused-at 13 (steps-on (runs-out here (x / 16 % 4) (seen threads x end) r own-frames d own i o))
+    pub full-on : {threads' : List Notes} → d .what ≡ 2 → threads' ≡ threads → Stands n l s (stop (stopOf file) (getD counts 4 0)) (threadsOf threads' counts h) (stand root used shown 13 k finished at) first buffer (after file (k + 1))
+    full-on o g = rw g (refused-at 13 (steps-on (runs-out here (x / 16 % 4) (seen threads x end) r own-frames d own i o)))
 
     -- where it opens a frame there is room: its thread has one more after it
     pub opens-one : d .what ≡ 0 → d .note ≡ Opened → after file (k + 1) .bench .threads (x / 16 % 4) .frames ≡ top ∷ own-frames

@@ -70,7 +70,7 @@ resultOf (suc zero) b b' c = carried b' (row (said (not (eqb c 0))) 0 c)
 resultOf (suc (suc m)) b b' c = refused (suc (suc m))
 
 -- thread i has the notes th and n frames, which h holds. Its step, whatever the depths and the stop, takes the nodes t, the stores k and their counts to t', k'
--- and the counts in r, and the thread to what r has and h' holds; the frames of the others stay. A refused step leaves nodes, depths and stores
+-- and the counts in r, and the thread to what r has and h' holds; the frames of the others stay. A refused step leaves nodes, depths, stores and frames
 pub record Leaves (t : Shapes) (l : List ℕ) (k : Stores) (o u j : ℕ) (h : ℕ → Frame) (i n : ℕ) (th : Notes) (t' : Shapes) (l' : List ℕ) (k' : Stores) (h' : ℕ → Frame) (r : Left) : Type 0 where
   pub effect : Effect
   pub turn : (b : Bench) (d : Rows) (z : Stop) → b .store ≡ store (full t d) o u k j z → b .threads i ≡ thread th (framesOf h i n)
@@ -80,7 +80,7 @@ pub record Leaves (t : Shapes) (l : List ℕ) (k : Stores) (o u j : ℕ) (h : �
       (r .set)
   pub depths : length l ≡ 16384 → rows l' ≡ deepened effect t (rows l)
   pub others : (v m : ℕ) → m ≤ 4 → (v ≡ i → ⊥) → framesOf h' v m ≡ framesOf h v m
-  pub same : 1 < r .what → (t' ≡ t) × ((l' ≡ l) × (k' ≡ k))
+  pub same : 1 < r .what → (t' ≡ t) × ((l' ≡ l) × ((k' ≡ k) × (h' ≡ h)))
 
 -- ---- its row
 

@@ -4,21 +4,22 @@ use Prim.Native.Nat.{ℕ}
 use mathlib.Core.Path.{_≡_}
 use mathlib.Core.Logic.{_⊎_}
 use mathlib.Core.List.{List, [], _∷_}
-use lib.ListN.{length}
+use lib.ListN.{length, getD}
 use Rattle.answers.specs.Reachable.{Unasked}
 use Rattle.buffer.specs.Page.{page, putAll}
 use Rattle.depths.specs.Rows.{Rows, rows, full}
 use Rattle.definitions.specs.Nodes.{Shapes, Stores}
 use Rattle.definitions.specs.Threads.{Thread}
-use Rattle.definitions.specs.Bench.{bench, store}
+use Rattle.definitions.specs.Bench.{stop, Bench, bench, store}
 use Rattle.definitions.specs.Answers.{shown}
 use Rattle.definitions.specs.Records.{row}
-use Rattle.definitions.specs.Versions.{version}
+use Rattle.definitions.specs.Versions.{version, stopOf}
 use Rattle.definitions.specs.Run.{Progress, rowBytes, after}
 use Rattle.definitions.specs.declared.Answer.{Answer}
 use Rattle.definitions.specs.declared.Stop.{Stop}
 use Rattle.steps.specs.declared.Notes.{Notes}
 use Rattle.steps.specs.Decision.{thread}
+use Rattle.run.specs.Threads.{threadsOf, heldIn}
 use Rattle.run.specs.declared.Standing.{Standing}
 
 -- the depths that the run of a file is lent, 0 at first: none in version 1, else all of them
@@ -62,3 +63,8 @@ pub record Stands (t : Shapes) (l : List ℕ) (k : Stores) (z : Stop) (threads :
 -- the first n records of the file have been carried out; the threads and the stop are then those of the definition
 abbrev pub Carried : List ℕ → ℕ → Shapes → List ℕ → Stores → Standing → List ℕ → List ℕ → Type 0
 Carried file n t l k s blank buffer = Stands t l k (after file n .bench .store .stop) (after file n .bench .threads) s blank buffer (after file n)
+
+-- the threads that s hands out, with the frames that the lent arrays hold, and the count of the stop are those of the bench b
+pub record Handed (file : List ℕ) (b : Bench) (s : Standing) (stacks backups notes words : List (List ℕ)) : Type 0 where
+  pub threads : threadsOf (s .threads) (s .frames) (heldIn stacks backups notes words) ≡ b .threads
+  pub stop : stop (stopOf file) (getD (s .frames) 4 0) ≡ b .store .stop

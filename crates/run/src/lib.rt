@@ -20,7 +20,7 @@ ghost use Rattle.definitions.specs.Records.{actionNumber};
 ghost use Rattle.definitions.specs.Schedule.{countOf};
 ghost use Rattle.definitions.specs.Versions.{version, by, width};
 ghost use Rattle.definitions.specs.Run.{ended, reportOf, overlay, widerRow, runRefusal, runReport, runBuffer};
-ghost use Rattle.run.specs.Standing.{Lent, Spare, rowOf, Carried};
+ghost use Rattle.run.specs.Standing.{Lent, Spare, rowOf, Carried, Handed};
 use definitions::Action;
 use definitions::Answer;
 use definitions::Report;
@@ -31,7 +31,7 @@ use steps::search;
 
 pub mod query; // a step at a place from 60 on, and the row of a query
 
-// Where a run stands, its threads apart. `at` is where the next row goes.
+// Where a run stands. `at` is where the next row goes; `frames` has how many frames each thread has and, last, the count of the stop.
 pub struct Standing {
     pub root: u8,
     pub used: u16,
@@ -40,6 +40,8 @@ pub struct Standing {
     pub done: usize,
     pub finished: usize,
     pub at: usize,
+    pub threads: [Notes; 4],
+    pub frames: [usize; 5],
 }
 
 // An action's number in a row.
@@ -125,7 +127,7 @@ pub fn carry_out(
     rows: &mut [u8],
 ) -> Standing
     requires { ⌜ Proper (now schedule) × ((table (now cells) (now sets) ≡ (λ _. shape emptyBase)) × ((stores (now flags) (now results) ≡ (λ _. Unset)) × (Lent (now schedule) (now depths) × Spare (now schedule) (now results) (now stacks) (now backups) (now notes) (now words)))) ⌝ }
-    ensures { λ r. ⌜ Carried (now (schedule .entry)) (countOf (now (schedule .entry))) (table (now (cells .exit)) (now (sets .exit))) (now (depths .exit)) (stores (now (flags .exit)) (now (results .exit))) r (now (rows .entry)) (now (rows .exit)) ⌝ }
+    ensures { λ r. ⌜ Carried (now (schedule .entry)) (countOf (now (schedule .entry))) (table (now (cells .exit)) (now (sets .exit))) (now (depths .exit)) (stores (now (flags .exit)) (now (results .exit))) r (now (rows .entry)) (now (rows .exit)) × Handed (now (schedule .entry)) (ended (now (schedule .entry)) .bench) r (now (stacks .exit)) (now (backups .exit)) (now (notes .exit)) (now (words .exit)) ⌝ }
 {
     let v = schedule::version_of(schedule);
     let idle = machine::idle_notes();
@@ -153,6 +155,8 @@ pub fn carry_out(
                 done: k,
                 finished: finished,
                 at: at,
+                threads: threads,
+                frames: frames,
             };
         };
         let next = k + 1;
@@ -172,6 +176,8 @@ pub fn carry_out(
                     done: k,
                     finished: finished,
                     at: at,
+                    threads: threads,
+                    frames: frames,
                 };
             };
             extra = e;
@@ -186,6 +192,8 @@ pub fn carry_out(
                     done: k,
                     finished: finished,
                     at: at,
+                    threads: threads,
+                    frames: frames,
                 };
             }
             // a query's start goes on as a lookup's
@@ -279,6 +287,8 @@ pub fn carry_out(
                             done: k,
                             finished: finished,
                             at: at,
+                            threads: threads,
+                            frames: frames,
                         };
                     }
                     root = left.root;
@@ -308,6 +318,8 @@ pub fn carry_out(
                         done: k,
                         finished: finished,
                         at: at,
+                        threads: threads,
+                        frames: frames,
                     };
                 }
                 let effect = d.effect;
@@ -406,6 +418,8 @@ pub fn carry_out(
                     done: k,
                     finished: finished,
                     at: at,
+                    threads: threads,
+                    frames: frames,
                 };
             }
         }
@@ -420,6 +434,8 @@ pub fn carry_out(
         done: k,
         finished: finished,
         at: at,
+        threads: threads,
+        frames: frames,
     }
 }
 

@@ -1,3 +1,4 @@
 pub mod Scan
+pub mod First
 pub mod Parts
 pub mod Cases

@@ -36,7 +36,7 @@ fn is_barred(v: u8, x: u8) -> bool
 }
 
 // Where record k starts in a file of version v.
-fn start_of(v: u8, k: usize) -> usize
+pub fn start_of(v: u8, k: usize) -> usize
     requires { ⌜ k ≤ 4096 ⌝ }
     ensures { λ r. ⌜ r ≡ 3 + ite (eqb v 1) 2 4 * k ⌝ }
 {
@@ -62,7 +62,7 @@ fn first_barred(s: &[u8], v: u8, count: usize) -> usize
 }
 
 // The first n bytes of s.
-fn copy(s: &[u8], n: usize, out: &mut [u8])
+pub fn copy(s: &[u8], n: usize, out: &mut [u8])
     requires { ⌜ (n ≤ length (now s)) × (n ≤ length (now out)) ⌝ }
     ensures { λ _. ⌜ take n (now (out .exit)) ≡ take n (now (s .entry)) ⌝ }
 {

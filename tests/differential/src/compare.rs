@@ -3,7 +3,10 @@
 use crate::guard::Guarded;
 use crate::library;
 use crate::rng::Rng;
-use reference::{sizes, Counter, Observer, RunReport, Tally, EVENT, HISTORY_HEADER, MAX_RECORDS, TALLY_CELLS};
+use crate::states::States;
+use reference::{
+    sizes, Counter, Observer, RunReport, Tally, EVENT, HISTORY_HEADER, MAX_RECORDS, STATE_ROOM, TALLY_CELLS,
+};
 use std::fmt::Debug;
 use std::ops::Range;
 
@@ -27,6 +30,8 @@ pub struct Comparer {
     pub counters: [Counter; 3],
     /// What its one-writer run reached in the files given to `one_writer`, likewise.
     pub one_writer: [Counter; 3],
+    /// What the states compared have shown, likewise.
+    pub states: [States; 3],
     /// Records carried out, each file counted once.
     pub records: u64,
 }
@@ -36,11 +41,12 @@ impl Comparer {
     pub fn new(longest: usize) -> Self {
         Comparer {
             file: Guarded::new(longest),
-            buffer: Guarded::new(sizes(2)[2] * MAX_RECORDS + SLACK),
+            buffer: Guarded::new(STATE_ROOM.max(sizes(2)[2] * MAX_RECORDS) + SLACK),
             tally: Guarded::new(4 * TALLY_CELLS),
             twin: Vec::new(),
             counters: [(); 3].map(|()| Counter::new()),
             one_writer: [(); 3].map(|()| Counter::new()),
+            states: [(); 3].map(|()| States::default()),
             records: 0,
         }
     }
@@ -59,7 +65,36 @@ impl Comparer {
         self.history(file, need, rng)?;
         self.history(file, need + 1 + rng.below(SLACK), rng)?;
         self.history(file, need - 1, rng)?;
-        self.history(file, rng.below(need), rng)
+        self.history(file, rng.below(need), rng)?;
+        self.states(file, rng)
+    }
+
+    /// Compares State, on one short file of four and thrice on a long one: mostly after some of its records, with a buffer that
+    /// is just long enough; else with one that is longer, one byte short or shorter, and after none, all or more than all of them.
+    fn states(&mut self, file: &[u8], rng: &mut Rng) -> Result<(), String> {
+        let times = match claimed(file) {
+            0..=99 => usize::from(rng.once_in(4)),
+            _ => 3,
+        };
+        (0..times).try_for_each(|_| self.some_state(file, rng))
+    }
+
+    fn some_state(&mut self, file: &[u8], rng: &mut Rng) -> Result<(), String> {
+        let all = claimed(file);
+        let count = match rng.below(8) {
+            0 => 0,
+            1 => all as u64,
+            2 => (all + 1 + rng.below(5000)) as u64,
+            3 => u64::MAX - rng.below(3) as u64,
+            _ => rng.below(all + 1) as u64,
+        };
+        let room = match rng.below(12) {
+            0 => STATE_ROOM - 1,
+            1 => rng.below(STATE_ROOM),
+            2 | 3 => STATE_ROOM + 1 + rng.below(SLACK),
+            _ => STATE_ROOM,
+        };
+        self.state(file, count, room, rng)
     }
 
     /// Compares the one-writer run on a file, with buffers of several lengths.
@@ -191,6 +226,23 @@ impl Comparer {
         let lent = &mut self.buffer.bytes_mut()[place.buffer.clone()];
         let got = library::history(&self.file.bytes()[place.file.clone()], lent);
         self.judge("History", room, file, place, (got, expected))
+    }
+
+    fn state(&mut self, file: &[u8], count: u64, room: usize, rng: &mut Rng) -> Result<(), String> {
+        let place = prepare(
+            &mut self.file,
+            &mut self.buffer,
+            &mut self.twin,
+            file,
+            room,
+            rng,
+        );
+        let twin = &mut self.twin[place.twin.clone()];
+        let expected = reference::state(file, count, twin);
+        self.states[version_index(file)].saw(&expected, count, claimed(file) as u64, twin);
+        let lent = &mut self.buffer.bytes_mut()[place.buffer.clone()];
+        let got = library::state(&self.file.bytes()[place.file.clone()], count, lent);
+        self.judge(&format!("State after {count} records"), room, file, place, (got, expected))
     }
 
     fn judge<R: Debug + PartialEq>(

@@ -14,6 +14,7 @@ pub mod random;
 pub mod range_files;
 pub mod ranges;
 pub mod rng;
+pub mod states;
 pub mod seasons;
 pub mod stop_files;
 pub mod stops;

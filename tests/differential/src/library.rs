@@ -1,7 +1,8 @@
 //! The library through include/nuxalder.h.
 
 use reference::{
-    HistoryReport, JudgeReport, ListReport, MergeReport, RunReport, MAX_OPERATIONS, TALLY_CELLS,
+    HistoryReport, JudgeReport, ListReport, MergeReport, RunReport, StateReport, MAX_OPERATIONS,
+    TALLY_CELLS,
 };
 
 extern "C" {
@@ -33,6 +34,14 @@ extern "C" {
         length: usize,
         text: *mut u8,
         text_length: usize,
+        report: *mut u64,
+    );
+    fn nuxalder_state(
+        file: *const u8,
+        length: usize,
+        count: u64,
+        state: *mut u8,
+        state_length: usize,
         report: *mut u64,
     );
     fn nuxalder_merge(
@@ -143,6 +152,32 @@ pub fn average(tally: &[u32; TALLY_CELLS], action: u8) -> [u64; 2] {
 pub fn list(file: &[u8], text: &mut [u8]) -> ListReport {
     let [refusal, length] = call::<2, 4>(nuxalder_list, file, text);
     ListReport { refusal, length }
+}
+
+#[inline]
+pub fn state(file: &[u8], count: u64, state: &mut [u8]) -> StateReport {
+    let mut words = [CANARY; 5];
+    // As above, with a number.
+    unsafe {
+        nuxalder_state(
+            file.as_ptr(),
+            file.len(),
+            count,
+            state.as_mut_ptr(),
+            state.len(),
+            words[1..].as_mut_ptr(),
+        );
+    }
+    let [before, refusal, records, length, after] = words;
+    assert!(
+        before == CANARY && after == CANARY,
+        "the library wrote outside its report"
+    );
+    StateReport {
+        refusal,
+        records,
+        length,
+    }
 }
 
 #[inline]

@@ -269,6 +269,9 @@ fn main() -> ExitCode {
     for (index, counter) in session.comparer.counters.iter().enumerate() {
         missing.extend(coverage::report(index, counter));
     }
+    for (index, states) in session.comparer.states.iter().enumerate() {
+        missing.extend(states.report(index));
+    }
     missing.extend(session.profiles.report(&session.comparer.one_writer));
     missing.extend(session.seasons.report());
     missing.extend(merger.missing());

@@ -68,6 +68,14 @@ impl Stack {
         entries: [0; STACK],
     };
 
+    /// One that nobody should look at.
+    pub(crate) fn junk(byte: u8) -> Self {
+        Stack {
+            length: byte % STACK as u8,
+            entries: [byte; STACK],
+        }
+    }
+
     pub fn entries(&self) -> &[Id] {
         &self.entries[..usize::from(self.length)]
     }
@@ -186,6 +194,10 @@ impl Pile {
 
     pub fn frames(&self) -> &[Frame] {
         &self.frames
+    }
+
+    pub(crate) fn frames_mut(&mut self) -> &mut [Frame] {
+        &mut self.frames
     }
 
     fn enter(&mut self, frame: Frame) -> u8 {

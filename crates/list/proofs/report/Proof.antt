@@ -53,7 +53,7 @@ returns c =
     let g = y .before .before .before .before .before .before .before .before .before .before .before .before .before .before in
     let t = g .before .before .before .before .before .before .before .before .before .before .before .before .before .before .before .before in
     let p = t .pre in
-    let h = g .carry-out .ensures in
+    let h = g .carry-out .ensures .0 in
     let w = y .write-tree .ensures in
     (ended-report _ _ refl (λ i. omega (arith, p .1 .0 .whole i)) (p .1 .1 .1) h w, ended-text _ _ refl (λ i. omega (arith, p .1 .0 .whole i)) (p .1 .1 .1) h w)
 

@@ -48,7 +48,7 @@ returns c =
     let b = s .before .before .before in
     let g = b .before .before .before .before .before .before .before .before .before .before .before .before .before in
     let t = g .before .before .before .before .before .before .before .before .before .before .before .before .before .before .before in
-    let h = g .carry-out .ensures in
+    let h = g .carry-out .ensures .0 in
     (ended-report _ _ refl h (b .set-below .ensures) (s .stored-below .ensures), ended-buffer _ _ refl h (t .pre .1 .1 .1))
 
 pub report-spec : {M : Type 1} → statement M

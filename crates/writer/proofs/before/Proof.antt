@@ -7,7 +7,8 @@ use borrow.Author.Needs.{needs}
 use Rattle.schedule.proofs.Laws.{proper}
 use Rattle.run.proofs.Ended.{room-for}
 use Rattle.writer.proofs.Scan.{part-inside, part-length}
-use Rattle.writer.proofs.Parts.{file-fine, inside, end-few, made-report, made-buffer}
+use Rattle.writer.proofs.First.{inside, end-few}
+use Rattle.writer.proofs.Parts.{file-fine, made-report, made-buffer}
 use Rattle.writer.proofs.before.Statement.{statement}
 use Rattle.writer.proofs.before.Tie as tie
 
@@ -17,11 +18,10 @@ slice-aggregate-copy c = search needs
 copy-requires : tie.Need-copy-requires
 copy-requires c κs =
     let g = c .before .before .before in
-    let z = g .pre .0 in
-    let r = room-for _ _ z in
+    let z = file-fine _ _ (g .pre .0) in
     let l = g .pre .1 .0 in
     let e = g .pre .1 .1 in
-    (omega (arith, inside _ _ _ z r l), omega (arith, end-few _ _ _ z r l))
+    (omega (arith, inside _ _ z l), omega (arith, end-few _ _ z l))
 
 cast-part : tie.Need-cast-part
 cast-part c =
@@ -42,13 +42,13 @@ array-share-prefix-part : tie.Need-array-share-prefix-part
 array-share-prefix-part c =
     let g = c .before .before .before .before .before in
     let z = g .pre .0 in
-    part-inside (c .before .copy .last .1 .1 .0) (g .args .k / 256) (g .args .k % 256) (c .part2 .given) (omega (arith, g .pre .1 .1, end-few _ _ _ z (room-for _ _ z) (g .pre .1 .0)))
+    part-inside (c .before .copy .last .1 .1 .0) (g .args .k / 256) (g .args .k % 256) (c .part2 .given) (omega (arith, g .pre .1 .1, end-few _ _ (file-fine _ _ z) (g .pre .1 .0)))
 
 slice-aggregate-run : tie.Need-slice-aggregate-run
 slice-aggregate-run c =
     let g = c .before .before .before .before .before .before in
     let z = g .pre .0 in
-    part-length (c .before .before .copy .last .1 .1 .0) (g .args .k / 256) (g .args .k % 256) (c .before .part2 .given) (omega (arith, g .pre .1 .1, end-few _ _ _ z (room-for _ _ z) (g .pre .1 .0)))
+    part-length (c .before .before .copy .last .1 .1 .0) (g .args .k / 256) (g .args .k % 256) (c .before .part2 .given) (omega (arith, g .pre .1 .1, end-few _ _ (file-fine _ _ z) (g .pre .1 .0)))
 
 run-requires : tie.Need-run-requires
 run-requires c κs = search needs

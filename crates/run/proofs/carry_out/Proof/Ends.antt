@@ -51,7 +51,7 @@ returns-5 c =
     let j = c .before in
     let a = j .before .before in
     let i = a .before .before .before .before .before .before in
-    stopped _ _ _ (few i) (λ z. omega arith) (full-on (asking a) (j .before .match3 .keys1) (j .if4 .d) (low j) (begun j .decided) (c .if12 .taken))
+    stopped _ _ _ (few i) (λ z. omega arith) (full-on (asking a) (j .before .match3 .keys1) (j .if4 .d) (low j) (begun j .decided) (c .if12 .taken) (begun j .kept (c .if12 .taken)))
 
 pub returns-6 : tie.Need-returns-6 Inv-loop μ-loop
 returns-6 c =

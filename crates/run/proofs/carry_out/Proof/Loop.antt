@@ -19,12 +19,14 @@ use Rattle.definitions.specs.Bench.{stop, sight}
 use Rattle.definitions.specs.Versions.{stopOf, width}
 use Rattle.definitions.specs.Schedule.{countOf}
 use Rattle.definitions.specs.Run.{after}
+use Rattle.run.specs.Threads.{threadsOf, heldIn}
 use Rattle.run.specs.Standing.{Sizes, Stands}
 use Rattle.run.proofs.Reading.{before-end, inside, Read, read-plain, read-deep, read-query, deep-reads, deep-refused}
-use Rattle.run.proofs.Threads.{threadsOf, heldIn, Kept, kept-sizes}
+use Rattle.run.proofs.Threads.{Kept, kept-sizes}
 use Rattle.run.proofs.Decided.{decided-at, decided-count}
 use Rattle.run.proofs.Changed.{Begun, begun-at, begun-off, begun-on, Recounts, recount-none, recount-more, recount-less}
 use Rattle.run.proofs.Turn.{Asking, seen, stand, awake}
+use Rattle.run.proofs.Queried.{searching}
 use Rattle.run.proofs.carry_out.Tie as tie
 
 abbrev pub Inv-loop : tie.InvT-loop
@@ -155,7 +157,7 @@ begun-find c d i =
     let up = awake (asking a) (t .before .match3 .keys1) in
     rw (← o .version-of .ensures)
     (⊎-elim
-    (λ v. begun-on _ _ _ _ _ _ _ _ _ _ up (t .if4 .taken) i (v .0 .taken) (omega (arith, asking a .four)) (v .2 .ensures) (v .4))
+    (λ v. begun-on _ _ _ _ _ _ _ _ _ _ up (t .if4 .taken) i (v .0 .taken) (omega (arith, asking a .four)) (v .2 .ensures) (v .4) (searching (asking a) (t .before .match3 .keys1) (t .if4 .taken)))
     (λ v. begun-off _ _ _ _ _ _ _ _ _ _ up (t .if4 .taken) i (v .0 .left) (v .1))
     (c .if5 .came))
 

@@ -119,7 +119,7 @@ returns-4 c =
     let z = q .before .before .before .before .before .before .before .before .before .before .before in
     let a = z .before .before .before .before .before .before in
     let i = a .before .before .before .before .before .before in
-    stopped _ _ _ (few i) (λ v. omega (arith, c .if10 .taken)) (left-refused (asking a) (z .before .before .before .before .before .match3 .keys1) (q .turn .ensures) (c .if10 .taken))
+    stopped _ _ _ (few i) (λ v. omega (arith, c .if10 .taken)) (left-refused (asking a) (z .before .before .before .before .before .match3 .keys1) (leaves-then (turn-sizes z) _ _ _ _ (q .turn .ensures)) (c .if10 .taken))
 
 pub turn-requires : tie.Need-turn-requires Inv-loop μ-loop
 turn-requires c κs =

@@ -1,0 +1,2 @@
+# src/state.rs: a helper is told to be the owner.
+s/(me.action == JOIN).into()/1/

@@ -1,0 +1,2 @@
+# src/state.rs: a stack is written from the root up.
+s/zip(entries.iter().rev())/zip(entries.iter())/
