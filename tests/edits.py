@@ -3,9 +3,11 @@
 An edit is a text file: words, then `file:` lines that name a file of the crate, each followed by pairs of an `old:` and a
 `new:` line; the old text stands in that file exactly once.
 """
+import os
 import re
 import shutil
 import subprocess
+import tempfile
 
 ERROR = re.compile(r"^(/\S+?):(\d+):\d+: error: (.*)")
 # what it says where it made the proof itself
@@ -69,18 +71,75 @@ def seed(root, crate, work, *others):
         shutil.copytree(library / "toolchain" / "checked", kept / build.replace("/", "_"), dirs_exist_ok=True)
 
 
+def keep(file, crate, folder):
+    """Leaves of the proofs of a crate this file of proofs/ and those that it uses; no function's proof."""
+    proofs, kept, left = folder / "proofs", set(), [file]
+    while left:
+        name = left.pop()
+        if name not in kept:
+            kept.add(name)
+            left += re.findall(rf"^use Rattle\.{crate}\.proofs\.(\w+)\.", (proofs / f"{name}.antt").read_text(), re.M)
+    names = re.findall(r"^pub mod (\w+)$", (proofs / "Lib.antt").read_text(), re.M)
+    (proofs / "Lib.antt").write_text("".join(f"pub mod {name}\n" for name in names if name in kept))
+    for name in set(names) - kept:
+        (proofs / f"{name}.antt").unlink()
+    for proof in [*proofs.rglob("Proof.antt")]:
+        empty(proof.parent)
+
+
+def empty(proof):
+    """Makes the proof in this folder one with nothing in it, which the prover refuses at once."""
+    shutil.rmtree(proof / "Proof", ignore_errors=True)
+    proof.mkdir(parents=True, exist_ok=True)
+    (proof / "Proof.antt").write_text("-- left out\n")
+
+
+def only(needs, file):
+    """Leaves of a function's proof these facts and what they use of it, if it has them and is a list of declarations."""
+    always, declared, name = [], {}, None
+    for line in file.read_text().splitlines(True):
+        # what begins with a space or a bracket goes on with what stands before it
+        if line.strip() and line[0] not in " )}":
+            begins = re.match(r"(?:pub )?(?:abbrev )?(\S+) :", line)
+            if begins:
+                name = begins[1]
+            elif line.split()[0] != name:
+                if line.split()[0] not in ("--", "use", "mod"):
+                    return
+                name = None
+        (always if name is None else declared.setdefault(name, [])).append(line)
+    if not set(needs) <= declared.keys():
+        return
+    kept, left = set(), [*needs]
+    while left:
+        name = left.pop()
+        if name not in kept:
+            kept.add(name)
+            left += set(re.split(r"[\s(){},.]+", "".join(declared[name]))) & declared.keys()
+    file.write_text("".join(always + [line for name in declared if name in kept for line in declared[name]]))
+
+
+def run(words, folder):
+    """What a command says, its exit status and the seconds of processor time that it took."""
+    with tempfile.TemporaryFile("w+") as said:
+        started = subprocess.Popen(words, cwd=folder, stdout=said, stderr=subprocess.STDOUT)
+        _, status, used = os.wait4(started.pid, 0)
+        started.returncode = os.waitstatus_to_exitcode(status)
+        said.seek(0)
+        return said.read(), started.returncode, used.ru_utime + used.ru_stime
+
+
 def check(work, crate, *words):
     """Whether the crate is proved in the repository `work`, what the prover refused first of all and in order, as (file, line,
-    words), and all that it said. What is refused only because something before it was is left out."""
-    done = subprocess.run(["rt", "dev", crate, *words], cwd=work, capture_output=True, text=True, timeout=2700)
-    text = done.stdout + done.stderr
+    words), all that it said, and its processor time. What is refused only because something before it was is left out."""
+    text, status, seconds = run(["timeout", "2700", "rt", "dev", crate, *words], work)
     lines = text.splitlines()
     refused = []
     for i, line in enumerate(lines):
         found = ERROR.match(line) or OWN.match(line)
         if found and "was not admitted" not in line:
             refused.append((found.group(1), int(found.group(2)), "\n".join([found.group(3)] + lines[i + 1 : i + 4])))
-    return done.returncode == 0 and "logic=proved" in text, refused, text
+    return status == 0 and "logic=proved" in text, refused, text, seconds
 
 
 def objection(refused, within):
