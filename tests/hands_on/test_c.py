@@ -110,12 +110,14 @@ def install(checks):
     prefix, packaged = HOME / "prefix", HOME / "packaged"
     archive = library.OWN.name
     files = {f"lib/{archive}", "include/nuxalder.h", "lib/pkgconfig/nuxalder.pc"}
+    files |= {"lib/libnuxalder_drive.a", "lib/libnuxalder_turns.a", "lib/pkgconfig/nuxalder-drive.pc"}
+    files |= {"include/nuxalder_drive.h", "include/nuxalder_atomics.h"}
 
     def below(folder):
         return {str(path.relative_to(folder)) for path in folder.rglob("*") if path.is_file()}
 
     status, out, err = run(ROOT / "tools" / "install", "--prefix", prefix)
-    checks.equal("it installs three files", (status, err, below(prefix)), (0, "", files))
+    checks.equal("it installs the library and the driver", (status, err, below(prefix)), (0, "", files))
     checks.that("and names each", all(str(prefix / name) in out for name in files), out)
     run(ROOT / "tools" / "install", env={"PREFIX": "/opt/some", "DESTDIR": str(packaged)})
     checks.equal("PREFIX and DESTDIR", below(packaged), {f"opt/some/{name}" for name in files})

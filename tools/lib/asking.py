@@ -61,21 +61,22 @@ def _prune():
         path.unlink(missing_ok=True)
 
 
-def helper(source, path, *defined):
+def helper(source, path, *defined, beside=(), read=(), words=()):
     """The program of tools/lib/SOURCE, with these names defined, linked with the library at `path`; made anew where one of
-    them has other bytes."""
+    them has other bytes. `beside` are sources compiled with it, `read` headers, `words` more words for the compiler."""
     compiler = shlex.split(os.environ.get("CC") or "cc")
     code = HERE / source
-    mark = hashlib.sha256(repr((str(path), compiler, os.environ.get("LDLIBS"), *defined)).encode())
-    for part in (code, HEADER, path):
+    mark = hashlib.sha256(repr((str(path), compiler, os.environ.get("LDLIBS"), *defined, *words)).encode())
+    for part in (code, *beside, *read, HEADER, path):
         mark.update(hashlib.sha256(part.read_bytes()).digest())
     program = HELPERS / f"{code.stem}-{mark.hexdigest()[:16]}"
     if program.exists():
         return program
     HELPERS.mkdir(parents=True, exist_ok=True)
-    words = _link_words(path, HELPERS / f"{program.name}.so")
+    linked = [*words, *_link_words(path, HELPERS / f"{program.name}.so")]
     made = program.with_name(f"{program.name}.{os.getpid()}")
-    command = [*compiler, "-O2", *(f"-D{name}" for name in defined), "-I", str(HEADER.parent), str(code), *words, "-o", str(made)]
+    sources = [str(code), *map(str, beside)]
+    command = [*compiler, "-O2", *(f"-D{name}" for name in defined), "-I", str(HEADER.parent), *sources, *linked, "-o", str(made)]
     try:
         status, _, said = communicate(command, b"")
         if status:
