@@ -17,7 +17,7 @@ FLAGS = (
 KEY_CODES = dict(PageUp=33, PageDown=34, End=35, Home=36, ArrowLeft=37, ArrowUp=38, ArrowRight=39, ArrowDown=40, Enter=13, Escape=27)
 KEY_CODES.update({" ": 32, "+": 187, "-": 189, "0": 48})
 SHIFT = 8
-CALL_SECONDS_MOST = 180  # 200 steps on a machine that does other work too
+CALL_SECONDS_MOST = 300  # 101 steps on a machine that does other work too
 
 
 class BrowserError(Exception):
@@ -110,10 +110,10 @@ class Page:
         self.call("Page.navigate", url="about:blank")
         self.events.clear()
         self.call("Page.navigate", url=url)
-        until = time.time() + 60
+        until = time.time() + CALL_SECONDS_MOST
         while self.evaluate("document.readyState === 'complete' && location.href !== 'about:blank'") is not True:
             if time.time() > until:
-                raise BrowserError(f"{url} was not loaded in 60 s")
+                raise BrowserError(f"{url} was not loaded in {CALL_SECONDS_MOST} s")
             time.sleep(0.02)
 
     def evaluate(self, expression):

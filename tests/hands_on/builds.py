@@ -8,7 +8,7 @@ import bench
 from checks import OUT, ROOT
 
 FOLDER = OUT / "builds"
-FAULTS = ("GOOD", "WRONG", "CRASH", "HANG", "QUIT", "CHATTY", "SCRIBBLE", "LIAR", "LATE", "DEEP", "FULL")
+FAULTS = ("GOOD", "WRONG", "CRASH", "HANG", "QUIT", "CHATTY", "SCRIBBLE", "LIAR", "LATE", "DEEP", "FULL", "WILD", "ROUND")
 SHARED = ("GOOD", "WRONG", "HANG", "QUIT")
 
 
@@ -21,7 +21,7 @@ def make():
     """Makes them all, once; gives the path of each by its name, as wrong.a or wrong.so."""
     shutil.rmtree(FOLDER, ignore_errors=True)
     FOLDER.mkdir(parents=True)
-    renamed = [f"--redefine-sym=nuxalder_{name}=own_{name}" for name in ("run", "run_one_writer", "tally", "list", "merge")]
+    renamed = [f"--redefine-sym=nuxalder_{name}=own_{name}" for name in ("run", "run_one_writer", "tally", "list", "state", "merge")]
     _run("objcopy", *renamed, bench.library_module.own(), "own.a")
     _run("ld", "-r", "--whole-archive", "own.a", "-o", "own.o")
     compiled = ("cc", "-O1", "-fPIC", "-I", ROOT / "include", "-c", ROOT / "tests" / "hands_on" / "vendor.c")

@@ -74,6 +74,14 @@ def tool(*arguments, stdin=b"", env=None):
     return ran.returncode, ran.stdout, ran.stderr.decode()
 
 
+def spent(run):
+    """The processor time of all that a call starts and waits for, in seconds: other work on the machine does not count."""
+    before = os.times()
+    run()
+    after = os.times()
+    return after.children_user + after.children_system - before.children_user - before.children_system
+
+
 def least(measure, most):
     """The least of up to TRIES measurements; one that is under `most` is the last."""
     taken = [measure()]

@@ -11,7 +11,7 @@ from checks import EXAMPLES, OUT, TOOL, VECTORS, file_of, tool
 PATH = EXAMPLES / "printed-run.txt"
 PRINTED = PATH.with_suffix(".printed").read_bytes()
 TEXT = "t0 insert 3\nt0 finish\n"
-SECONDS_MOST = 10
+SECONDS_MOST = 60  # the machine may do other work too
 
 # Bytes that are no schedule's text, and the line, column and part of what is said.
 UNREADABLE = [
@@ -124,7 +124,7 @@ def floods(checks):
 def shell(command):
     """A command line with $tool in it; gives its status and both outputs."""
     env = {**os.environ, "tool": str(TOOL), "path": str(PATH)}
-    ran = subprocess.run(["bash", "-c", command], capture_output=True, env=env, timeout=60, cwd=OUT)
+    ran = subprocess.run(["bash", "-c", command], capture_output=True, env=env, timeout=300, cwd=OUT)
     return ran.returncode, ran.stdout, ran.stderr.decode()
 
 

@@ -80,7 +80,7 @@ def bound(checks):
     checks.that("it has at most 4,096 records", len(text_form.records_of(file)) <= text_form.RECORDS_MOST)
     told = tool("trace", "--one-writer", DEEP)[1].decode()
     own = {}
-    for action, station, steps in re.findall(r"(\w+) (\d+), own step (\d+), row: t0", told):
+    for action, station, steps in re.findall(r"(\w+) (\d+), own step (\d+)[^\n]*; row: t0", told):
         own.setdefault(action, []).append((int(steps), int(station)))
     checks.equal("its last insert takes 64 steps", own["insert"][-1], (64, 5))
     checks.that("no other takes more, and none more than 68", max(own["insert"])[0] == 64 <= STEPS_MOST, own["insert"])
@@ -95,10 +95,10 @@ def told(checks):
     status, out, err = tool("trace", "--one-writer", SECOND)
     lines = out.decode().splitlines()
     checks.that("trace ends at the barred record", (status, lines[-1]) == (REFUSED, "records 17 of 26 refusal 24"), out)
-    checks.that("and says it in words", f"turn 18    t3 insert 20    refused 24: {WORDS}" in lines and "refused, 24" in err, (out, err))
+    checks.that("and says it in words", f"turn 18    t3 insert 20: refused 24: {WORDS}" in lines and "refused, 24" in err, (out, err))
     checks.equal("the turns before are those of Run", lines[:-3], tool("trace", SECOND)[1].decode().splitlines()[: len(lines) - 3])
     status, out, err = tool("trace", "--one-writer", SECOND, "--at", 18)
-    checks.that("--at the barred record", status == REFUSED and b"open: t1 lookup 9\n" in out and b"set 3 9\n" in out, (status, out))
+    checks.that("--at the barred record", status == REFUSED and b"t1 lookup 9 at 1 (read the root)" in out and b"set 3 9\n" in out, (status, out))
     checks.equal("--at one before", tool("trace", "--one-writer", SECOND, "--at", 17), (0, tool("trace", SECOND, "--at", 17)[1], ""))
     checks.equal("there is no turn after it", tool("trace", "--one-writer", SECOND, "--at", 19)[:2], (1, b""))
     page = OUT / "one-writer.html"

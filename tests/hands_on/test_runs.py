@@ -3,13 +3,12 @@
 import os
 import re
 import shutil
-import time
 
 import bench
 import text_form
-from checks import EXAMPLES, OUT, REASONS, VECTORS, Expected, cut, examples, file_of, tool
+from checks import EXAMPLES, OUT, REASONS, VECTORS, Expected, cut, examples, file_of, spent, tool
 
-TRACE_SECONDS_MOST = 15  # for 4,096 records, on a machine that does other work too
+TRACE_SECONDS_MOST = 8  # of processor time, for 4,096 records
 
 # What 01 says of its runs, as the trace must tell it: who finishes at which own step.
 FIGURES = {
@@ -129,9 +128,9 @@ def traces(checks):
     for name in TRACED:
         path = EXAMPLES / f"{name}.txt"
         file = file_of(path)
-        since = time.time()
-        status, out, err = tool("trace", path)
-        took = time.time() - since
+        ran = []
+        took = spent(lambda: ran.extend(tool("trace", path)))
+        status, out, err = ran
         checks.that(f"trace {name} takes {took:.1f} s", took < TRACE_SECONDS_MOST)
         lines = out.decode().splitlines()
         whole = Expected(file, len(text_form.records_of(file)))

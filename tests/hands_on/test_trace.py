@@ -2,15 +2,14 @@
 
 import json
 import re
-import time
 
 import cover
 import places
 import states
 import story
-from checks import EXAMPLES, OUT, VECTORS, examples, file_of, least, tool
+from checks import EXAMPLES, OUT, VECTORS, examples, file_of, least, spent, tool
 
-TRACE_SECONDS_MOST = 15  # for 4,096 records, on a machine that does other work too; alone it takes under 2
+SECONDS_MOST = 8  # of processor time, for 4,096 records; alone it takes under 2
 
 # What 01's places say of these turns of its runs, and no more.
 TURNS = {
@@ -155,17 +154,12 @@ def as_json(checks):
 
 
 def speed(checks):
-    checks.group("trace: speed")
+    checks.group("trace and page: speed")
     path = EXAMPLES / "full-schedule.txt"
     tool("trace", path)
-
-    def measure():
-        since = time.time()
-        tool("trace", path)
-        return time.time() - since
-
-    took = least(measure, TRACE_SECONDS_MOST)
-    checks.that(f"4,096 records in {took:.1f} s", took < TRACE_SECONDS_MOST)
+    for words in (["trace", path], ["show", path, "--html", OUT / "speed.html"]):
+        took = least(lambda: spent(lambda: tool(*words)), SECONDS_MOST)
+        checks.that(f"{words[0]}: 4,096 records in {took:.1f} s of processor time", took < SECONDS_MOST)
 
 
 def covers(checks):

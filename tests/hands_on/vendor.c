@@ -6,12 +6,13 @@
 
 #include "nuxalder.h"
 
-enum { GOOD, WRONG, CRASH, HANG, QUIT, CHATTY, SCRIBBLE, LIAR, LATE, DEEP, FULL };
+enum { GOOD, WRONG, CRASH, HANG, QUIT, CHATTY, SCRIBBLE, LIAR, LATE, DEEP, FULL, WILD, ROUND };
 
 void own_run(const uint8_t *, size_t, uint8_t *, size_t, uint64_t *);
 void own_run_one_writer(const uint8_t *, size_t, uint8_t *, size_t, uint64_t *);
 void own_tally(const uint8_t *, size_t, uint8_t *, size_t, struct nuxalder_tally *, uint64_t *);
 void own_list(const uint8_t *, size_t, uint8_t *, size_t, uint64_t *);
+void own_state(const uint8_t *, size_t, uint64_t, uint8_t *, size_t, uint64_t *);
 void own_merge(const uint8_t *, size_t, const uint8_t *, size_t, uint8_t *, size_t, uint64_t *);
 
 void nuxalder_run(const uint8_t *schedule, size_t length, uint8_t *rows, size_t room, uint64_t *report)
@@ -62,6 +63,20 @@ void nuxalder_list(const uint8_t *schedule, size_t length, uint8_t *text, size_t
 {
     own_list(schedule, length, text, room, report);
     if (FAULT == LATE && report[NUXALDER_LIST_REFUSAL] == NUXALDER_REFUSED_BUSY) report[NUXALDER_LIST_REFUSAL] = 12;
+}
+
+void nuxalder_state(const uint8_t *schedule, size_t length, uint64_t records, uint8_t *state, size_t room, uint64_t *report)
+{
+    own_state(schedule, length, records, state, room, report);
+    if (report[NUXALDER_STATE_RECORDS] < 12) return;
+    /* The route of 01's printed run: a child that is no node; a child that is itself; a kind that is none; too long. */
+    if (FAULT == WILD) state[3280 + 3 * NUXALDER_NODE_SIZE + NUXALDER_NODE_LEFT] = 250;
+    if (FAULT == ROUND) state[3280 + 3 * NUXALDER_NODE_SIZE + NUXALDER_NODE_LEFT] = 3;
+    if (FAULT == WRONG) state[3280 + 3 * NUXALDER_NODE_SIZE] = 9;
+    if (FAULT == LIAR) report[NUXALDER_STATE_LENGTH]++;
+    if (FAULT == SCRIBBLE) state[room - 1] = 1;
+    if (FAULT == LATE) report[NUXALDER_STATE_RECORDS]--;
+    if (FAULT == CRASH) abort();
 }
 
 void nuxalder_merge(const uint8_t *first, size_t first_length, const uint8_t *second, size_t second_length, uint8_t *out,

@@ -9,17 +9,21 @@ const BADGE = 24; // a holder's badge and the space after it
 
 // A node of the state as one to draw.
 function made(nodes, number, depth) {
-  const node = { ...nodes[number], number, depth };
+  const node = { kind: "normal", note: "not there", ...nodes[number], number, depth };
+  if (nodes[number]) node.note = nodes[number].note;
   node.words = node.stations ? node.stations.split(" ") : [];
   return node;
 }
 
-// The tree from a node down; depth can't pass 63.
-function treeFrom(nodes, number, depth = 0) {
-  const node = made(nodes, number, depth);
-  if (node.kind === "route" && depth < 64) {
-    node.leftNode = treeFrom(nodes, node.left, depth + 1);
-    node.rightNode = treeFrom(nodes, node.right, depth + 1);
+// The tree from a node down. Of a build whose nodes are not a tree each is drawn once.
+function treeFrom(nodes, number, depth = 0, drawn = new Set()) {
+  const node = made(nodes, number, depth), again = drawn.has(number);
+  drawn.add(number);
+  if (node.kind === "route" && !again) {
+    node.leftNode = treeFrom(nodes, node.left, depth + 1, drawn);
+    node.rightNode = treeFrom(nodes, node.right, depth + 1, drawn);
+  } else if (node.kind === "route") {
+    Object.assign(node, { kind: "normal", note: `route ${number} again` });
   }
   return node;
 }

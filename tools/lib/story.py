@@ -82,7 +82,10 @@ def turns_of(file, run):
     rows = iter(run.rows[finished:])
     for before, after in zip(run.states, run.states[1:]):
         deed = deeds[after.turn - 1]
-        told = telling.step(before, after, deed.thread) if deed.own_steps else None
+        try:
+            told = telling.step(before, after, deed.thread) if deed.own_steps else None
+        except (AttributeError, IndexError, KeyError, RecursionError, TypeError, ValueError):
+            raise bench.BenchError(f"schedule: turn {after.turn}: the states before and after it fit no step of the places") from None
         goes = after.threads[deed.thread].place
         row = next(rows, None) if told and goes == 0 else None
         yield Turn(after.turn, record_text(*records[after.turn - 1]), deed, told, goes, row)
