@@ -111,6 +111,16 @@ static void say_record(int i)
     say(" (place %d, %s)", place, place_words(place));
 }
 
+/* "t1's open insert 4, let go on alone" */
+static void say_open(int t)
+{
+    int i = bench.done - 1;
+    while (i > 0 && !(thread_of(&bench, i) == t && action_of(&bench, i))) i--;
+    say("t%d's open ", t);
+    say_operation(i);
+    say(", let go on alone");
+}
+
 /* Starts a verdict at a record, -1 for none. There is one verdict only: false where it is there already. */
 static bool differs(nuxalder_drive_kind kind, int i)
 {
@@ -123,6 +133,12 @@ static bool differs(nuxalder_drive_kind kind, int i)
     return true;
 }
 
+/* It moves on: the time of a turn begins anew. Only who has the baton calls it. */
+static void beat(void)
+{
+    atomic_store_explicit(&shared->beat, atomic_load_explicit(&shared->beat, memory_order_relaxed) + 1, memory_order_relaxed);
+}
+
 /* ---- set and tree */
 
 static uint64_t set_by_lookups(int at)
@@ -131,7 +147,7 @@ static uint64_t set_by_lookups(int at)
     for (int s = 0; s < NUXALDER_STATIONS; s++) {
         nuxalder_drive_call call = {WORKERS, NUXALDER_LOOKUP, s, 0, 0};
         nuxalder_drive_found found = {-1, 0, 0};
-        atomic_fetch_add_explicit(&shared->beat, 1, memory_order_relaxed); /* each has the time of a turn */
+        beat(); /* each has the time of a turn */
         int answer = run.index->operate(run.object, &call, &found);
         if (answer != 0 && answer != 1 && differs(NUXALDER_DRIVE_ADAPTOR, at))
             say("\n  a lookup of %d gives %d, which is neither 0 nor 1", s, answer);
@@ -257,8 +273,12 @@ static bool answer_may_be(const struct worker *w)
 
 static void say_no_answer(const struct worker *w)
 {
+    if (run.let_go) {
+        say("\n  afterwards, ");
+        say_open(w->id);
+    }
     if (w->answer == NUXALDER_DRIVE_LACKING) say("\n  the index says that it has no %s", w->call.action == NUXALDER_RANGE ? "range query" : action_words[w->call.action]);
-    else say("\n  it ends here with %d, which is no answer", w->answer);
+    else say("\n  it ends %swith %d, which is no answer", run.let_go ? "" : "here ", w->answer);
 }
 
 /* The record has been carried out: does the operation go on or end as the bench says? */
@@ -318,10 +338,10 @@ static bool right_place(const struct worker *w, int i)
     return false;
 }
 
-static void beat(int record)
+static void begin_record(int record)
 {
     atomic_store_explicit(&shared->record, record, memory_order_relaxed);
-    atomic_fetch_add_explicit(&shared->beat, 1, memory_order_relaxed);
+    beat();
 }
 
 static void note(struct worker *w, int i)
@@ -342,13 +362,17 @@ static int decide(void)
         }
         if (run.at == bench.done) return CALLER;
         struct worker *w = &run.worker[thread_of(&bench, run.at)];
-        beat(run.at);
+        begin_record(run.at);
         run.under_way = true;
         if (action_of(&bench, run.at)) {
             note(w, run.at);
             continue;
         }
         bool skip = skipped(run.at);
+        if (skip && w->state == NOTED) { /* as far as its first hook, where nothing shared has been touched; then this record again */
+            run.under_way = w->granted = false;
+            return w->id;
+        }
         if (w->state == ENDED) {
             if (skip) continue;
             if (differs(NUXALDER_DRIVE_FEWER_TURNS, run.at)) say("\n  the index has finished it, with %s; the bench goes on", word_of(w->answer));
@@ -381,6 +405,12 @@ static void note_end(struct worker *w)
     w->state = IDLE;
 }
 
+static void note_first(struct worker *w)
+{
+    run.open_event[w->id] = run.events;
+    run.event[run.events++] = (struct event){INVOKED, run.at, w->id, w->call.action, w->call.station, w->call.upper, -1, 0, false};
+}
+
 static void note_set(void)
 {
     struct sight sight = look(false, run.at < bench.done ? run.at : bench.done - 1);
@@ -401,7 +431,7 @@ static int decide_free(void)
         if (run.at == bench.done) return CALLER;
         struct worker *w = &run.worker[thread_of(&bench, run.at)];
         bool start = action_of(&bench, run.at) != 0;
-        beat(run.at);
+        begin_record(run.at);
         if (start && w->state == IDLE) {
             note(w, run.at);
             run.spent = 0;
@@ -416,10 +446,7 @@ static int decide_free(void)
             shared->verdict.records = ++run.at;
             continue;
         }
-        if (w->state == NOTED) {
-            run.open_event[w->id] = run.events;
-            run.event[run.events++] = (struct event){INVOKED, run.at, w->id, w->call.action, w->call.station, w->call.upper, -1, 0, false};
-        }
+        if (w->state == NOTED) note_first(w);
         run.under_way = true;
         shared->verdict.turns++;
         w->granted = w->state == NOTED;
@@ -450,7 +477,8 @@ static void judge(void)
         while (from->what != INVOKED || from->thread != e->thread) from--;
         say("\n  %st%d %s %d", after ? "after the run, let go on alone, " : "", e->thread, action_words[e->action], e->station);
         if (e->action == NUXALDER_RANGE) say(" %d", e->upper);
-        say(", whose first turn was record %d, ended with %s", from->record + 1, word_of(e->answer));
+        if (from->record < bench.done) say(", whose first turn was record %d,", from->record + 1);
+        say(" ended with %s", word_of(e->answer));
         if (e->action == NUXALDER_RANGE) say(", station %d %sfound", wrong.station, e->set >> wrong.station & 1 ? "" : "not ");
         say(": no order of the operations explains that");
     } else
@@ -500,17 +528,21 @@ static void *work(void *given)
     return NULL;
 }
 
+/* All that is open, also what has had no turn yet, is let go one after another, and must end with an answer. */
 static void let_go(void)
 {
     atomic_store(&shared->phase, LETTING_GO);
     run.let_go = true;
     for (int i = 0; i < WORKERS; i++) {
-        if (run.worker[i].state != PARKED) continue;
+        struct worker *w = &run.worker[i];
+        if (w->state != PARKED && w->state != NOTED) continue;
+        if (run.options.free && w->state == NOTED) note_first(w);
         atomic_store(&shared->thread, i);
-        atomic_fetch_add(&shared->beat, 1);
+        beat();
         baton_wake(i);
         baton_wait(CALLER);
-        if (run.options.free) note_end(&run.worker[i]);
+        if (run.options.free) note_end(w);
+        else if (!answer_may_be(w) && differs(NUXALDER_DRIVE_ADAPTOR, bench.done - 1)) say_no_answer(w);
     }
 }
 
@@ -554,7 +586,7 @@ static void carry_out(void)
     for (int i = 0; i < started; i++) baton_wake(i);
     for (int i = 0; i < started; i++) pthread_join(run.worker[i].thread, NULL);
     atomic_store(&shared->phase, DESTROYING);
-    atomic_fetch_add(&shared->beat, 1);
+    beat();
     run.index->destroy(run.object);
     atomic_store(&shared->phase, FINISHED);
 }
@@ -572,7 +604,9 @@ static void say_end(bool hangs, int status, int limit)
     } else if (phase == LETTING_GO) {
         v->kind = hangs ? NUXALDER_DRIVE_STUCK : NUXALDER_DRIVE_CRASH;
         v->words[0] = 0, v->record = bench.done;
-        say("after the run, t%d's open operation being let go on alone: the index", atomic_load(&shared->thread));
+        say("after the run, ");
+        say_open(atomic_load(&shared->thread));
+        say(": the index");
     } else {
         differs(hangs ? NUXALDER_DRIVE_HANG : NUXALDER_DRIVE_CRASH, phase == CREATING ? -1 : atomic_load(&shared->record));
         say(phase == CREATING ? "\n  create" : phase == LOOKING ? "\n  looking at the set and the tree afterwards, the index" : "\n  in this turn the index");
@@ -640,6 +674,28 @@ static int refuse(nuxalder_drive_verdict *verdict, nuxalder_drive_kind kind, con
     return 0;
 }
 
+/* Where a run differed: its record, or past all of them where it came to the end. */
+static int differed_at(void) { return atomic_load(&shared->phase) == DESTROYING ? RECORDS + 1 : shared->verdict.record; }
+
+/* The run that differed is done again, compared after each record, which shows no later than before. */
+static void again(void)
+{
+    nuxalder_drive_verdict first = shared->verdict;
+    int at = differed_at();
+    run.options.each = 1;
+    once();
+    bool none = shared->verdict.kind == NUXALDER_DRIVE_AGREES;
+    if (!none && differed_at() <= at) return;
+    const char *kind = nuxalder_drive_kind_words(shared->verdict.kind);
+    int record = shared->verdict.record;
+    shared->verdict = first;
+    shared->verdict.kind = NUXALDER_DRIVE_UNSTEADY;
+    say("\n  done again, it %s", none ? "did not differ" : "differed later, ");
+    if (!none) say("%s", kind);
+    if (!none && record) say(" at record %d", record);
+    say(": the index does not do the same twice");
+}
+
 int nuxalder_drive(const nuxalder_drive_index *index, const uint8_t *schedule, size_t length, const nuxalder_drive_options *options,
                    nuxalder_drive_verdict *verdict)
 {
@@ -669,15 +725,8 @@ int nuxalder_drive(const nuxalder_drive_index *index, const uint8_t *schedule, s
     once();
     first = shared->verdict;
     if (first.kind != NUXALDER_DRIVE_AGREES && first.kind != NUXALDER_DRIVE_STUCK && first.kind < NUXALDER_DRIVE_UNSTEADY && !run.options.each &&
-        !run.options.free) {
-        run.options.each = 1;
-        once();
-        if (shared->verdict.kind == NUXALDER_DRIVE_AGREES) {
-            shared->verdict = first;
-            shared->verdict.kind = NUXALDER_DRIVE_UNSTEADY;
-            say("\n  done again, it did not differ: the index does not do the same twice");
-        }
-    }
+        !run.options.free)
+        again();
     *verdict = shared->verdict;
     verdict->refusal = bench.refusal, verdict->count = bench.count;
     verdict->first_kind = first.kind, verdict->first_record = first.record;

@@ -12,21 +12,20 @@ static void lay(struct expectation *e, const uint8_t *rows, int count)
     int size = deep(e) ? NUXALDER_DEEP_ROW_SIZE : NUXALDER_ROW_SIZE;
 
     for (int i = 0; i < count; i++) row[rows[size * i]][total[rows[size * i]]++] = i;
-    for (int i = 0; i <= e->done; i++)
-        for (int t = 0; t < WORKERS; t++) {
-            if (i < e->done && thread_of(e, i) != t) continue;
-            if (i < e->done && !action_of(e, i)) {
-                last[t] = i;
-                continue;
-            }
-            if (started[t] > taken[t] && taken[t] < total[t]) {
-                const uint8_t *found = rows + size * row[t][taken[t]++];
-                e->record[last[t]].finish = 1 + found[3];
-                e->record[last[t]].depth = deep(e) ? NUXALDER_ROW_DEPTH(found) : 0;
-                e->record[last[t]].set = deep(e) ? nuxalder_row_set(found) : 0;
-            }
-            started[t]++;
+    for (int i = 0; i < e->done + WORKERS; i++) { /* past the last record each thread once more */
+        int t = i < e->done ? thread_of(e, i) : i - e->done;
+        if (i < e->done && !action_of(e, i)) {
+            last[t] = i;
+            continue;
         }
+        if (started[t] > taken[t] && taken[t] < total[t]) {
+            const uint8_t *found = rows + size * row[t][taken[t]++];
+            e->record[last[t]].finish = 1 + found[3];
+            e->record[last[t]].depth = deep(e) ? NUXALDER_ROW_DEPTH(found) : 0;
+            e->record[last[t]].set = deep(e) ? nuxalder_row_set(found) : 0;
+        }
+        started[t]++;
+    }
 }
 
 void expect(struct expectation *e, const uint8_t *file, size_t length)

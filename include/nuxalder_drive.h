@@ -112,7 +112,7 @@ typedef enum nuxalder_drive_kind {
     NUXALDER_DRIVE_CRASH,    /* the process ended */
     NUXALDER_DRIVE_STUCK,    /* an open operation, let go on alone, does not end */
     NUXALDER_DRIVE_ORDER,    /* `free`: no order of the operations explains an answer or a set */
-    NUXALDER_DRIVE_UNSTEADY, /* it differs, but not when done again */
+    NUXALDER_DRIVE_UNSTEADY, /* it differs, but when done again not at all, or only later */
     NUXALDER_DRIVE_ADAPTOR,  /* the table lacks a function, or one gives what it may not */
     NUXALDER_DRIVE_UNABLE,   /* the driver cannot do what is asked: no process, thread or memory to be had */
     NUXALDER_DRIVE_KINDS

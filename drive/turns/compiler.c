@@ -1,7 +1,7 @@
 /* Turns without editing the index, in C and C++: compile it with -fsanitize=thread, and link this instead of the thread sanitizer's
  * runtime (give -fsanitize=thread when compiling, not when linking). The compiler then calls these functions.
  *
- * A turn is each atomic access whose order is not relaxed: loads, stores, exchanges, compare-exchanges and fetches of 1 to 8 bytes,
+ * A turn is each atomic access whose order is not relaxed: loads, stores, exchanges, compare-exchanges and fetches of 1 to 16 bytes,
  * by whatever name the source has for them. Plain accesses, relaxed ones and fences are none. Hooks are not numbered this way. */
 #include <stdbool.h>
 #include <stdint.h>
@@ -62,6 +62,65 @@ WIDTH(8, uint8_t)
 WIDTH(16, uint16_t)
 WIDTH(32, uint32_t)
 WIDTH(64, uint64_t)
+
+#ifdef __SIZEOF_INT128__ /* two words at once: under a lock, since not every machine has them; the driver lets one thread run, but an index may have its own */
+__extension__ typedef unsigned __int128 wide;
+static char wide_lock;
+
+static wide wide_change(volatile wide *p, wide v, bool changes)
+{
+    wide had = *p;
+    if (changes) *p = v;
+    __atomic_clear(&wide_lock, __ATOMIC_SEQ_CST);
+    return had;
+}
+
+#define WIDE_TURN(order) \
+    TURN(order);         \
+    while (__atomic_test_and_set(&wide_lock, __ATOMIC_SEQ_CST)) {}
+
+#define WIDE(name, value)                                                           \
+    wide __tsan_atomic128_##name(volatile wide *p, wide v, int order);              \
+    wide __tsan_atomic128_##name(volatile wide *p, wide v, int order)               \
+    {                                                                               \
+        WIDE_TURN(order);                                                           \
+        return wide_change(p, value, true);                                         \
+    }
+WIDE(exchange, v) WIDE(fetch_add, *p + v) WIDE(fetch_sub, *p - v) WIDE(fetch_and, *p & v) WIDE(fetch_or, *p | v) WIDE(fetch_xor, *p ^ v) WIDE(fetch_nand, ~(*p & v))
+
+wide __tsan_atomic128_load(const volatile wide *p, int order);
+wide __tsan_atomic128_load(const volatile wide *p, int order)
+{
+    WIDE_TURN(order);
+    return wide_change((volatile wide *)p, 0, false);
+}
+
+void __tsan_atomic128_store(volatile wide *p, wide v, int order);
+void __tsan_atomic128_store(volatile wide *p, wide v, int order)
+{
+    WIDE_TURN(order);
+    wide_change(p, v, true);
+}
+
+wide __tsan_atomic128_compare_exchange_val(volatile wide *p, wide e, wide v, int order, int other);
+wide __tsan_atomic128_compare_exchange_val(volatile wide *p, wide e, wide v, int order, int other)
+{
+    (void)other;
+    WIDE_TURN(order);
+    return wide_change(p, v, *p == e);
+}
+
+#define WIDE_COMPARE(name)                                                                                         \
+    int __tsan_atomic128_compare_exchange_##name(volatile wide *p, wide *e, wide v, int order, int other);         \
+    int __tsan_atomic128_compare_exchange_##name(volatile wide *p, wide *e, wide v, int order, int other)          \
+    {                                                                                                              \
+        wide had = __tsan_atomic128_compare_exchange_val(p, *e, v, order, other);                                  \
+        bool same = had == *e;                                                                                     \
+        *e = had;                                                                                                  \
+        return same;                                                                                               \
+    }
+WIDE_COMPARE(strong) WIDE_COMPARE(weak)
+#endif
 
 #define PLAIN(name)             \
     void __tsan_##name(void *); \

@@ -183,6 +183,22 @@ static node *parent_of(lfca *t, node *n)
     return at->type != ROUTE ? NOT_FOUND : before;
 }
 
+#ifdef NATURAL_OWN /* adaptations begun by updates, and none by request */
+static int split(lfca *t, int i);
+static int join(lfca *t, int i);
+static void adapt(lfca *t, int i, uint64_t set)
+{
+    if (__builtin_popcountll(set) > 2) split(t, i);
+    else if (set == 0) join(t, i);
+}
+int lfca_split(lfca *t, int i) { return (void)t, (void)i, NO; }
+int lfca_join(lfca *t, int i) { return (void)t, (void)i, NO; }
+#else
+#define adapt(t, i, set) ((void)0)
+#define split lfca_split
+#define join lfca_join
+#endif
+
 /* 106-126 */
 static int update(lfca *t, int i, bool insert, int depth)
 {
@@ -209,6 +225,7 @@ static int update(lfca *t, int i, bool insert, int depth)
 #ifdef WRONG_REUSED
                 t->spare = b;
 #endif
+                adapt(t, i, data.set);
                 return answer;
             }
             on = lfca_waits(b, 15);
@@ -309,7 +326,7 @@ int lfca_insert(lfca *t, int i, int depth) { return update(t, i, true, depth); }
 int lfca_remove(lfca *t, int i) { return update(t, i, false, 0); }
 
 /* 276-286 */
-int lfca_split(lfca *t, int i)
+int split(lfca *t, int i)
 {
     node *b = find_base(t, i);
     wait on = lfca_waits(b, 3);
@@ -336,7 +353,7 @@ int lfca_split(lfca *t, int i)
 }
 
 /* 266-275 */
-int lfca_join(lfca *t, int i)
+int join(lfca *t, int i)
 {
     node *b = find_base(t, i), *m;
     wait on = lfca_waits(b, 3);

@@ -95,7 +95,9 @@ static int operate(void *t, const nuxalder_drive_call *call, nuxalder_drive_foun
 #endif
     if (call->action == NUXALDER_RANGE) return query(call, found);
 #ifndef NO_HOOK
+#ifndef NO_ROOT /* no hook where the bench reads the root */
     nuxalder_turn(0);
+#endif
     if (update) nuxalder_turn(0);
 #ifdef LOCK /* a turn taken with a lock held: the next thread waits for it for ever */
     if (update) {
@@ -142,6 +144,8 @@ static int operate(void *t, const nuxalder_drive_call *call, nuxalder_drive_foun
     for (int i = 0; i < 1000 && update; i++) nuxalder_turn(0);
 #elif defined(UNSTEADY)
     if (*created == 1 && update) return 0;
+#elif defined(UNSTEADY_LATER)
+    if ((*created == 1 && update) || call->action == NUXALDER_REMOVE) return 0;
 #endif
     if (call->action >= NUXALDER_SPLIT) return 0;
     return call->action == NUXALDER_INSERT ? !had : had != 0;

@@ -1,5 +1,6 @@
 """`schedule drive`: an index, as an adaptor, stepped through schedules by the driver; `schedule random`: schedules to drive with."""
 
+import collections
 import json
 import struct
 import subprocess
@@ -124,6 +125,7 @@ class Drive:
     def __init__(self, options, say, write):
         self.options, self.say, self.write = options, say, write
         self.passed = self.failed = 0
+        self.judged = collections.Counter()
         self.shrunk = False
 
     def progress(self, done, files):
@@ -137,18 +139,18 @@ class Drive:
             raise Unable(f"schedule: {' '.join(told['words'].split())}")
         passed = told["kind"] == "agrees"
         refusal, whole = told["refusal"], told["refusal"] in bench.FILE_REFUSALS
+        self.judged[told["judged"]] += 1
         if self.options.json:
             self.say(json.dumps({"file": schedule.name, **told, "passed": passed and not whole}))
         elif whole:
             self.say(f"FAILED {schedule.name}: {NOTHING}: the bench refuses it, {refusal}: {bench.words(refusal, schedule.file)}")
         else:
-            if refusal:
-                done = told["records"] if passed else None
-                record = "" if done is None else f"record {done + 1} "
-                place = schedule.name if done is None else schedule.place(done + 1)
-                self.say(f"{place}: {record}the bench refuses, {refusal}: {bench.words(refusal, schedule.file)}; driven up to there")
+            refuses = f"the bench refuses, {refusal}: {bench.words(refusal, schedule.file)}"
             if not passed:
-                self.say(said(schedule, told))
+                self.say(said(schedule, told) + (f"\n    a later record {refuses}" if refusal else ""))
+            elif refusal:
+                done = told["records"] + 1
+                self.say(f"{schedule.place(done)}: record {done} {refuses}; driven up to there")
         if "shrunk" in told and not self.shrunk:
             self.shrunk = True
             self.write(self.options.shrink, shrunk_text(schedule, told["shrunk"]).encode())
@@ -188,6 +190,8 @@ class Drive:
                     break
         finally:
             driver.stop()
+        if self.options.free and not self.options.json:
+            self.say(f"answers judged of {self.judged[1]} by the proved judge, of {self.judged[2]} by the driver's search, which is not proved; all sets by the search")
         return self.passed, self.failed
 
     def fault(self, name, words):
