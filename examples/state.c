@@ -16,18 +16,20 @@ static void print_state(uint64_t turn)
 {
     static const char *const stages[] = {"", "preparing", "decided", "aborted", "done"};
     unsigned used = nuxalder_state_two(state + NUXALDER_HEAD_USED), number;
-    int t;
+    int t, busy = 0;
 
     printf("turn %" PRIu64 ":", turn);
     for (t = 0; t < NUXALDER_THREADS; t++) {
         const uint8_t *thread = nuxalder_state_thread(state, t);
         if (thread[NUXALDER_THREAD_PLACE] != 0)
-            printf(" t%d at %u", t, thread[NUXALDER_THREAD_PLACE]);
+            printf("%s t%d at %u", busy++ ? "," : "", t, thread[NUXALDER_THREAD_PLACE]);
     }
+    if (!busy)
+        printf(" all idle");
     for (number = 0; number < used; number++) {
         const uint8_t *node = nuxalder_state_node(state, (int)number);
         if (node[NUXALDER_NODE_KIND] == NUXALDER_MAIN && node[NUXALDER_NODE_STAGE] != NUXALDER_DONE)
-            printf(", main %u %s%s", number, stages[node[NUXALDER_NODE_STAGE]], node[NUXALDER_NODE_REACHABLE] ? "" : " (cut off)");
+            printf("; main %u %s%s", number, stages[node[NUXALDER_NODE_STAGE]], node[NUXALDER_NODE_REACHABLE] ? "" : " (cut off)");
     }
     putchar('\n');
 }

@@ -1,4 +1,4 @@
-/* nuxalder_state through the offsets of include/nuxalder.h: 01's join step by step, a kill, a query with its helper, a search
+/* nuxalder_state through the offsets of include/nuxalder.h: 01's join step by step, a kill, runs alike, a query with its helper, a search
  * that is counted, the longest state; every number of records; buffers and files of every interesting length, flush with
  * forbidden pages; refusals in their order. Ends with the counts of passed and failed checks. */
 #define _DEFAULT_SOURCE
@@ -217,6 +217,47 @@ static void kill(void)
     check(nuxalder_state_node(state, 6)[NUXALDER_NODE_STAGE] == NUXALDER_ABORTED, "after the kill: the stage");
 }
 
+/* Two runs of as many records that the places cannot tell apart have the same state: what their threads did before does not show. */
+static void alike(void)
+{
+    static uint8_t first[NUXALDER_STATE_BUFFER];
+    static struct plan p[4];
+    uint64_t length;
+    int i;
+
+    for (i = 0; i < 2; i++) {
+        plan_printed_run(&p[i]);
+        plan_alone(&p[i], 1, LOOKUP, i ? 9 : 3, 2);
+    }
+    /* t1 at 1: back from 15, or just started after two lookups of another */
+    plan_empty(&p[2]);
+    plan_alone(&p[2], 0, INSERT, 3, 2);
+    plan_alone(&p[2], 1, INSERT, 9, 2);
+    plan_steps(&p[2], 0, 1);
+    plan_steps(&p[2], 1, 2);
+    plan_empty(&p[3]);
+    plan_alone(&p[3], 0, INSERT, 3, 3);
+    plan_alone(&p[3], 2, LOOKUP, 3, 1);
+    plan_alone(&p[3], 2, LOOKUP, 9, 1);
+    plan_alone(&p[3], 1, INSERT, 9, 0);
+    for (i = 0; i < 4; i += 2) {
+        whole(&p[i]);
+        length = report[NUXALDER_STATE_LENGTH];
+        memcpy(first, state, length);
+        whole(&p[i + 1]);
+        check(report[NUXALDER_STATE_REFUSAL] == 0 && report[NUXALDER_STATE_LENGTH] == length && memcmp(first, state, length) == 0,
+              "runs %d and %d, which nothing tells apart", i, i + 1);
+    }
+    check(nuxalder_state_thread(state, 1)[NUXALDER_THREAD_PLACE] == 1, "t1 is at 1");
+    for (i = 2; i < 4; i++)
+        plan_steps(&p[i], 1, 1);
+    whole(&p[2]);
+    length = report[NUXALDER_STATE_LENGTH];
+    memcpy(first, state, length);
+    whole(&p[3]);
+    check(report[NUXALDER_STATE_LENGTH] == length && memcmp(first, state, length) == 0, "nor does a step");
+}
+
 /* Depths, frames, a range base and its store; an insert that helps. */
 static void query(void)
 {
@@ -388,6 +429,7 @@ int main(void)
     state_memory = guard_new(MEMORY);
     join();
     kill();
+    alike();
     query();
     count();
     for (at_start = 0; at_start < 2; at_start++) {

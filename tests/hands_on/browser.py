@@ -15,7 +15,7 @@ FLAGS = (
     "--disable-background-networking --hide-scrollbars --mute-audio --remote-debugging-pipe"
 ).split()
 KEY_CODES = dict(PageUp=33, PageDown=34, End=35, Home=36, ArrowLeft=37, ArrowUp=38, ArrowRight=39, ArrowDown=40, Enter=13, Escape=27)
-KEY_CODES.update({" ": 32, "+": 187, "-": 189, "0": 48})
+KEY_CODES.update({" ": 32, "+": 187, "-": 189, "0": 48, "w": 87})
 SHIFT = 8
 CALL_SECONDS_MOST = 300  # 101 steps on a machine that does other work too
 

@@ -5,6 +5,7 @@ import functools
 import places
 import states
 import story
+import telling
 import text_form
 from browser import BrowserError, Page
 from checks import EXAMPLES, OUT, REASONS, VECTORS, Expected, cut, file_of, least, tool
@@ -47,6 +48,7 @@ READ = """(() => {
     moments: texts(document, ".moments"),
     fresh: [...document.querySelectorAll("#canvas .new")].map((g) => Number(g.dataset.number)),
     apart: [...document.querySelectorAll("#canvas .held-node")].map((g) => Number(g.dataset.number)),
+    titled: [...document.querySelectorAll("#canvas .node, #canvas .held-node")].map((g) => texts(g, "title")[0]),
     holders: texts(document, "#canvas .holder text").sort(),
     nodes: [...document.querySelectorAll("#canvas .node")].map((g) => {
       const box = g.querySelector(".shape").getBBox();
@@ -117,6 +119,23 @@ def stage_of(node):
     return {"neighbour": f"of main {node.main}", "range": f"{node.lower} to {node.upper}, store {node.store}"}.get(node.kind, "")
 
 
+def title_of(state, node):
+    """All of a node's fields, as the page tells whoever points at it."""
+
+    def link(number, word):
+        return f"no {word}" if number is None else f"{word} {number}"
+
+    if node.kind == "route":
+        fields = [f"key {node.key}", f"left {node.left}", f"right {node.right}", "valid" if node.valid else "not valid", link(node.mark, "join mark")]
+    else:
+        fields = [link(node.parent, "parent"), f"stations {telling.contained(state, node.number)}", *filter(None, [stage_of(node)])]
+    if node.union is not None:
+        fields.append(f"union node {node.union}, neighbour {node.neighbour}, {link(node.grandparent, 'grandparent')}, other child {node.other}")
+    ends = states.stations(node.range)
+    fields.append("cut off" if not node.reachable else f"range {ends[0]} to {ends[-1]}" if ends else "an empty range")
+    return f"{node.kind} {node.number}: {'; '.join(fields)}"
+
+
 def held_by(thread):
     """The nodes that a thread's notes and stacks name."""
     numbers = {getattr(thread, note) for note in story.NOTES}
@@ -141,6 +160,7 @@ def compare_state(checks, what, shown, file, turn):
     held = [held_by(thread) for thread in state.threads]
     apart = sorted(n for n in set().union(*held) if not state.nodes[n].reachable)
     checks.equal(f"{what}: cut off and held", shown["apart"], apart)
+    checks.equal(f"{what}: all fields of a node", shown["titled"], [title_of(state, node) for node in [*preorder(state), *(state.nodes[n] for n in apart)]])
     checks.equal(f"{what}: who holds what", shown["holders"], sorted(f"t{t}" for t, numbers in enumerate(held) for _ in numbers))
     checks.equal(f"{what}: the plain set is the tree's", (shown["plain"], shown["differs"]), (shown["set"], False))
 
@@ -370,6 +390,13 @@ def controls(checks, page):
     checks.equal("the box leads to a turn", (shown["turn"], shown["comment"]), (52, "t1 reaches the neighbour and completes the join"))
     page.press("ArrowRight")
     checks.equal("and the arrows work again", page.evaluate(READ)["turn"], 53)
+    page.write("#jump", "")
+    page.press("Enter")
+    checks.equal("an empty box leads nowhere", page.evaluate(READ)["turn"], 53)
+    fits = """[...document.querySelectorAll('.legend .key')].filter((e) => e.getClientRects().length).every((e) => {
+      const box = e.getBoundingClientRect(), panel = e.closest('.panel').getBoundingClientRect();
+      return e.scrollWidth <= e.clientWidth + 1 && box.left >= panel.left && box.right <= panel.right; })"""
+    checks.that("what the drawings mean is told whole", page.evaluate(fits))
     comments = page.evaluate("[...document.querySelectorAll('#records .comment')].map((e) => [Number(e.dataset.turn), e.textContent])")
     checks.that("comments stand in the list", [46, "t1 reaches the neighbour and completes the join"] in comments and comments[0][0] == 1, comments)
     for words, turns, first in (("place 35", 2, 43), ("node 12", None, 44), ("station 12", None, 13), ("kills", 0, None), ("helps", 9, 50), ("t1", 20, 45)):
@@ -413,6 +440,9 @@ def controls(checks, page):
     ):
         page.open(show(checks, EXAMPLES / f"{name}.txt") + f"#at={turn}")
         checks.equal(f"{name} turn {turn}: the moments of a span", page.evaluate(READ)["moments"], [moments])
+    page.open(show(checks, EXAMPLES / "late-lookup.txt") + "#at=40")
+    apart = page.evaluate("[...document.querySelectorAll('#canvas .held-node .stage')].map((e) => e.textContent)")
+    checks.equal("a route that is cut off, with its valid and join mark", apart, ["key 9: 6, 8, not valid, \u2691 6"])
     page.open(show(checks, EXAMPLES / "refused-11-busy.txt"))
     wide = "[...document.querySelectorAll('#records li.undone span')].every((e) => e.getBoundingClientRect().width > 60)"
     checks.that("records that are not carried out stand in their lines", page.evaluate(wide))
@@ -495,18 +525,57 @@ def large(checks, page):
         page.click("#larger")
         page.click("#overview", 0.05)
         checks.that("a click in the overview leads there", page.evaluate("[view.x, view.y]") != was)
+    alone(checks, page, file, url, drawn)
+
+    def split_on():
+        page.open(f"{url}#at=740")
+        return page.step_cost(STEPS, STEP_ON)[0]
+
+    took = least(split_on, STEP_MILLISECONDS_MOST)
+    checks.that(f"a step with some 110 nodes takes {took:.1f} ms of processor time", 0 < took < STEP_MILLISECONDS_MOST)
+    print(f"  a step with some 110 nodes: {took:.1f} ms of the page's processor time", flush=True)
+    page.open(f"{url}#at=846")
+    still = "document.getElementById('tree-svg').style.transform"
+    before = page.evaluate(still)
+    page.press("ArrowRight")
+    checks.that("a node that is in sight moves nothing", page.evaluate(f"{still} === {before!r} && {IN_SIGHT}"), before)
+    page.open(f"{url}#at=256")
+    inside = """(() => { const panel = document.getElementById('caption'), box = panel.getBoundingClientRect();
+      return panel.scrollTop === 0 && [...panel.children].every((e) => { const b = e.getBoundingClientRect(); return b.top >= box.top && b.bottom <= box.bottom; }); })()"""
+    checks.that("what a turn does is in sight, with 64 stations too", page.evaluate(inside))
     page.resize(390, 844)
     for name, turn in (("range-among-joins", 162), ("helped-join", 52)):
         page.open(show(checks, EXAMPLES / f"{name}.txt") + f"#at={turn}")
         wide = page.evaluate("[document.documentElement.scrollWidth, innerWidth]")
         checks.that(f"{name} on a phone: nothing lies beyond the edge", wide[0] <= wide[1], wide)
+        tops = page.evaluate("['.caption', '.tree', '.threads-panel', '.records'].map((name) => document.querySelector(name).getBoundingClientRect().top)")
+        checks.equal(f"{name} on a phone: the threads before the records", tops, sorted(tops))
         compare(checks, page, f"{name} on a phone", file_of(EXAMPLES / f"{name}.txt"), turn)
     page.resize(1280, 800)
     labels = page.evaluate("[...document.querySelectorAll('button, input, select')].every((e) => e.getAttribute('aria-label') || e.textContent.trim())")
     checks.that("every control has a name", labels)
+    headings = page.evaluate("[...document.querySelectorAll('h2')].map((e) => e.textContent.trim().split(' ')[0] + (e.querySelector('button, .legend') ? ' and more' : ''))")
+    checks.equal("a heading is a heading alone", headings, ["Records", "Listing", "Tree", "Lanes", "Threads", "Set", "Rows"])
     label = page.evaluate("document.getElementById('tree-svg').getAttribute('aria-label')")
     checks.that("the tree is told to a screen reader", label.startswith("The tree: 0 route 9, 1 normal 3,"), label)
     finish(checks, page, "large")
+
+
+def alone(checks, page, file, url, drawn):
+    """The tree alone in the window, and back."""
+    page.open(f"{url}#at=859")
+    seen = page.evaluate(drawn)[1]
+    page.click("#large")
+    page.evaluate("new Promise((drawn) => requestAnimationFrame(() => setTimeout(drawn)))")
+    count, more, scale, hidden, over = page.evaluate(drawn)
+    checks.that("the tree alone: more of it, legible, with an overview", more >= 2 * seen and scale >= LEGIBLE and not hidden and over == count, (seen, more, scale))
+    others = "['records', 'threads', 'lanes'].some((id) => document.getElementById(id).getClientRects().length)"
+    checks.that("nothing else", not page.evaluate(others) and page.evaluate("document.getElementById('large').getAttribute('aria-pressed')") == "true")
+    page.press("ArrowLeft")
+    page.press("w")
+    page.evaluate("new Promise((drawn) => requestAnimationFrame(() => setTimeout(drawn)))")
+    checks.that("and back by its key", page.evaluate(others) and page.evaluate(drawn)[1] <= seen)
+    compare(checks, page, "large, back from the tree alone", file, 858)
 
 
 def deep(checks, page):

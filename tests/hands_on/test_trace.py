@@ -115,8 +115,12 @@ def by_states(checks):
             differ = {cell for cell in was if was[cell] != now[cell]} | {cell for cell in now if cell not in was and cell[0] == "result" and now[cell] is not None}
             writes, reads = (turn.told.writes, turn.told.reads) if turn.told else ([], [])
             names = {(one["cell"].replace("join ", ""), one["of"]) if one["of"] is not None else one["cell"] for one in writes}
-            if names != differ or any(was[key] != one["from"] for one in writes for key in names if key == one["cell"]):
+            if names != differ:
                 wrong.append((turn.number, names, differ))
+            for one in writes:
+                key = (one["cell"].replace("join ", ""), one["of"]) if one["of"] is not None else one["cell"]
+                if (was.get(key), now[key]) != (one["from"], one["to"]):
+                    wrong.append((turn.number, one))
             for one in reads:
                 key = (one["cell"].replace("join ", ""), one["of"]) if one["of"] is not None else one["cell"]
                 if one["cell"] != "kind" and was[key] != one["found"]:
@@ -175,7 +179,13 @@ def covers(checks):
     checks.that("one schedule: what it reaches", " 10  swap the root or look left: the root, succeeds 3\n" in few, few)
     checks.that("and leaves out", "left out: 16 (kill the join), succeeds\n" in few and "left out: refusal 13, " in few, few)
     checks.that("by version", "left out: 3 (check the base), insert: unset (versions 2 and 3)\n" in few and "left out: 19 (are joins stopped), stopped (version 3)\n" in few, few)
+    checks.that("what a query alone comes to", "left out: 15 (see what blocks), preparing (versions 2 and 3)\n" in few, few)
+    checks.that("refusals by version", "left out: refusal 16, a swap that needs a store of a range query, and all 64 are used (versions 2 and 3)\n" in few, few)
     checks.that("its figures", few.endswith("1 schedule, 12 records: places 3 of 62, outcomes 4 of 202, refusals 0 of 14\n"), few[-200:])
+    checks.that("what its version can reach", "version 1 alone: places 3 of 40, outcomes 4 of 130, refusals 0 of 11\n" in few, few[-400:])
+    deep = tool("cover", EXAMPLES / "printed-run.txt", EXAMPLES / "depth-lookup.txt")[1].decode()
+    checks.that("likewise of two", "versions 1 and 2 alone: places " in deep and " of 59, outcomes " in deep, deep[-400:])
+    checks.that("of all three there is nothing to add", not [line for line in lines if " alone: places " in line])
     file = OUT / "cover.schedule"
     file.write_bytes(file_of(EXAMPLES / "second-writer.txt"))
     writer = tool("cover", file, "--one-writer")[1].decode()

@@ -96,18 +96,20 @@ NEVER = {
     (32, "a base"): "a parent that 30 has marked stays in the tree until its join is decided",
 }
 
-# Those that need a version from 2 or 3 on.
+# Those that need a version from 2 or 3 on. At 15 an update finds what 3 found replaceable, which stays so; only a query finds more there.
 FROM_3 = {(2, outcome) for outcome in OUTCOMES[2][4:]} | {(place, outcome) for place in (4, 5, 19) for outcome in OUTCOMES[place]}
 FROM_2 = {
     (place, outcome)
     for place, outcomes in OUTCOMES.items()
     for outcome in outcomes
-    if place >= 60 or (place < 26 and outcome.split(": ")[-1] == "unset")
+    if place >= 60 or (place < 26 and outcome.split(": ")[-1] == "unset") or (place == 15 and outcome in ("preparing", "decided", "stale"))
 }
 
 # The refusals of files and records, and those of the one-writer run alone.
 REFUSALS = (*bench.FILE_REFUSALS, *range(7, 17))
 WRITER = 24
+REFUSALS_FROM_2 = (14, 15, 16)
+VERSIONS = {1: "version 1", 2: "versions 1 and 2"}
 
 
 def possible():
@@ -115,11 +117,20 @@ def possible():
     return [(place, outcome) for place, outcomes in OUTCOMES.items() for outcome in outcomes if (place, outcome) not in NEVER]
 
 
+def since(key):
+    """The first version in which an outcome, or a refusal by its number, can be reached."""
+    return 3 if key in FROM_3 else 2 if key in FROM_2 or key in REFUSALS_FROM_2 else 1
+
+
+def _version_words(key):
+    return {1: "", 2: " (versions 2 and 3)", 3: " (version 3)"}[since(key)]
+
+
 class Cover:
     """What some schedules reach."""
 
     def __init__(self):
-        self.outcomes, self.refusals, self.files, self.records = Counter(), Counter(), 0, 0
+        self.outcomes, self.refusals, self.files, self.records, self.version = Counter(), Counter(), 0, 0, 0
 
     def add(self, file, path=None, one_writer=False):
         run = states.run_of(file, path=path, one_writer=one_writer)
@@ -128,6 +139,7 @@ class Cover:
         if run.refusal:
             self.refusals[run.refusal, self._place(file, run)] += 1
         if run.states:
+            self.version = max(self.version, run.states[0].version)
             for turn in story.turns_of(file, run):
                 if turn.told:
                     self.outcomes[turn.told.place, turn.told.outcome] += 1
@@ -149,7 +161,6 @@ class Cover:
 
     def lines(self, one_writer=False):
         """The report."""
-        reached = {place for (place, _), count in self.outcomes.items() if count}
         for place, outcomes in OUTCOMES.items():
             told = [f"{outcome} {self.outcomes[place, outcome]}" for outcome in outcomes if self.outcomes[place, outcome]]
             if told:
@@ -162,17 +173,23 @@ class Cover:
         for place, outcome in sorted(strange):
             yield f"STRANGE: {place}, {outcome}: no bench that follows the places comes there"
         for place, outcome in self.left_out():
-            version = "" if (place, outcome) not in FROM_2 | FROM_3 else " (version 3)" if (place, outcome) in FROM_3 else " (versions 2 and 3)"
-            yield f"left out: {place} ({places.words(place)}), {outcome}{version}"
+            yield f"left out: {place} ({places.words(place)}), {outcome}{_version_words((place, outcome))}"
         for number in self.refusals_left_out(one_writer):
-            yield f"left out: refusal {number}, {bench.REFUSALS[number]}"
+            yield f"left out: refusal {number}, {bench.REFUSALS[number]}{_version_words(number)}"
         for (place, outcome), why in NEVER.items():
             yield f"cannot be reached: {place} ({places.words(place)}), {outcome}: {why}"
-        wanted = len(REFUSALS) + one_writer
-        yield (
-            f"{self.files} schedule{'' if self.files == 1 else 's'}, {self.records} records: places {len(reached)} of {len(OUTCOMES)},"
-            f" outcomes {len(possible()) - len(self.left_out())} of {len(possible())},"
-            f" refusals {wanted - len(self.refusals_left_out(one_writer))} of {wanted}"
+        if self.version in VERSIONS:
+            yield f"{VERSIONS[self.version]} alone: {self._sums(self.version, one_writer)}"
+        yield f"{self.files} schedule{'' if self.files == 1 else 's'}, {self.records} records: {self._sums(3, one_writer)}"
+
+    def _sums(self, version, one_writer):
+        """How much of what versions up to this one can reach is reached."""
+        outcomes = [key for key in possible() if since(key) <= version]
+        refusals = [number for number in REFUSALS + ((WRITER,) if one_writer else ()) if since(number) <= version]
+        reached, left = [key for key in outcomes if self.outcomes[key]], self.refusals_left_out(one_writer)
+        return (
+            f"places {len({place for place, _ in reached})} of {len({place for place, _ in outcomes})}, outcomes {len(reached)} of {len(outcomes)},"
+            f" refusals {len([number for number in refusals if number not in left])} of {len(refusals)}"
         )
 
 

@@ -215,7 +215,7 @@ function setUp() {
   part("end").addEventListener("click", () => show(lastTurn));
   part("play").addEventListener("click", togglePlay);
   part("speed").addEventListener("change", () => { if (playing) { stop(); togglePlay(); } });
-  part("jump").addEventListener("keydown", (event) => { if (event.key === "Enter") { show(Number(part("jump").value)); part("jump").value = ""; part("jump").blur(); } });
+  part("jump").addEventListener("keydown", (event) => { if (event.key === "Enter") { if (part("jump").value) show(Number(part("jump").value)); part("jump").value = ""; part("jump").blur(); } });
   part("find").addEventListener("input", () => search(0));
   part("find").addEventListener("keydown", (event) => { if (event.key === "Enter") search(event.shiftKey ? -1 : 1); });
   part("find-on").addEventListener("click", () => search(1));

@@ -68,6 +68,9 @@ def _node(state, number, node):
         made["parent"] = node.parent
     if node.kind == "main":
         made["note"] = f"node {node.union}" if node.stage == "decided" else node.stage
+        if node.union is not None:
+            grandparent = "no grandparent" if node.grandparent is None else f"grandparent {node.grandparent}"
+            made["agreed"] = f"union node {node.union}, neighbour {node.neighbour}, {grandparent}, other child {node.other}"
     elif node.kind == "neighbour":
         made["note"] = f"of main {node.main}"
     elif node.kind == "range":

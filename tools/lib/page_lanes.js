@@ -51,8 +51,11 @@ function drawLanes() {
       `<path d="M${x} ${laneY(thread) + 9}V${to}"/><circle cx="${x}" cy="${to}" r="4"/></g>`);
   }
   const every = [1, 5, 10, 50, 100, 500].find((step) => step * lanes.scale >= 44) || 1000;
-  const marks = Array.from({ length: Math.floor(lastTurn / every) + 1 }, (_, at) => at * every)
-    .map((turn) => `<text class="when${turn ? "" : " start"}" x="${turn ? laneX(turn) : 1}" y="10">${turn}</text>`);
+  const mark = (turn) => {
+    const [name, x] = !turn ? ["when start", 1] : laneX(turn) > width - 14 ? ["when end", width] : ["when", laneX(turn)];
+    return `<text class="${name}" x="${x}" y="10">${turn}</text>`;
+  };
+  const marks = Array.from({ length: Math.floor(lastTurn / every) + 1 }, (_, at) => mark(at * every));
   part("lane-drawing").innerHTML = `<svg role="img" aria-label="Operations of the four threads over time" width="${width}" height="${height}">` +
     `${marks.join("")}${shapes.join("")}</svg><div id="cursor"></div>`;
   lanes.drawn = true;

@@ -32,8 +32,8 @@ function measure(base) {
   const columns = Math.max(1, Math.min(COLUMNS, Math.ceil(Math.sqrt(base.words.length * SPREAD))));
   base.columns = columns;
   base.top = base.note ? 42 : 28;
-  base.width = Math.max(9 * base.kind.length + 38, base.note ? 7 * base.note.length + 14 : 0, columns * CELL + 14);
-  base.height = base.top + Math.max(1, Math.ceil(base.words.length / columns)) * LINE + 6;
+  base.width = Math.max(9 * base.kind.length + (base.number < 100 ? 38 : 46), base.note ? 7 * base.note.length + 14 : 0, columns * CELL + 14);
+  base.height = base.top + (base.kind === "route" ? 0 : Math.max(1, Math.ceil(base.words.length / columns)) * LINE) + 6; // a route that is drawn apart has no container
 }
 
 // Gives each child its distance from its route, `shift`, as small as no two nodes on a level need more. The answer
@@ -92,17 +92,26 @@ function drawBase(node) {
     const deep = depth === undefined ? "" : `<tspan class="depth">=${depth}</tspan>`;
     return `<text class="station${outside ? " outside" : ""}" x="${x}" y="${y}">${station}${deep}</text>`;
   });
-  const empty = `<text class="station none" x="${node.x}" y="${node.y + node.top + 12}">-</text>`;
+  const empty = node.kind === "route" ? "" : `<text class="station none" x="${node.x}" y="${node.y + node.top + 12}">-</text>`;
   const note = node.note ? `<text class="stage" x="${node.x}" y="${node.y + 33}">${node.note}</text>` : "";
-  return `${box("ring", 5)}${box("shape", 0)}<text class="word" x="${node.x}" y="${node.y + 17}">${node.kind}</text>` +
+  return `${box("ring", 5)}${box("shape", 0)}<text class="word" x="${node.x - (node.number < 100 ? 0 : 7)}" y="${node.y + 17}">${node.kind}</text>` +
     `<text class="number" x="${node.x + node.width / 2 - 12}" y="${node.y + 17}">${node.number}</text>${note}${stations.join("") || empty}`;
+}
+
+// All that the state has of a node, for whoever points at it.
+function title(node) {
+  const { kind, number, parent, range, key, left, right, mark, note, agreed } = node, link = (to, word) => (to === undefined ? `no ${word}` : `${word} ${to}`);
+  const fields = key === undefined ? [link(parent, "parent"), `stations ${node.stations || "-"}`, ...(note ? [note] : []), ...(agreed ? [agreed] : [])]
+    : [`key ${key}`, `left ${left}`, `right ${right}`, node.invalid ? "not valid" : "valid", link(mark, "join mark")];
+  const where = !range ? "cut off" : range[0] < range[1] ? `range ${range[0]} to ${range[1] - 1}` : "an empty range";
+  return `<title>${kind} ${number}: ${[...fields, where].join("; ")}</title>`;
 }
 
 // Draws a subtree into two lists, nodes in the order of the listing; numbers from `from` on are new.
 function draw(node, from, edges, nodes) {
   const isRoute = node.kind === "route";
   const names = `node ${node.kind}${node.number >= from ? " new" : ""}${node.invalid ? " invalid" : ""}`;
-  nodes.push(`<g class="${names}" data-depth="${node.depth}" data-number="${node.number}">${isRoute ? drawRoute(node) : drawBase(node)}</g>`);
+  nodes.push(`<g class="${names}" data-depth="${node.depth}" data-number="${node.number}">${title(node)}${isRoute ? drawRoute(node) : drawBase(node)}</g>`);
   if (!isRoute || !node.leftNode) return;
   edges.push(edge(node, node.leftNode, `&lt; ${node.key}`), edge(node, node.rightNode, `\u2265 ${node.key}`));
   draw(node.leftNode, from, edges, nodes);
@@ -115,7 +124,7 @@ function drawApart(nodes, numbers, y, edges) {
   const drawn = numbers.map((number) => {
     const node = made(nodes, number, 0);
     if (node.kind === "route") {
-      node.note = `key ${node.key}: ${node.left}, ${node.right}`;
+      node.note = [`key ${node.key}: ${node.left}, ${node.right}`, ...(node.invalid ? ["not valid"] : []), ...(node.mark === undefined ? [] : [`\u2691 ${node.mark}`])].join(", ");
       node.words = [];
     }
     measure(node);
@@ -125,7 +134,7 @@ function drawApart(nodes, numbers, y, edges) {
     return node;
   });
   if (!drawn.length) return { width: 0, height: 0, html: "", drawn };
-  const shapes = drawn.map((node) => `<g class="held-node ${node.kind}" data-number="${node.number}">${drawBase(node)}</g>`).join("");
+  const shapes = drawn.map((node) => `<g class="held-node ${node.kind}" data-number="${node.number}">${title(node)}${drawBase(node)}</g>`).join("");
   edges.push(`<text class="apart-word" x="${EDGE}" y="${y + 8}">cut off, still held by a thread</text>`);
   return { width: x - GAP + EDGE, height: 30 + Math.max(...drawn.map((node) => node.height)), html: shapes, drawn };
 }
@@ -163,9 +172,10 @@ function placeView() {
   const room = (have, need, at) => (need <= have ? (have - need) / 2 : Math.min(0, Math.max(have - need, at)));
   view.x = room(wide, view.width * view.scale, view.x);
   view.y = view.height * view.scale <= high ? 4 : room(high, view.height * view.scale, view.y);
-  const scene = part("scene");
-  if (!scene) return;
-  scene.setAttribute("transform", `translate(${view.x} ${view.y}) scale(${view.scale})`);
+  // moved as a whole, which lays out nothing; only another scale lays out all its words again
+  if (view.shown !== view.scale) part("scene").setAttribute("transform", `scale(${view.scale})`);
+  view.shown = view.scale;
+  part("tree-svg").style.transform = `translate(${view.x}px, ${view.y}px)`;
   const whole = view.width * view.scale <= wide + 1 && view.height * view.scale <= high + 1;
   part("overview").toggleAttribute("hidden", whole);
   canvas.style.touchAction = whole ? "auto" : "none";
@@ -175,8 +185,12 @@ function placeView() {
   box.setAttribute("y", -view.y / view.scale);
   box.setAttribute("width", wide / view.scale);
   box.setAttribute("height", high / view.scale);
-  // the overview lies in the corner away from the node that matters
-  const node = view.drawn.get(view.matters);
+  placeOverview();
+}
+
+// The overview lies in the corner away from the node that matters.
+function placeOverview() {
+  const node = view.drawn.get(view.matters), { wide, high } = view;
   part("overview").classList.toggle("at-left", Boolean(node) && node.x * view.scale + view.x > wide / 2);
   part("overview").classList.toggle("at-top", Boolean(node) && node.y * view.scale + view.y > high / 2);
 }
@@ -206,13 +220,13 @@ function zoom(factor, x = view.wide / 2, y = view.high / 2) {
   placeView();
 }
 
-// A node in sight, if it is drawn and not in sight.
+// A node in sight, if it is drawn and not in sight; where it is, nothing moves.
 function seek(number) {
   view.matters = number;
   const node = view.drawn.get(number);
   if (!node) return;
   const x = node.x * view.scale + view.x, y = node.y * view.scale + view.y;
-  if (x < 40 || x > view.wide - 40 || y < 0 || y > view.high - 60) { centre(node.x, node.y + 40); placeView(); }
+  if (x < 40 || x > view.wide - 40 || y < 0 || y > view.high - 60) { centre(node.x, node.y + 40); placeView(); } else placeOverview();
 }
 
 function setUpView() {
@@ -257,6 +271,7 @@ function setUpView() {
     view.own = true;
     placeView();
   });
+  part("large").addEventListener("click", toggleLarge);
   part("fit").addEventListener("click", showAll);
   part("larger").addEventListener("click", () => zoom(1.3));
   part("smaller").addEventListener("click", () => zoom(1 / 1.3));
@@ -268,7 +283,20 @@ function showAll() {
   placeView();
 }
 
-const VIEW_KEYS = { "+": () => zoom(1.3), "=": () => zoom(1.3), "-": () => zoom(1 / 1.3), 0: showAll };
+// The tree alone in the window, or all the parts again, which are then measured anew.
+function toggleLarge() {
+  const isLarge = document.body.classList.toggle("large");
+  part("large").setAttribute("aria-pressed", isLarge);
+  view.own = false;
+  measureAll();
+  fitView();
+  if (isLarge) return;
+  lanes.drawn = false;
+  showLanes(now);
+  showRecord(now);
+}
+
+const VIEW_KEYS = { "+": () => zoom(1.3), "=": () => zoom(1.3), "-": () => zoom(1 / 1.3), 0: showAll, w: toggleLarge };
 
 // ---- One turn ----
 
@@ -288,7 +316,8 @@ function showTree(turn) {
   const nodes = nodesAt(bounded), before = carried ? nodesAt(turn - 1) : nodes;
   const holders = holdersAt(bounded), fresh = nodes.length > before.length ? before.length : Infinity;
   const apart = [...holders.keys()].filter((number) => nodes[number] && !nodes[number].range).sort((a, b) => a - b);
-  const key = `${fresh} ${treeKey(bounded)}`, apartKey = `${apart} ${key}`, holdersKey = JSON.stringify([...holders]);
+  const since = (number) => run.nodes[number][lastAt(run.nodes[number], bounded)][0]; // a node that is cut off changes too: its main's stage does
+  const key = `${fresh} ${treeKey(bounded)}`, apartKey = `${apart.map((number) => [number, since(number)])} ${key}`, holdersKey = JSON.stringify([...holders]);
   if (key !== view.key) drawTree(nodes, bounded, fresh);
   if (apartKey !== view.apart) {
     const words = [], beside = drawApart(nodes, apart, view.low + 6, words);
@@ -305,7 +334,7 @@ function showTree(turn) {
   Object.assign(view, { key, apart: apartKey, holders: holdersKey });
   const touched = carried ? run.told[turn - 1][3].find((number) => view.drawn.has(number)) : undefined;
   const matters = fresh < Infinity ? [...view.drawn.keys()].find((number) => number >= fresh) : touched;
-  if (!view.own) { if (isNew || view.wide < view.width * view.scale) fitView(matters); } else if (isNew) { placeView(); if (fresh < Infinity) seek(matters); }
+  if (!view.own) { if (isNew) fitView(matters); else seek(matters); } else if (isNew) { placeView(); if (fresh < Infinity) seek(matters); }
   const gone = carried ? before.map((node, number) => number).filter((number) => before[number].range && !nodes[number].range) : [];
   const words = gone.length ? `went at this turn: ${gone.map((number) => `<b class="${before[number].kind}">${before[number].kind} ${number}</b>`).join(", ")}` : "";
   if (part("gone").innerHTML !== words) part("gone").innerHTML = words;
