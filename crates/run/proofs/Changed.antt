@@ -11,12 +11,11 @@ use lib.ListN.{length, getD, set, length-set}
 use lib.Seq.{set-set, getD-set-same, getD-set-other}
 use Rattle.definitions.specs.Nodes.{Shapes, Stores}
 use Rattle.definitions.specs.Bench.{stop, Sight, sight}
-use Rattle.definitions.specs.declared.Action.the-variants.{Query}
 use Rattle.steps.specs.declared.Notes.{Notes}
 use Rattle.steps.specs.declared.Decision.{Decision}
 use Rattle.steps.specs.Decision.{Decides, readAt, finding}
-use Rattle.run.proofs.Framed.{never-full}
-use Rattle.run.proofs.Decided.{reread, recounted, Decided, decided-find}
+use Rattle.run.specs.Threads.{recounted}
+use Rattle.run.proofs.Decided.{reread, Decided, decided-find}
 
 -- `threads'` has in its place t the notes of `threads` with r routes read
 pub record Rereads (t r : ℕ) (end : Notes) (threads threads' : List Notes) : Type 0 where
@@ -30,8 +29,20 @@ reread-none t end threads = record { own = refl; puts = λ v. refl; size = refl 
 pub reread-one : (t r : ℕ) (end : Notes) (threads : List Notes) → t < length threads → Rereads t r end threads (set threads t (reread r (getD threads t end)))
 reread-one t r end threads i = record { own = getD-set-same threads t (reread r (getD threads t end)) end i; puts = λ v. set-set threads t _ v; size = length-set threads t _ }
 
-pub reread-place : (t r : ℕ) (end : Notes) (threads : List Notes) {threads' : List Notes} → t < length threads → threads' ≡ set threads t (reread r (getD threads t end)) → getD threads' t end .place ≡ getD threads t end .place
+pub reread-place : (t r : ℕ) (end : Notes) (threads : List Notes) {threads' : List Notes} → t < length threads → threads' ≡ set threads t (reread r (getD threads t end))
+    → getD threads' t end .place ≡ getD threads t end .place
 reread-place t r end threads i e = rw e (ap (λ (v : Notes). v .place) (getD-set-same threads t (reread r (getD threads t end)) end i))
+
+-- the count after a step at the place p
+module _ (p c : ℕ) where
+  pub count-four : p ≡ 4 → c + 1 ≡ recounted p c
+  count-four e = rw (eq-eqb p 4 e)
+
+  pub count-five : p ≡ 5 → c - 1 ≡ recounted p c
+  count-five e = rw e
+
+  pub count-other : (p ≡ 4 → ⊥) → (p ≡ 5 → ⊥) → c ≡ recounted p c
+  count-other g h = rw (ne-eqb p 4 g, ne-eqb p 5 h)
 
 -- after a step at the place p the count in c' is the one in c, one more or one less; the numbers of frames stay
 pub record Recounts (p : ℕ) (c c' : List ℕ) : Type 0 where
@@ -47,11 +58,8 @@ module _ (p : ℕ) (c : List ℕ) where
     apart : (m u : ℕ) → u < 4 → getD (set c 4 m) u 0 ≡ getD c u 0
     apart m u j = getD-set-other c 4 u m 0 (λ e. omega arith)
 
-    pub recount-more : p ≡ 4 → Recounts p c (set c 4 (getD c 4 0 + 1))
-    recount-more e = record { size = length-set c 4 _; each = apart _; count = getD-set-same c 4 (getD c 4 0 + 1) 0 (omega arith) ∙ rw (eq-eqb p 4 e) }
-
-    pub recount-less : p ≡ 5 → Recounts p c (set c 4 (getD c 4 0 - 1))
-    recount-less e = record { size = length-set c 4 _; each = apart _; count = getD-set-same c 4 (getD c 4 0 - 1) 0 (omega arith) ∙ rw e }
+    pub recount-put : Recounts p c (set c 4 (recounted p (getD c 4 0)))
+    recount-put = record { size = length-set c 4 _; each = apart _; count = getD-set-same c 4 (recounted p (getD c 4 0)) 0 (omega arith) }
 
 -- the same with m frames for thread t
 pub recount-set : {p : ℕ} {c c' : List ℕ} → Recounts p c c' → (t m : ℕ) → t < length c → (u : ℕ) → u < 4 → getD (set c' t m) u 0 ≡ getD (set c t m) u 0
@@ -66,13 +74,14 @@ recount-set {p} {c} {c'} r t m i u j = elim (ℕ-discrete u t) [
 pub record Begun (s : Sight) (t : ℕ) (end : Notes) (threads threads' : List Notes) (d : Decision) : Type 0 where
   pub decided : Decided s (getD threads t end) (getD threads' t end .read) d
   pub rereads : Rereads t (getD threads' t end .read) end threads threads'
-  pub kept : d .what ≡ 2 → threads' ≡ threads
 
-pub begun-at : {s : Sight} (t : ℕ) (end : Notes) (threads : List Notes) {threads' : List Notes} {d : Decision} → Decided s (getD threads t end) (getD threads t end .read) d → threads' ≡ threads → Begun s t end threads threads' d
-begun-at t end threads q e = rw e (record { decided = q; rereads = reread-none t end threads; kept = λ _. refl })
+pub begun-at : {s : Sight} (t : ℕ) (end : Notes) (threads : List Notes) {threads' : List Notes} {d : Decision}
+    → Decided s (getD threads t end) (getD threads t end .read) d → threads' ≡ threads → Begun s t end threads threads' d
+begun-at t end threads q e = rw e (record { decided = q; rereads = reread-none t end threads })
 
 -- 1, 2
-module _ (n : Shapes) (root used : ℕ) (k : Stores) (shown : ℕ) (on : Bool) (c t : ℕ) (end : Notes) (threads : List Notes) {threads' : List Notes} {d : Decision} (g : 0 < getD threads t end .place) (h : getD threads t end .place < 3)
+module _ (n : Shapes) (root used : ℕ) (k : Stores) (shown : ℕ) (on : Bool) (c t : ℕ) (end : Notes) (threads : List Notes) {threads' : List Notes} {d : Decision}
+    (g : 0 < getD threads t end .place) (h : getD threads t end .place < 3)
     (i : Decides (getD threads' t end) d (finding (getD threads' t end .place) on n root)) where
   pub begun-off : on ≡ false → threads' ≡ threads → Begun (sight n root used k shown (stop on c)) t end threads threads' d
   begun-off o e =
@@ -81,8 +90,8 @@ module _ (n : Shapes) (root used : ℕ) (k : Stores) (shown : ℕ) (on : Bool) (
       begun-at t end threads (decided-find n root used k shown on c th (rw o) g h j) e
 
   pub begun-on : {r : ℕ} → on ≡ true → t < length threads → r ≡ readAt (getD threads t end .place) (getD threads t end .read) → threads' ≡ set threads t (reread r (getD threads t end))
-      → (getD threads t end .action ≡ Query → ⊥) → Begun (sight n root used k shown (stop on c)) t end threads threads' d
-  begun-on {r} o l f e a =
+      → Begun (sight n root used k shown (stop on c)) t end threads threads' d
+  begun-on {r} o l f e =
       let th : Notes = getD threads t end in
       let own : getD threads' t end ≡ reread r th = rw e (getD-set-same threads t (reread r th) end l) in
       let j : Decides (reread r th) d (finding (th .place) on n root) = subst (λ (v : Notes). Decides v d (finding (v .place) on n root)) own i in
@@ -90,5 +99,4 @@ module _ (n : Shapes) (root used : ℕ) (k : Stores) (shown : ℕ) (on : Bool) (
       record {
         decided = rw same (decided-find n root used k shown on c th (rw (o, f)) g h j);
         rereads = rw (same, e) (reread-one t r end threads l);
-        kept = λ w. absurd (never-full (th .place) on n root j a w);
       }

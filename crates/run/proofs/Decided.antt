@@ -24,20 +24,34 @@ use Rattle.definitions.specs.declared.Effect.the-variants.{Quiet, Raise, Lower}
 use Rattle.steps.specs.declared.Notes.{Notes}
 use Rattle.steps.specs.declared.Decision.{Decision}
 use Rattle.steps.specs.Decision.{thread, written, turnBy, turnOf, topAfter, Decides, readAt, finding, counting}
+use Rattle.run.specs.Threads.{recounted}
 use Rattle.run.proofs.Numbers.{back-moves}
 
 -- ---- a decision, and what it stands for
 
 -- the notes th with k routes read
 abbrev pub reread : ℕ → Notes → Notes
-reread k th = record { action = th .action; station = th .station; extra = th .extra; place = th .place; route = th .route; read = k; base = th .base; parent = th .parent; left = th .left; found = th .found; neighbour = th .neighbour; main = th .main; owner = th .owner; grandparent = th .grandparent; other = th .other }
+reread k th = record {
+  action = th .action;
+  station = th .station;
+  extra = th .extra;
+  place = th .place;
+  route = th .route;
+  read = k;
+  base = th .base;
+  parent = th .parent;
+  left = th .left;
+  found = th .found;
+  neighbour = th .neighbour;
+  main = th .main;
+  owner = th .owner;
+  grandparent = th .grandparent;
+  other = th .other;
+}
 
--- what a step at the place p does to the count besides writing e, and the count after it
+-- what a step at the place p does to the count besides writing e
 abbrev pub counted : ℕ → Effect → Effect
 counted p e = cond (eqb p 4) Raise (cond (eqb p 5) Lower e)
-
-abbrev pub recounted : ℕ → ℕ → ℕ
-recounted p c = cond (eqb p 4) (c + 1) (cond (eqb p 5) (c - 1) c)
 
 abbrev pub tallied : ℕ → Turn → Turn
 tallied p (Moves th e) = Moves th (counted p e)
@@ -103,14 +117,16 @@ abbrev pub readBy : Bool → Notes → ℕ
 readBy on th = cond on (readAt (th .place) (th .read)) (th .read)
 
 module _ (n : Shapes) (root used : ℕ) (k : Stores) (shown : ℕ) (on : Bool) (c : ℕ) (th : Notes) where
-  find-as : (p : ℕ) → 0 < p → p < 3 → (fs : List Frame) → step (placeOf p) (sight n root used k shown (stop on c)) (thread th fs) ≡ finding p on n root (thread (reread (cond on (readAt p (th .read)) (th .read)) th) fs)
+  find-as : (p : ℕ) → 0 < p → p < 3 → (fs : List Frame)
+      → step (placeOf p) (sight n root used k shown (stop on c)) (thread th fs) ≡ finding p on n root (thread (reread (cond on (readAt p (th .read)) (th .read)) th) fs)
   unfolding step finding readAt ite
   find-as zero g h fs = absurd (omega arith)
   find-as (suc zero) g h fs = refl
   find-as (suc (suc zero)) g h fs = refl
   find-as (suc (suc (suc p))) g h fs = absurd (omega arith)
 
-  pub decided-find : {m : ℕ} {d : Decision} → m ≡ readBy on th → 0 < th .place → th .place < 3 → Decides (reread m th) d (finding (th .place) on n root) → Decided (sight n root used k shown (stop on c)) th m d
+  pub decided-find : {m : ℕ} {d : Decision} → m ≡ readBy on th → 0 < th .place → th .place < 3 → Decides (reread m th) d (finding (th .place) on n root)
+      → Decided (sight n root used k shown (stop on c)) th m d
   decided-find {m} {d} e g h i = decide (finding (th .place) on n root) i
       (λ fs. find-as (th .place) g h fs ∙ (ap (λ (j : ℕ). finding (th .place) on n root (thread (reread j th) fs)) (sym e) ∙ tallied-same (th .place) _ (λ q. omega arith) (λ q. omega arith)))
       (λ q. absurd (⊎-elim {C = ⊥} (λ j. omega arith) (λ j. omega arith) q))
@@ -170,7 +186,8 @@ pub count-stored : (p : ℕ) (e : Effect) (m : Nodes) (o u : ℕ) (k : Stores) (
     → perform e (store m o u k j (stop on c')) ≡ perform (counted p e) (store m o u k j (stop on c))
 count-stored p e m o u k j on c c' q h = by (eqb p 4) (eqb p 5) refl refl h
   where
-    by : (a b : Bool) → eqb p 4 ≡ a → eqb p 5 ≡ b → c' ≡ cond a (c + 1) (cond b (c - 1) c) → perform e (store m o u k j (stop on c')) ≡ perform (cond a Raise (cond b Lower e)) (store m o u k j (stop on c))
+    by : (a b : Bool) → eqb p 4 ≡ a → eqb p 5 ≡ b → c' ≡ cond a (c + 1) (cond b (c - 1) c)
+        → perform e (store m o u k j (stop on c')) ≡ perform (cond a Raise (cond b Lower e)) (store m o u k j (stop on c))
     by true b f g i = rw (q (inl (eqb-true p 4 f)), i, add-one)
     by false true f g i = rw (q (inr (eqb-true p 5 g)), i)
     by false false f g i = rw i

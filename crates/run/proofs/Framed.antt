@@ -1,5 +1,5 @@
--- A query's thread has a frame at every moment of every run (`query-framed`), so that none is at 1 or 2 (`no-query`), where numbers never run out
--- (`never-full`). Rests on crate answers: a thread at 1 or 2 has no frame (`Know`).
+-- A query's thread has a frame at every moment of every run (`query-framed`), so that none is at 1, 2, 4 or 5 (`no-query`). Rests on crate
+-- answers: a thread at one of these has no frame (`Know`).
 use mathlib.Core.Path.{_≡_, refl, sym, ap, _∙_, subst}
 use mathlib.Core.Bool.{Bool, true, false}
 use mathlib.Core.List.{List, []}
@@ -12,16 +12,12 @@ use Rattle.container.specs.Choice.{ite, upd}
 use Rattle.definitions.specs.declared.Action.{Action}
 use Rattle.definitions.specs.declared.Action.the-variants.{Lookup, Insert, Remove, Split, Join, Query}
 use Rattle.definitions.specs.Threads.{Thread, begun, asking, Turn, Moves, Finishes, Finds, Full, NoStore}
-use Rattle.definitions.specs.Nodes.{Shapes}
 use Rattle.definitions.specs.Bench.{sightOf, Bench, bench}
-use Rattle.definitions.specs.Places.{p1, p2, placeOf}
-use Rattle.definitions.specs.Steps.{atLeaf, reached, onward, followed, isQuery}
+use Rattle.definitions.specs.Places.{p1, p2, p4, p5, placeOf}
+use Rattle.definitions.specs.Steps.{isQuery}
 use Rattle.definitions.specs.Records.{Result, refused, carried, taken, stepped, started, asked, acted, recordStep}
 use Rattle.definitions.specs.Schedule.{Rec, recordAt}
 use Rattle.definitions.specs.Run.{Progress, advanceBy, advance, after}
-use Rattle.steps.specs.declared.Notes.{Notes}
-use Rattle.steps.specs.declared.Decision.{Decision}
-use Rattle.steps.specs.Decision.{thread, turnOf, topAfter, Decides, finding}
 use Rattle.answers.proofs.SameOperation.{Same, same-op}
 use Rattle.answers.proofs.RunSet.{run-ends}
 use Rattle.answers.proofs.ReadPlaces.{know-now}
@@ -100,50 +96,12 @@ query-framed file (suc k) u = advance-keeps file (after file k) (recordAt file k
 bare : (file : List ℕ) (k t : ℕ) → after file k .bench .threads t .frames ≡ [] → after file k .bench .threads t .action ≡ Query → ⊥
 bare file k t e z = subst Some e (query-framed file k t z)
 
--- a thread at 1 or 2 is no query's
-pub no-query : (file : List ℕ) (k t p : ℕ) → after file k .bench .threads t .place ≡ p → 0 < p → p < 3 → after file k .bench .threads t .action ≡ Query → ⊥
-no-query file k t zero e g h = absurd (omega arith)
-no-query file k t (suc zero) e g h = bare file k t (know-now (run-ends file k .inv) t p1 (ap placeOf e))
-no-query file k t (suc (suc zero)) e g h = bare file k t (know-now (run-ends file k .inv) t p2 (ap placeOf e) .2)
-no-query file k t (suc (suc (suc p))) e g h = absurd (omega arith)
-
--- ---- so at 1 and 2 numbers never run out
-abbrev Open : Turn → Type 0
-Open (Moves th e) = Unit {0}
-Open (Finishes e a) = Unit {0}
-Open (Finds c) = Unit {0}
-Open Full = ⊥
-Open NoStore = Unit {0}
-
-open-fork : (c : Bool) (o o' : Turn) → Open o → Open o' → Open (ite c o o')
-unfolding ite
-open-fork true o o' p q = p
-open-fork false o o' p q = q
-
-module _ (n : Shapes) (th : Thread) (a : th .action ≡ Query → ⊥) where
-  open-leaf : (v : Action) (x : ℕ) → th .action ≡ v → Open (atLeaf v n th x)
-  open-leaf Lookup x e = tt
-  open-leaf Insert x e = tt
-  open-leaf Remove x e = tt
-  open-leaf Split x e = tt
-  open-leaf Join x e = tt
-  open-leaf Query x e = absurd (a e)
-
-  open-reached : (x : ℕ) → Open (reached n th x)
-  unfolding reached
-  open-reached x = open-fork _ _ _ tt (open-leaf (th .action) x refl)
-
-  open-followed : (on : Bool) (x : ℕ) → Open (followed on n th x)
-  unfolding followed onward
-  open-followed false x = open-reached x
-  open-followed true x = open-fork _ _ _ (open-reached x) (open-fork _ _ _ tt (open-fork _ _ _ tt tt))
-
-  open-finding : (p : ℕ) (on : Bool) (root : ℕ) → Open (finding p on n root th)
-  unfolding finding
-  open-finding p on root = open-fork _ _ _ (open-reached root) (open-fork _ _ _ (open-followed on _) tt)
-
-pub never-full : {th : Notes} {d : Decision} (p : ℕ) (on : Bool) (n : Shapes) (root : ℕ) → Decides th d (finding p on n root) → (th .action ≡ Query → ⊥) → d .what ≡ 2 → ⊥
-never-full {th} {d} p on n root i a e =
-    let full : turnOf (topAfter (finding p on n root (thread th []))) (thread th []) d ≡ Full = rw e in
-    let none : finding p on n root (thread th []) ≡ Full = sym (i .turn []) ∙ full in
-    subst Open none (open-finding n (thread th []) a p on root)
+-- a thread at 1, 2, 4 or 5 is no query's
+pub no-query : (file : List ℕ) (k t p : ℕ) → after file k .bench .threads t .place ≡ p → 0 < p → p < 6 → (p ≡ 3 → ⊥) → after file k .bench .threads t .action ≡ Query → ⊥
+no-query file k t zero e g h o = absurd (omega arith)
+no-query file k t (suc zero) e g h o = bare file k t (know-now (run-ends file k .inv) t p1 (ap placeOf e))
+no-query file k t (suc (suc zero)) e g h o = bare file k t (know-now (run-ends file k .inv) t p2 (ap placeOf e) .2)
+no-query file k t (suc (suc (suc zero))) e g h o = absurd (o refl)
+no-query file k t (suc (suc (suc (suc zero)))) e g h o = bare file k t (know-now (run-ends file k .inv) t p4 (ap placeOf e) .2)
+no-query file k t (suc (suc (suc (suc (suc zero))))) e g h o = bare file k t (know-now (run-ends file k .inv) t p5 (ap placeOf e) .3)
+no-query file k t (suc (suc (suc (suc (suc (suc p)))))) e g h o = absurd (omega arith)

@@ -37,22 +37,25 @@ use Rattle.run.proofs.Cases.{found-as}
 use Rattle.run.proofs.Framed.{no-query}
 use Rattle.run.proofs.Turn.{seen, stand, Asking, here, own-frames, own, wants, asked-on, wants-step, wants-query, carried-on, refused-at, awake, table-with, count-kept}
 
-module _ {file : List ℕ} {k x y e : ℕ} {n : Shapes} {l : List ℕ} {s : Stores} {threads : List Notes} {counts : List ℕ} {h : ℕ → Frame} {root used shown finished at : ℕ} {first buffer : List ℕ} {a : ℕ} {end : Notes} (q : Asking file k x y e n l s threads counts h root used shown finished at first buffer a end) where
+module _ {file : List ℕ} {k x y e : ℕ} {n : Shapes} {l : List ℕ} {s : Stores} {threads : List Notes} {counts : List ℕ} {h : ℕ → Frame} {root used shown finished at : ℕ}
+    {first buffer : List ℕ} {a : ℕ} {end : Notes} (q : Asking file k x y e n l s threads counts h root used shown finished at first buffer a end) where
   -- a query's start: one frame, from y to e
-  pub asking-on : {v : Notes} {h' : ℕ → Frame} → a ≡ 1 → x % 16 ≡ 6 → thread v [] ≡ starting (x % 16) y e → Opens h h' (x / 16 % 4) 0 (newFrame y (e % 256) Nil)
-      → Stands n l s (stop (stopOf file) (getD (set counts (x / 16 % 4) 1) 4 0)) (threadsOf (set threads (x / 16 % 4) v) (set counts (x / 16 % 4) 1) h') (stand root used shown 0 (k + 1) finished at) first buffer (after file (k + 1))
+  pub asking-on : {v : Notes} {h' : ℕ → Frame} → a ≡ 2 → thread v [] ≡ starting (x % 16) y e → Opens h h' (x / 16 % 4) 0 (newFrame y (e % 256) Nil)
+      → Stands n l s (stop (stopOf file) (getD (set counts (x / 16 % 4) 1) 4 0)) (threadsOf (set threads (x / 16 % 4) v) (set counts (x / 16 % 4) 1) h')
+      (stand root used shown 0 (k + 1) finished at) first buffer (after file (k + 1))
   unfolding putAll
-  asking-on {v} {h'} z j f o =
-      let w : wants q ≡ 2 = wants-query q z j in
+  asking-on {v} {h'} z f o =
+      let w : wants q ≡ 2 = wants-query q z in
       let low : e % 256 ≡ e = omega (arith, query-ends (lastAction file) x y e (seen threads x end .place) w) in
       let one : framesOf h' (x / 16 % 4) 1 ≡ newFrame y e Nil ∷ [] = rw low at (o .frames) in
-      carried-on q (set counts (x / 16 % 4) 1) (thread v (framesOf h' (x / 16 % 4) 1)) noRow (table-with q v 1 (o .others)) (count-kept q counts 1) (asked-on q w ∙ rw (one, query-begun (lastAction file) x y e (seen threads x end .place) w f)) (q .stands .depths) (omega arith) refl
+      carried-on q (set counts (x / 16 % 4) 1) (thread v (framesOf h' (x / 16 % 4) 1)) noRow (table-with q v 1 (o .others)) (count-kept q counts 1)
+      (asked-on q w ∙ rw (one, query-begun (lastAction file) x y e (seen threads x end .place) w f)) (q .stands .depths) (omega arith) refl
 
-  -- a step at 1 or 2 is none of a query
-  pub searching : a ≡ 0 → seen threads x end .place < 3 → seen threads x end .action ≡ Query → ⊥
-  searching z l e =
+  -- a step at 1, 2, 4 or 5 is none of a query
+  pub searching : a ≡ 0 → seen threads x end .place < 6 → (seen threads x end .place ≡ 3 → ⊥) → seen threads x end .action ≡ Query → ⊥
+  searching z l o e =
       let at : after file k .bench .threads (x / 16 % 4) ≡ thread (seen threads x end) (own-frames q) = sym (ap (λ (b : Bench). b .threads (x / 16 % 4)) (q .stands .bench)) ∙ own q in
-      no-query file k (x / 16 % 4) (seen threads x end .place) (ap (λ (t : Thread). t .place) at) (awake q z) l (ap (λ (t : Thread). t .action) at ∙ e)
+      no-query file k (x / 16 % 4) (seen threads x end .place) (ap (λ (t : Thread). t .place) at) (awake q z) l o (ap (λ (t : Thread). t .action) at ∙ e)
 
   -- what a step at a place from 60 on relies on
   pub stack-fits : 60 ≤ seen threads x end .place → Room (seen threads x end .place) (own-frames q)
@@ -62,10 +65,13 @@ module _ {file : List ℕ} {k x y e : ℕ} {n : Shapes} {l : List ℕ} {s : Stor
       subst (λ (i : ℕ). Room i (own-frames q)) p (query-fits file k (x / 16 % 4) h (getD counts (x / 16 % 4) 0) (ap (λ (t : Thread). t .frames) at) (omega (arith, p)) .1)
 
   -- it leaves r, the nodes n', the depths l', the stores s' and the frames that h' holds
-  module _ (z : a ≡ 0) {n' : Shapes} {l' : List ℕ} {s' : Stores} {h' : ℕ → Frame} {r : Left} (g : Leaves n l s root used shown h (x / 16 % 4) (getD counts (x / 16 % 4) 0) (seen threads x end) n' l' s' h' r) where
+  module _ (z : a ≡ 0) {n' : Shapes} {l' : List ℕ} {s' : Stores} {h' : ℕ → Frame} {r : Left}
+      (g : Leaves n l s root used shown h (x / 16 % 4) (getD counts (x / 16 % 4) 0) (seen threads x end) n' l' s' h' r) where
     left-by : {m : ℕ} → r .what ≡ m → recordStep (here q) (lastAction file) x y e ≡ resultOf m
-        (bench (store (full n' (deepened (g .effect) n (q .stands .deep))) (r .root) (r .used) s' (r .shown) (stop (stopOf file) (getD counts 4 0))) (upd (threadsOf threads counts h) (x / 16 % 4) (toBase (r .place) (r .base) (thread (seen threads x end) (framesOf h' (x / 16 % 4) (r .frames))))))
-        (bench (store (full n' (deepened (g .effect) n (q .stands .deep))) (r .root) (r .used) s' (r .shown) (stop (stopOf file) (getD counts 4 0))) (upd (threadsOf threads counts h) (x / 16 % 4) idle))
+        (bench (store (full n' (deepened (g .effect) n (q .stands .deep))) (r .root) (r .used) s' (r .shown) (stop (stopOf file) (getD counts 4 0)))
+        (upd (threadsOf threads counts h) (x / 16 % 4) (toBase (r .place) (r .base) (thread (seen threads x end) (framesOf h' (x / 16 % 4) (r .frames))))))
+        (bench (store (full n' (deepened (g .effect) n (q .stands .deep))) (r .root) (r .used) s' (r .shown) (stop (stopOf file) (getD counts 4 0)))
+        (upd (threadsOf threads counts h) (x / 16 % 4) idle))
         (r .set)
     left-by f = asked-on q (wants-step q z) ∙ (g .turn (here q) (q .stands .deep) (stop (stopOf file) (getD counts 4 0)) refl (own q) ∙ rw f)
 
@@ -75,15 +81,20 @@ module _ {file : List ℕ} {k x y e : ℕ} {n : Shapes} {l : List ℕ} {s : Stor
 
     -- its thread goes on: place and base in two stores
     pub left-on : (u : Notes) {v : Notes} → length l' ≡ length l → r .what ≡ 0 → ((fs : List Frame) → thread v fs ≡ toBase (r .place) (r .base) (thread (seen threads x end) fs))
-        → Stands n' l' s' (stop (stopOf file) (getD (set counts (x / 16 % 4) (r .frames)) 4 0)) (threadsOf (set (set threads (x / 16 % 4) u) (x / 16 % 4) v) (set counts (x / 16 % 4) (r .frames)) h') (stand (r .root) (r .used) (r .shown) 0 (k + 1) finished at) first buffer (after file (k + 1))
+        → Stands n' l' s' (stop (stopOf file) (getD (set counts (x / 16 % 4) (r .frames)) 4 0)) (threadsOf (set (set threads (x / 16 % 4) u) (x / 16 % 4) v) (set counts (x / 16 % 4) (r .frames)) h')
+        (stand (r .root) (r .used) (r .shown) 0 (k + 1) finished at) first buffer (after file (k + 1))
     unfolding putAll
     left-on u {v} m o f = rw set-set
-        (carried-on q (set counts (x / 16 % 4) (r .frames)) (thread v (framesOf h' (x / 16 % 4) (r .frames))) noRow (table-with q v (r .frames) (g .others)) (count-kept q counts (r .frames)) (left-by o ∙ rw (f (framesOf h' (x / 16 % 4) (r .frames)))) (deep-on m) (omega arith) refl)
+        (carried-on q (set counts (x / 16 % 4) (r .frames)) (thread v (framesOf h' (x / 16 % 4) (r .frames))) noRow (table-with q v (r .frames) (g .others))
+        (count-kept q counts (r .frames)) (left-by o ∙ rw (f (framesOf h' (x / 16 % 4) (r .frames)))) (deep-on m) (omega arith) refl)
 
     -- it has found a set
-    pub left-found : {v : Notes} {finished' at' : ℕ} {buffer' : List ℕ} (m : ℕ) → length l' ≡ length l → r .what ≡ 1 → thread v [] ≡ idle → finished' ≡ 1 + finished → m ≡ version file → page buffer' at' ≡ putAll (page buffer at) (foundRow m (x / 16 % 4) (seen threads x end) (r .set))
-        → Stands n' l' s' (stop (stopOf file) (getD (set counts (x / 16 % 4) 0) 4 0)) (threadsOf (set threads (x / 16 % 4) v) (set counts (x / 16 % 4) 0) h') (stand (r .root) (r .used) (r .shown) 0 (k + 1) finished' at') first buffer' (after file (k + 1))
-    left-found {v} m i o f j vs ro = carried-on q (set counts (x / 16 % 4) 0) (thread v []) (row (said (not (eqb (r .set) 0))) 0 (r .set)) (table-with q v 0 (g .others)) (count-kept q counts 0) (left-by o ∙ rw f) (deep-on i) j
+    pub left-found : {v : Notes} {finished' at' : ℕ} {buffer' : List ℕ} (m : ℕ) → length l' ≡ length l → r .what ≡ 1 → thread v [] ≡ idle → finished' ≡ 1 + finished
+        → m ≡ version file → page buffer' at' ≡ putAll (page buffer at) (foundRow m (x / 16 % 4) (seen threads x end) (r .set))
+        → Stands n' l' s' (stop (stopOf file) (getD (set counts (x / 16 % 4) 0) 4 0)) (threadsOf (set threads (x / 16 % 4) v) (set counts (x / 16 % 4) 0) h')
+        (stand (r .root) (r .used) (r .shown) 0 (k + 1) finished' at') first buffer' (after file (k + 1))
+    left-found {v} m i o f j vs ro = carried-on q (set counts (x / 16 % 4) 0) (thread v []) (row (said (not (eqb (r .set) 0))) 0 (r .set)) (table-with q v 0 (g .others))
+        (count-kept q counts 0) (left-by o ∙ rw f) (deep-on i) j
         (ro ∙ ap (putAll (page buffer at)) (found-as file m (x / 16 % 4) (seen threads x end) (own-frames q) (r .set) vs))
 
     -- it is refused
@@ -92,5 +103,6 @@ module _ {file : List ℕ} {k x y e : ℕ} {n : Shapes} {l : List ℕ} {s : Stor
     refused-by (suc zero) o b b' c = absurd (omega arith)
     refused-by (suc (suc m)) o b b' c = refl
 
-    pub left-refused : 1 < r .what → Stands n' l' s' (stop (stopOf file) (getD counts 4 0)) (threadsOf threads counts h') (stand root used shown (r .what) k finished at) first buffer (after file (k + 1))
+    pub left-refused : 1 < r .what
+        → Stands n' l' s' (stop (stopOf file) (getD counts 4 0)) (threadsOf threads counts h') (stand root used shown (r .what) k finished at) first buffer (after file (k + 1))
     left-refused o = rw (g .same o .0, g .same o .1 .0, g .same o .1 .1 .0, g .same o .1 .1 .1) (refused-at q (r .what) (left-by refl ∙ refused-by (r .what) o _ _ (r .set)))

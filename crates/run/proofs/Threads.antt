@@ -25,7 +25,23 @@ use Rattle.run.specs.Query.{Leaves}
 use Rattle.run.specs.declared.query.Left.{Left}
 
 abbrev notesOf : Thread → Notes
-notesOf th = record { action = th .action; station = th .station; extra = th .extra; place = th .place; route = th .route; read = th .read; base = th .base; parent = th .parent; left = th .left; found = th .found; neighbour = th .neighbour; main = th .main; owner = th .owner; grandparent = th .grandparent; other = th .other }
+notesOf th = record {
+  action = th .action;
+  station = th .station;
+  extra = th .extra;
+  place = th .place;
+  route = th .route;
+  read = th .read;
+  base = th .base;
+  parent = th .parent;
+  left = th .left;
+  found = th .found;
+  neighbour = th .neighbour;
+  main = th .main;
+  owner = th .owner;
+  grandparent = th .grandparent;
+  other = th .other;
+}
 
 -- what the code reads within an array, whatever it would read past its end
 pub within : {A : Type 0} (l : List A) (t : ℕ) (d d' : A) → t < length l → getD l t d ≡ getD l t d'
@@ -48,7 +64,8 @@ same-counts l c c' h q = fun-ext (λ k. ap (λ (m : ℕ). thread (getD l k none)
     by k false e = refl
 
 -- ---- thread t has the notes v now; the frames of the others, four at most, stay
-module _ (l : List Notes) (c : List ℕ) (h h' : ℕ → Frame) (t : ℕ) (v : Notes) (i : t < length l) (i' : t < 4) (few : (u : ℕ) → framed c u ≤ 4) (q : (u k : ℕ) → k ≤ 4 → (u ≡ t → ⊥) → framesOf h' u k ≡ framesOf h u k) where
+module _ (l : List Notes) (c : List ℕ) (h h' : ℕ → Frame) (t : ℕ) (v : Notes) (i : t < length l) (i' : t < 4) (few : (u : ℕ) → framed c u ≤ 4)
+    (q : (u k : ℕ) → k ≤ 4 → (u ≡ t → ⊥) → framesOf h' u k ≡ framesOf h u k) where
   -- and n frames
   pub put : (n : ℕ) → t < length c → threadsOf (set l t v) (set c t n) h' ≡ upd (threadsOf l c h) t (thread v (framesOf h' t n))
   put n j = fun-ext (λ k. at k (eqb k t) refl)
@@ -94,7 +111,12 @@ frames-count h t (suc d) = ap suc (frames-count h t d)
 -- ---- the lent arrays
 module _ {r : List ℕ} {s b n w : List (List ℕ)} (z : Sizes 256 1 r s b n w) (s' b' n' w' : List ℕ) where
   held-set : heldIn (set s 0 s') (set b 0 b') (set n 0 n') (set w 0 w') ≡ held s' b' n' w'
-  held-set = rw (getD-set-same s 0 s' [] (omega (arith, z .stacks)), getD-set-same b 0 b' [] (omega (arith, z .backups)), getD-set-same n 0 n' [] (omega (arith, z .notes)), getD-set-same w 0 w' [] (omega (arith, z .words)))
+  held-set = rw (
+    getD-set-same s 0 s' [] (omega (arith, z .stacks)),
+    getD-set-same b 0 b' [] (omega (arith, z .backups)),
+    getD-set-same n 0 n' [] (omega (arith, z .notes)),
+    getD-set-same w 0 w' [] (omega (arith, z .words)),
+  )
 
   held-but : heldIn (set s 0 s') b (set n 0 n') (set w 0 w') ≡ held s' (getD b 0 []) n' w'
   held-but = rw (getD-set-same s 0 s' [] (omega (arith, z .stacks)), getD-set-same n 0 n' [] (omega (arith, z .notes)), getD-set-same w 0 w' [] (omega (arith, z .words)))
@@ -103,7 +125,8 @@ module _ {r : List ℕ} {s b n w : List (List ℕ)} (z : Sizes 256 1 r s b n w) 
   pub opens-then : {h : ℕ → Frame} {t d : ℕ} {f : Frame} → Opens h (held s' b' n' w') t d f → Opens h (heldIn (set s 0 s') (set b 0 b') (set n 0 n') (set w 0 w')) t d f
   opens-then {h} {t} {d} {f} p = subst (λ (i : ℕ → Frame). Opens h i t d f) (sym held-set) p
 
-  pub leaves-then : {o u j i m : ℕ} {l l' : List ℕ} {t t' : Shapes} {k k' : Stores} {h : ℕ → Frame} {th : Notes} {x : Left} → Leaves t l k o u j h i m th t' l' k' (held s' b' n' w') x → Leaves t l k o u j h i m th t' l' k' (heldIn (set s 0 s') (set b 0 b') (set n 0 n') (set w 0 w')) x
+  pub leaves-then : {o u j i m : ℕ} {l l' : List ℕ} {t t' : Shapes} {k k' : Stores} {h : ℕ → Frame} {th : Notes} {x : Left}
+      → Leaves t l k o u j h i m th t' l' k' (held s' b' n' w') x → Leaves t l k o u j h i m th t' l' k' (heldIn (set s 0 s') (set b 0 b') (set n 0 n') (set w 0 w')) x
   leaves-then {o} {u} {j} {i} {m} {l} {l'} {t} {t'} {k} {k'} {h} {th} {x} p = subst (λ (v : ℕ → Frame). Leaves t l k o u j h i m th t' l' k' v x) (sym held-set) p
 
 -- the same where the backups are only read
@@ -132,22 +155,12 @@ module _ {l r : List ℕ} {s b n w : List (List ℕ)} {l' r' : List ℕ} {s' b' 
   kept-deep e = record { depths = e ∙ q .depths; results = q .results; stacks = q .stacks; backups = q .backups; notes = q .notes; words = q .words }
 
   -- an array of each kind is put
-  pub kept-frames : {l'' r'' : List ℕ} (a c d e : List ℕ) → length l'' ≡ length l' → length r'' ≡ length r' → Kept l r s b n w l'' r'' (set s' 0 a) (set b' 0 c) (set n' 0 d) (set w' 0 e)
-  kept-frames a c d e i j = record {
-    depths = i ∙ q .depths;
-    results = j ∙ q .results;
-    stacks = length-set s' 0 a ∙ q .stacks;
-    backups = length-set b' 0 c ∙ q .backups;
-    notes = length-set n' 0 d ∙ q .notes;
-    words = length-set w' 0 e ∙ q .words;
-  }
-
-  pub kept-left : {l'' : List ℕ} (a d e : List ℕ) → length l'' ≡ length l' → Kept l r s b n w l'' r' (set s' 0 a) b' (set n' 0 d) (set w' 0 e)
-  kept-left a d e i = record {
-    depths = i ∙ q .depths;
-    results = q .results;
-    stacks = length-set s' 0 a ∙ q .stacks;
-    backups = q .backups;
-    notes = length-set n' 0 d ∙ q .notes;
-    words = length-set w' 0 e ∙ q .words;
+  pub kept-on : {l'' r'' : List ℕ} {s'' b'' n'' w'' : List (List ℕ)} → Kept l' r' s' b' n' w' l'' r'' s'' b'' n'' w'' → Kept l r s b n w l'' r'' s'' b'' n'' w''
+  kept-on p = record {
+    depths = p .depths ∙ q .depths;
+    results = p .results ∙ q .results;
+    stacks = p .stacks ∙ q .stacks;
+    backups = p .backups ∙ q .backups;
+    notes = p .notes ∙ q .notes;
+    words = p .words ∙ q .words;
   }

@@ -3,13 +3,11 @@
 use mathlib.Core.Path.{_≡_, refl, sym, ap, _∙_, subst}
 use mathlib.Core.Bool.{Bool, true, false}
 use mathlib.Core.List.{List, [], _∷_}
-use mathlib.Core.Logic.{_⊎_, inl, inr, ⊎-elim}
+use mathlib.Core.Logic.{_⊎_, inl, inr}
 use Prim.Native.Nat.{ℕ, zero, suc, _+_, _/_, _%_, _≤_, _<_}
 use native.Mathlib.Numerals.{add-one}
 use native.Mathlib.Omega.{arith}
 use borrow.Author.Tests.{eq-eqb, ltb-false}
-use types.Run.{OneOf}
-use denote.Enum.Declared.{tagOf}
 use lib.Dec.{eqb, ltb}
 use lib.ListN.{length, getD, set}
 use lib.Seq.{set-set, getD-set-other}
@@ -26,8 +24,7 @@ use Rattle.answers.proofs.Counted.{reach-count, reach-take}
 use Rattle.queries.proofs.Fits.{few-fits}
 use Rattle.steps.specs.declared.Notes.{Notes}
 use Rattle.steps.specs.declared.Note.{Note}
-use Rattle.steps.specs.declared.Note.the-variants.{Nothing, Route, Base, Parent, Left, Right, Found, Neighbour, Owned, Helped, Topmost, Grandparent, Other, Opened}
-use Rattle.steps.proofs.Note as note
+use Rattle.steps.specs.declared.Note.the-variants.{Nothing, Opened}
 use Rattle.steps.specs.declared.Decision.{Decision}
 use Rattle.steps.specs.Decision.{thread, written, topAfter}
 use Rattle.machine.specs.Asked.{asked, actionOf, starting, answered}
@@ -38,7 +35,7 @@ use Rattle.definitions.specs.Nodes.{Shapes, Stores}
 use Rattle.definitions.specs.Threads.{Frame, Thread, newFrame, begun, idle}
 use Rattle.definitions.specs.Bench.{stop, Store, store, Bench, bench, sight}
 use Rattle.definitions.specs.Answers.{shown as shownAs, depthIn}
-use Rattle.definitions.specs.Places.{placeOf, toRoute}
+use Rattle.definitions.specs.Places.{placeOf}
 use Rattle.definitions.specs.Effects.{perform}
 use Rattle.definitions.specs.Steps.{step}
 use Rattle.definitions.specs.Records.{Row, noRow, row, Result, refused, carried, acted, recordStep}
@@ -51,17 +48,17 @@ use Rattle.definitions.specs.declared.Effect.the-variants.{Quiet}
 use Rattle.effects.specs.declared.Write.{Write}
 use Rattle.definitions.specs.declared.Link.the-variants.{To}
 use Rattle.definitions.specs.declared.Stop.{Stop}
-use Rattle.run.specs.Threads.{framed, threadsOf}
+use Rattle.run.specs.Threads.{framed, threadsOf, recounted}
 use Rattle.run.specs.Standing.{rowOf, Stands}
 use Rattle.run.specs.Query.{helping}
 use Rattle.run.specs.declared.Standing.{Standing}
 use Rattle.run.proofs.Cases.{row-as}
-use Rattle.run.proofs.Numbers.{one-below}
-use Rattle.run.proofs.Decided.{reread, recounted, counted, Decided, count-stored}
+use Rattle.run.proofs.Noting.{opened-noted}
+use Rattle.run.proofs.Decided.{reread, counted, Decided, count-stored}
 use Rattle.run.proofs.Outcome.{outcome, goes-on, finishes, runs-out, goes-back}
 use Rattle.run.proofs.Finding.{depth-still, opened}
 use Rattle.run.proofs.Changed.{Rereads, Recounts, recount-set}
-use Rattle.run.proofs.Joint.{joint, joint-step, joint-start, joint-over, busy}
+use Rattle.run.proofs.Joint.{busy, high}
 use Rattle.run.proofs.Threads.{at-own, framed-own, same-counts, put, put-notes, frames-count}
 
 -- ---- one record more
@@ -78,48 +75,16 @@ named b a x y e {b'} {w} = by (ltb 3 (x / 16)) refl
 abbrev pub seen : List Notes → ℕ → Notes → Notes
 seen threads x end = getD threads (x / 16 % 4) end
 
+-- it is one of four
+pub thread-few : (x : ℕ) → x / 16 % 4 < 4
+thread-few x = omega arith
+
 abbrev pub stand : ℕ → ℕ → ℕ → ℕ → ℕ → ℕ → ℕ → Standing
 stand root used shown refusal done finished at = record { root = root; used = used; shown = shown; refusal = refusal; done = done; finished = finished; at = at; threads = []; frames = [] }
 
 unrefused : (file : List ℕ) (p : Progress) (r : Rec) → p .refusal ≡ 0 → advance file p r ≡ advanceBy file p (r .first / 16) (recordStep (p .bench) (r .last) (r .first) (r .second) (r .extra))
 unfolding advance ite
 unrefused file p r z = rw (eq-eqb _ _ z)
-
--- the notes th at the place p; nothing else is noted, or a new frame, which lies apart
-abbrev pub placed : ℕ → Notes → Notes
-placed p th = record { action = th .action; station = th .station; extra = th .extra; place = p; route = th .route; read = th .read; base = th .base; parent = th .parent; left = th .left; found = th .found; neighbour = th .neighbour; main = th .main; owner = th .owner; grandparent = th .grandparent; other = th .other }
-
-pub nothing-noted : {th : Notes} (d : Decision) → d .note ≡ Nothing → Noted th (placed (d .place) th) (d .note) (d .place) (d .value)
-nothing-noted d e = record { after = λ f fs. rw e }
-
-pub route-noted : {th v : Notes} (d : Decision) → d .note ≡ Route → ((fs : List Frame) → thread v fs ≡ toRoute (d .place) (d .value) (thread th fs)) → Noted th v (d .note) (d .place) (d .value)
-route-noted d e q = record { after = λ f fs. rw e (q fs) }
-
-pub opened-noted : {th : Notes} (d : Decision) → d .note ≡ Opened → Noted th (placed (d .place) th) (d .note) (d .place) (d .value)
-opened-noted d e = record { after = λ f fs. rw e }
-
--- any note but a new frame leaves the frames
-pub nothing-still : (n : Note) (f : Frame) (fs : List Frame) → n ≡ Nothing → framesAfter n f fs ≡ fs
-nothing-still n f fs e = rw e
-
-pub route-still : (n : Note) (f : Frame) (fs : List Frame) → n ≡ Route → framesAfter n f fs ≡ fs
-route-still n f fs e = rw e
-
-pub frames-still : (n : Note) (f : Frame) (fs : List Frame) → OneOf (2 ∷ 3 ∷ 4 ∷ 5 ∷ 6 ∷ 7 ∷ 8 ∷ 9 ∷ 10 ∷ 11 ∷ 12 ∷ []) (tagOf note.the-type n) → framesAfter n f fs ≡ fs
-frames-still Nothing f fs o = refl
-frames-still Route f fs o = refl
-frames-still Base f fs o = refl
-frames-still Parent f fs o = refl
-frames-still Left f fs o = refl
-frames-still Right f fs o = refl
-frames-still Found f fs o = refl
-frames-still Neighbour f fs o = refl
-frames-still Owned f fs o = refl
-frames-still Helped f fs o = refl
-frames-still Topmost f fs o = refl
-frames-still Grandparent f fs o = refl
-frames-still Other f fs o = refl
-frames-still Opened f fs o = absurd (omega (arith, one-below 13 13 (2 ∷ 3 ∷ 4 ∷ 5 ∷ 6 ∷ 7 ∷ 8 ∷ 9 ∷ 10 ∷ 11 ∷ 12 ∷ []) refl o))
 
 -- what is written below 60 shows no store
 shown-still : (b : Bool) (w : Write) (j : ℕ) → shownAfter j (written b w) ≡ j
@@ -151,14 +116,16 @@ last-few file = by (eqb (version file) 1)
 
 -- the loop at record k, which is x, y, e: a is what it asks of its thread. The code reads that as `seen`, where the record names one of
 -- the four, whatever `end` it would read past the table's end
-pub record Asking (file : List ℕ) (k x y e : ℕ) (n : Shapes) (l : List ℕ) (s : Stores) (threads : List Notes) (counts : List ℕ) (h : ℕ → Frame) (root used shown finished at : ℕ) (first buffer : List ℕ) (a : ℕ) (end : Notes) : Type 0 where
+pub record Asking (file : List ℕ) (k x y e : ℕ) (n : Shapes) (l : List ℕ) (s : Stores) (threads : List Notes) (counts : List ℕ) (h : ℕ → Frame)
+    (root used shown finished at : ℕ) (first buffer : List ℕ) (a : ℕ) (end : Notes) : Type 0 where
   pub four : length threads ≡ 4
   pub each : length counts ≡ 5
   pub reads : Reads file k x y e
   pub stands : Stands n l s (stop (stopOf file) (getD counts 4 0)) (threadsOf threads counts h) (stand root used shown 0 k finished at) first buffer (after file k)
-  pub asks : a ≡ joint (asked (lastAction file) x y e (seen threads x end .place))
+  pub asks : a ≡ asked (lastAction file) x y e (seen threads x end .place)
 
-module _ {file : List ℕ} {k x y e : ℕ} {n : Shapes} {l : List ℕ} {s : Stores} {threads : List Notes} {counts : List ℕ} {h : ℕ → Frame} {root used shown finished at : ℕ} {first buffer : List ℕ} {a : ℕ} {end : Notes} (q : Asking file k x y e n l s threads counts h root used shown finished at first buffer a end) where
+module _ {file : List ℕ} {k x y e : ℕ} {n : Shapes} {l : List ℕ} {s : Stores} {threads : List Notes} {counts : List ℕ} {h : ℕ → Frame} {root used shown finished at : ℕ}
+    {first buffer : List ℕ} {a : ℕ} {end : Notes} (q : Asking file k x y e n l s threads counts h root used shown finished at first buffer a end) where
   -- the thread's number, its frames, and the bench that the loop stands for
   abbrev pub here : Bench
   here = bench (store (full n (q .stands .deep)) root used s shown (stop (stopOf file) (getD counts 4 0))) (threadsOf threads counts h)
@@ -208,7 +175,8 @@ module _ {file : List ℕ} {k x y e : ℕ} {n : Shapes} {l : List ℕ} {s : Stor
       let p : Progress = after file k in
       let done : recordStep (p .bench) (lastAction file) x y e ≡ carried _ w = rw (q .stands .bench) at f in
       let mine : x / 16 % 4 ≡ x / 16 = omega (arith, named (p .bench) (lastAction file) x y e done) in
-      let at-mine : thread (seen threads x end) own-frames ≡ p .bench .threads (x / 16) = sym own ∙ (ap (threadsOf threads counts h) mine ∙ ap (λ (b : Bench). b .threads (x / 16)) (q .stands .bench)) in
+      let at-mine : thread (seen threads x end) own-frames ≡ p .bench .threads (x / 16) =
+      sym own ∙ (ap (threadsOf threads counts h) mine ∙ ap (λ (b : Bench). b .threads (x / 16)) (q .stands .bench)) in
       rw (one-on, done)
       (record {
         deep = deep';
@@ -217,11 +185,13 @@ module _ {file : List ℕ} {k x y e : ℕ} {n : Shapes} {l : List ℕ} {s : Stor
         refusal = refl;
         done = omega (arith, q .stands .done);
         finished = rw (m, q .stands .finished);
-        rows = ro ∙ (ap (λ (i : ℕ). putAll (page buffer at) (rowBytes file i (thread (seen threads x end) own-frames) w)) mine ∙ (ap (λ (v : Thread). putAll (page buffer at) (rowBytes file (x / 16) v w)) at-mine ∙ rw (q .stands .rows, ← putAll-append)));
+        rows = ro ∙ (ap (λ (i : ℕ). putAll (page buffer at) (rowBytes file i (thread (seen threads x end) own-frames) w)) mine
+            ∙ (ap (λ (v : Thread). putAll (page buffer at) (rowBytes file (x / 16) v w)) at-mine ∙ rw (q .stands .rows, ← putAll-append)));
       })
 
   -- or it is refused
-  pub refused-at : (m : ℕ) → recordStep here (lastAction file) x y e ≡ refused m → Stands n l s (stop (stopOf file) (getD counts 4 0)) (threadsOf threads counts h) (stand root used shown m k finished at) first buffer (after file (k + 1))
+  pub refused-at : (m : ℕ) → recordStep here (lastAction file) x y e ≡ refused m
+      → Stands n l s (stop (stopOf file) (getD counts 4 0)) (threadsOf threads counts h) (stand root used shown m k finished at) first buffer (after file (k + 1))
   refused-at m f =
       let done : recordStep (after file k .bench) (lastAction file) x y e ≡ refused m = rw (q .stands .bench) at f in
       rw (one-on, done)
@@ -239,18 +209,17 @@ module _ {file : List ℕ} {k x y e : ℕ} {n : Shapes} {l : List ℕ} {s : Stor
       ∙ ap (λ (m : ℕ). answered m here (x / 16 % 4) (x % 16) y e) (ap (λ (t : Thread). asked (lastAction file) x y e (t .place)) own ∙ f)
 
   pub wants-step : a ≡ 0 → wants ≡ 0
-  wants-step z = joint-step wants (sym (q .asks) ∙ z)
+  wants-step z = sym (q .asks) ∙ z
 
-  -- a start is a query's by its action
-  pub wants-start : a ≡ 1 → (x % 16 ≡ 6 → ⊥) → wants ≡ 1
-  wants-start z o = ⊎-elim (λ f. f) (λ f. absurd (o (query-action (lastAction file) x y e (seen threads x end .place) f))) (joint-start wants (sym (q .asks) ∙ z))
+  pub wants-start : a ≡ 1 → wants ≡ 1
+  wants-start z = sym (q .asks) ∙ z
 
-  pub wants-query : a ≡ 1 → x % 16 ≡ 6 → wants ≡ 2
-  unfolding starting ite
-  wants-query z o = ⊎-elim (λ f. absurd (clash (rw (eq-eqb (x % 16) 6 o) at (start-begun (lastAction file) x y e (seen threads x end .place) f)))) (λ f. f) (joint-start wants (sym (q .asks) ∙ z))
-    where
-      clash : {b c : Action} → begun b y e 60 ≡ begun c y e 1 → ⊥
-      clash f = let z : _≡_ {A = ℕ} 60 1 = ap (λ (t : Thread). t .place) f in omega arith
+  -- a query's start, which has the query's number
+  pub wants-query : a ≡ 2 → wants ≡ 2
+  wants-query z = sym (q .asks) ∙ z
+
+  pub queries : a ≡ 2 → x % 16 ≡ 6
+  queries z = query-action (lastAction file) x y e (seen threads x end .place) (wants-query z)
 
   -- the table with the notes v for its thread, and c frames, or as many as before
   pub table-with : {h' : ℕ → Frame} (v : Notes) (c : ℕ) → ((u j : ℕ) → j ≤ 4 → (u ≡ x / 16 % 4 → ⊥) → framesOf h' u j ≡ framesOf h u j)
@@ -262,12 +231,13 @@ module _ {file : List ℕ} {k x y e : ℕ} {n : Shapes} {l : List ℕ} {s : Stor
   table-noted {h'} v o = put-notes threads counts h h' (x / 16 % 4) v (omega (arith, q .four)) (omega arith) each-few o
 
   -- a start that is no query's
-  pub start-on : {v : Notes} → a ≡ 1 → (x % 16 ≡ 6 → ⊥) → thread v [] ≡ starting (x % 16) y e
-      → Stands n l s (stop (stopOf file) (getD (set counts (x / 16 % 4) 0) 4 0)) (threadsOf (set threads (x / 16 % 4) v) (set counts (x / 16 % 4) 0) h) (stand root used shown 0 (k + 1) finished at) first buffer (after file (k + 1))
+  pub start-on : {v : Notes} → a ≡ 1 → thread v [] ≡ starting (x % 16) y e
+      → Stands n l s (stop (stopOf file) (getD (set counts (x / 16 % 4) 0) 4 0)) (threadsOf (set threads (x / 16 % 4) v) (set counts (x / 16 % 4) 0) h)
+      (stand root used shown 0 (k + 1) finished at) first buffer (after file (k + 1))
   unfolding putAll
-  start-on {v} z o f =
-      let begins : thread v [] ≡ begun (actionOf (x % 16)) y e 1 = f ∙ start-begun (lastAction file) x y e (seen threads x end .place) (wants-start z o) in
-      carried-on (set counts (x / 16 % 4) 0) (thread v []) noRow (table-with v 0 (λ _ _ _ _. refl)) (count-kept counts 0) (asked-on (wants-start z o) ∙ rw begins) (q .stands .depths) (omega arith) refl
+  start-on {v} z f =
+      let begins : thread v [] ≡ begun (actionOf (x % 16)) y e 1 = f ∙ start-begun (lastAction file) x y e (seen threads x end .place) (wants-start z) in
+      carried-on (set counts (x / 16 % 4) 0) (thread v []) noRow (table-with v 0 (λ _ _ _ _. refl)) (count-kept counts 0) (asked-on (wants-start z) ∙ rw begins) (q .stands .depths) (omega arith) refl
 
   -- a refusal
   refused-by : (m : ℕ) → 2 < m → (b : Bench) (t c : ℕ) → answered m b t c y e ≡ refused m
@@ -277,7 +247,11 @@ module _ {file : List ℕ} {k x y e : ℕ} {n : Shapes} {l : List ℕ} {s : Stor
   refused-by (suc (suc (suc m))) z b t c = refl
 
   pub refused-on : 2 < a → Stands n l s (stop (stopOf file) (getD counts 4 0)) (threadsOf threads counts h) (stand root used shown a k finished at) first buffer (after file (k + 1))
-  refused-on z = refused-at a (asked-on (joint-over wants (omega (arith, q .asks)) ∙ sym (q .asks)) ∙ refused-by a z _ _ _)
+  refused-on z = refused-at a (asked-on (sym (q .asks)) ∙ refused-by a z _ _ _)
+
+  -- its number is above 5
+  pub over : 3 ≤ a → 5 < a
+  over z = let h : 2 < wants → 5 < wants = high (lastAction file) x y e (seen threads x end .place) .over in omega (arith, q .asks, h (omega (arith, q .asks)))
 
   -- a thread that takes a step is not idle
   pub awake : a ≡ 0 → 0 < seen threads x end .place
@@ -296,12 +270,14 @@ module _ {file : List ℕ} {k x y e : ℕ} {n : Shapes} {l : List ℕ} {s : Stor
     top = topAfter (step (placeOf (seen threads x end .place)) (sight n root used s shown (stop (stopOf file) (getD counts 4 0))) (thread (seen threads x end) own-frames))
 
     -- numbers have run out
-    pub full-on : {threads' : List Notes} → d .what ≡ 2 → threads' ≡ threads → Stands n l s (stop (stopOf file) (getD counts 4 0)) (threadsOf threads' counts h) (stand root used shown 13 k finished at) first buffer (after file (k + 1))
+    pub full-on : {threads' : List Notes} → d .what ≡ 2 → threads' ≡ threads
+        → Stands n l s (stop (stopOf file) (getD counts 4 0)) (threadsOf threads' counts h) (stand root used shown 13 k finished at) first buffer (after file (k + 1))
     full-on o g = rw g (refused-at 13 (steps-on (runs-out here (x / 16 % 4) (seen threads x end) r own-frames d own i o)))
 
     -- where it opens a frame there is room: its thread has one more after it
     pub opens-one : d .what ≡ 0 → d .note ≡ Opened → after file (k + 1) .bench .threads (x / 16 % 4) .frames ≡ top ∷ own-frames
-    opens-one o f = ap (λ (w : Bench). w .threads (x / 16 % 4) .frames) (next-bench (steps-on (goes-on here (x / 16 % 4) (seen threads x end) r own-frames d own i o (opened-noted d f)))) ∙ rw (eq-eqb (x / 16 % 4) (x / 16 % 4) refl, f)
+    opens-one o f = ap (λ (w : Bench). w .threads (x / 16 % 4) .frames) (next-bench (steps-on (goes-on here (x / 16 % 4) (seen threads x end) r own-frames d own i o (opened-noted d f))))
+        ∙ rw (eq-eqb (x / 16 % 4) (x / 16 % 4) refl, f)
 
     pub opens-few : d .what ≡ 0 → d .note ≡ Opened → getD counts (x / 16 % 4) 0 < 4
     opens-few o f =
@@ -310,13 +286,16 @@ module _ {file : List ℕ} {k x y e : ℕ} {n : Shapes} {l : List ℕ} {s : Stor
 
     -- it goes on or finishes; what it writes leaves n', root', used' and the depths l'. The routes read are noted in `threads'`, and `counts'` has the
     -- new count
-    module _ {n' : Shapes} (l' : List ℕ) {root' used' : ℕ} {threads' : List Notes} {counts' : List ℕ} (w : Applied n root used s shown effect n' root' s) (g : length l' ≡ 16384 → rows l' ≡ deepened effect n (q .stands .deep)) (u : used' ≡ usedAfter used effect)
+    module _ {n' : Shapes} (l' : List ℕ) {root' used' : ℕ} {threads' : List Notes} {counts' : List ℕ} (w : Applied n root used s shown effect n' root' s)
+        (g : length l' ≡ 16384 → rows l' ≡ deepened effect n (q .stands .deep)) (u : used' ≡ usedAfter used effect)
         (b : Rereads (x / 16 % 4) r end threads threads') (c : Recounts (seen threads x end .place) counts counts') where
-      stored-on : (d .what ≡ 2 → ⊥) → store (full n' (deepened effect n (q .stands .deep))) root' used' s shown (stop (stopOf file) (recounted (seen threads x end .place) (getD counts 4 0))) ≡ perform (counted (seen threads x end .place) effect) (here .store)
+      stored-on : (d .what ≡ 2 → ⊥) → store (full n' (deepened effect n (q .stands .deep))) root' used' s shown
+          (stop (stopOf file) (recounted (seen threads x end .place) (getD counts 4 0))) ≡ perform (counted (seen threads x end .place) effect) (here .store)
       stored-on o =
           let v : Stop = stop (stopOf file) (recounted (seen threads x end .place) (getD counts 4 0)) in
           ap (λ (j : ℕ). store (full n' (deepened effect n (q .stands .deep))) root' used' s j v) (sym (shown-still (d .writes) (d .effect) shown))
-          ∙ (rw u (w .stored (q .stands .deep) v) ∙ count-stored (seen threads x end .place) effect (full n (q .stands .deep)) root used s shown (stopOf file) (getD counts 4 0) _ (λ m. i .quiet m o) refl)
+          ∙ (rw u (w .stored (q .stands .deep) v)
+          ∙ count-stored (seen threads x end .place) effect (full n (q .stands .deep)) root used s shown (stopOf file) (getD counts 4 0) _ (λ m. i .quiet m o) refl)
 
       -- the table with the notes v for its thread, and m frames, or as many as before
       again-with : {h' : ℕ → Frame} (v : Notes) (m : ℕ) → ((u j : ℕ) → j ≤ 4 → (u ≡ x / 16 % 4 → ⊥) → framesOf h' u j ≡ framesOf h u j)
@@ -344,7 +323,8 @@ module _ {file : List ℕ} {k x y e : ℕ} {n : Shapes} {l : List ℕ} {s : Stor
 
       -- in two stores: the place, then the note
       pub noted-twice : (v : Notes) {t : Notes} → d .what ≡ 0 → Noted (seen threads' x end) t (d .note) (d .place) (d .value) → framesAfter (d .note) top own-frames ≡ own-frames
-          → Stands n' l' s (stop (stopOf file) (getD counts' 4 0)) (threadsOf (set (set threads' (x / 16 % 4) v) (x / 16 % 4) t) counts' h) (stand root' used' shown 0 (k + 1) finished at) first buffer (after file (k + 1))
+          → Stands n' l' s (stop (stopOf file) (getD counts' 4 0)) (threadsOf (set (set threads' (x / 16 % 4) v) (x / 16 % 4) t) counts' h)
+          (stand root' used' shown 0 (k + 1) finished at) first buffer (after file (k + 1))
       noted-twice v o f j = rw set-set (noted-on o f j)
 
       -- with a new frame, for the range base that it has reached: nothing is written, so the base is as it was
@@ -353,12 +333,15 @@ module _ {file : List ℕ} {k x y e : ℕ} {n : Shapes} {l : List ℕ} {s : Stor
           let m : ℕ = seen threads x end .base in
           let c : (effect ≡ Quiet) × (top ≡ helping (n m)) = opened (sight n root used s shown (stop (stopOf file) (getD counts 4 0))) (seen threads x end) low r d i own-frames o f in
           let v : Stop = stop (stopOf file) (getD counts 4 0) in
-          let kept : store (full n' (deepened effect n (q .stands .deep))) root' (usedAfter used effect) s (shownAfter shown effect) v ≡ here .store = w .stored (q .stands .deep) v ∙ ap (λ (a : Effect). perform a (here .store)) (c .0) in
+          let kept : store (full n' (deepened effect n (q .stands .deep))) root' (usedAfter used effect) s (shownAfter shown effect) v ≡ here .store =
+          w .stored (q .stands .deep) v ∙ ap (λ (a : Effect). perform a (here .store)) (c .0) in
           ap (λ (t : Store). newFrame (t .nodes m .lower) (t .nodes m .upper) (To (t .nodes m .store))) kept ∙ sym (c .1)
 
       pub opened-on : {v : Notes} {h' : ℕ → Frame} → d .what ≡ 0 → d .note ≡ Opened → Noted (seen threads' x end) v (d .note) (d .place) (d .value)
           → Opens h h' (x / 16 % 4) (getD counts' (x / 16 % 4) 0) (helping (n' (seen threads' x end .base)))
-          → Stands n' l' s (stop (stopOf file) (getD (set counts' (x / 16 % 4) (getD counts' (x / 16 % 4) 0 + 1)) 4 0)) (threadsOf (set threads' (x / 16 % 4) v) (set counts' (x / 16 % 4) (getD counts' (x / 16 % 4) 0 + 1)) h') (stand root' used' shown 0 (k + 1) finished at) first buffer (after file (k + 1))
+          → Stands n' l' s (stop (stopOf file) (getD (set counts' (x / 16 % 4) (getD counts' (x / 16 % 4) 0 + 1)) 4 0))
+          (threadsOf (set threads' (x / 16 % 4) v) (set counts' (x / 16 % 4) (getD counts' (x / 16 % 4) 0 + 1)) h')
+          (stand root' used' shown 0 (k + 1) finished at) first buffer (after file (k + 1))
       unfolding putAll
       opened-on {v} {h'} o f j p =
           let t : ℕ = x / 16 % 4 in
@@ -370,22 +353,28 @@ module _ {file : List ℕ} {k x y e : ℕ} {n : Shapes} {l : List ℕ} {s : Stor
 
       -- back, where its frames lead
       pub back-on : {v : Notes} {h' : ℕ → Frame} {p : ℕ} → 2 < d .what → Noted (seen threads' x end) v Nothing p 0 → Backs h h' (x / 16 % 4) (getD counts' (x / 16 % 4) 0) p
-          → Stands n' l' s (stop (stopOf file) (getD counts' 4 0)) (threadsOf (set threads' (x / 16 % 4) v) counts' h') (stand root' used' shown 0 (k + 1) finished at) first buffer (after file (k + 1))
+          → Stands n' l' s (stop (stopOf file) (getD counts' 4 0)) (threadsOf (set threads' (x / 16 % 4) v) counts' h')
+          (stand root' used' shown 0 (k + 1) finished at) first buffer (after file (k + 1))
       unfolding putAll
       back-on {v} {h'} {p} o f m =
           let to : Backs h h' (x / 16 % 4) (getD counts (x / 16 % 4) 0) p = rw still-framed at m in
           carried-on counts' (thread v (framesOf h' (x / 16 % 4) (getD counts (x / 16 % 4) 0))) noRow (again-noted v (m .others)) (c .count)
-          (steps-on (goes-back here (x / 16 % 4) (seen threads x end) r own-frames d own i o (noted-of Nothing p 0 f) (to .turn effect (thread (reread r (seen threads x end)) own-frames)) ∙ rw (← stored-on (λ m. omega arith)))) g (omega arith) refl
+          (steps-on (goes-back here (x / 16 % 4) (seen threads x end) r own-frames d own i o (noted-of Nothing p 0 f)
+          (to .turn effect (thread (reread r (seen threads x end)) own-frames)) ∙ rw (← stored-on (λ m. omega arith)))) g (omega arith) refl
 
       -- with a row: from version 2 on the depths are lent whole, and the depth is read in them after what is written
-      pub said-on : {v : Notes} {finished' at' : ℕ} {buffer' : List ℕ} (m : ℕ) → d .what ≡ 1 → thread v [] ≡ idle → finished' ≡ 1 + finished → m ≡ version file → ((version file ≡ 1 → ⊥) → length l' ≡ 16384)
+      pub said-on : {v : Notes} {finished' at' : ℕ} {buffer' : List ℕ} (m : ℕ) → d .what ≡ 1 → thread v [] ≡ idle → finished' ≡ 1 + finished → m ≡ version file
+          → ((version file ≡ 1 → ⊥) → length l' ≡ 16384)
           → page buffer' at' ≡ putAll (page buffer at) (rowOf m (x / 16 % 4) (seen threads' x end) (d .answer) (depthBy (d .answer) (rows l') (seen threads' x end .station)))
-          → Stands n' l' s (stop (stopOf file) (getD (set counts' (x / 16 % 4) 0) 4 0)) (threadsOf (set threads' (x / 16 % 4) v) (set counts' (x / 16 % 4) 0) h) (stand root' used' shown 0 (k + 1) finished' at') first buffer' (after file (k + 1))
+          → Stands n' l' s (stop (stopOf file) (getD (set counts' (x / 16 % 4) 0) 4 0)) (threadsOf (set threads' (x / 16 % 4) v) (set counts' (x / 16 % 4) 0) h)
+          (stand root' used' shown 0 (k + 1) finished' at') first buffer' (after file (k + 1))
       said-on {v} m o f j vs len ro =
           let deep : Rows = q .stands .deep in
           let found : (version file ≡ 1 → ⊥) → depthBy (d .answer) (rows l') (seen threads x end .station) ≡ depthIn (d .answer) (full n deep) (seen threads x end .station) =
-          λ z. ap (λ (r : Rows). depthBy (d .answer) r (seen threads x end .station)) (g (len z)) ∙ depth-still (sight n root used s shown (stop (stopOf file) (getD counts 4 0))) (seen threads x end) low r d i own-frames n deep (seen threads x end .station) o in
-          carried-on (set counts' (x / 16 % 4) 0) (thread v []) (row (shownAs (d .answer)) (depthIn (d .answer) (full n deep) (seen threads x end .station)) 0) (again-with v 0 (λ _ _ _ _. refl)) (count-kept counts' 0 ∙ c .count)
+          λ z. ap (λ (r : Rows). depthBy (d .answer) r (seen threads x end .station)) (g (len z))
+          ∙ depth-still (sight n root used s shown (stop (stopOf file) (getD counts 4 0))) (seen threads x end) low r d i own-frames n deep (seen threads x end .station) o in
+          carried-on (set counts' (x / 16 % 4) 0) (thread v []) (row (shownAs (d .answer)) (depthIn (d .answer) (full n deep) (seen threads x end .station)) 0)
+          (again-with v 0 (λ _ _ _ _. refl)) (count-kept counts' 0 ∙ c .count)
           (steps-on (finishes here (x / 16 % 4) (seen threads x end) r own-frames d own i o ∙ rw (← stored-on (λ m. omega arith), f))) g j
           (ro ∙ (ap (λ (t : Notes). putAll (page buffer at) (rowOf m (x / 16 % 4) t (d .answer) (depthBy (d .answer) (rows l') (t .station)))) (b .own)
           ∙ ap (putAll (page buffer at)) (row-as file m (x / 16 % 4) (seen threads x end) own-frames (d .answer) _ _ vs found)))
@@ -395,5 +384,6 @@ pub back-none : (h : ℕ → Frame) (t d : ℕ) → d ≡ 0 → Backs h h t d 1
 back-none h t d z = record { turn = λ e th. rw z; others = λ _ _ _ _. refl }
 
 -- the depths after a step, where they are lent
-pub deeper : {n n' : Shapes} {l l' : List ℕ} {s s' : Stores} {v : Stop} {threads : ℕ → Thread} {t : Standing} {first buffer : List ℕ} {p : Progress} {e : Effect} {root used shown r : ℕ} (h : Stands n l s v threads t first buffer p) → Enacted n l root used s shown e n' l' r s' → length l' ≡ length l → length l' ≡ 16384 → rows l' ≡ deepened e n (h .deep)
+pub deeper : {n n' : Shapes} {l l' : List ℕ} {s s' : Stores} {v : Stop} {threads : ℕ → Thread} {t : Standing} {first buffer : List ℕ} {p : Progress} {e : Effect} {root used shown r : ℕ}
+    (h : Stands n l s v threads t first buffer p) → Enacted n l root used s shown e n' l' r s' → length l' ≡ length l → length l' ≡ 16384 → rows l' ≡ deepened e n (h .deep)
 deeper {n} {l = l} {l' = l'} {e = e} h o same z = let w : length l ≡ 16384 = sym same ∙ z in o .depths .rows w ∙ ap (deepened e n) (h .depths w)

@@ -2,9 +2,9 @@
 ghost use mathlib.Core.Path.{_≡_};
 ghost use mathlib.Core.Bool.{false};
 ghost use mathlib.Core.List.{[], _∷_};
-ghost use Prim.Native.Nat.{_+_, _*_, _/_, _%_, _≤_};
+ghost use Prim.Native.Nat.{_+_, _*_, _/_, _%_, _≤_, _<_};
 ghost use lib.Dec.{eqb};
-ghost use lib.ListN.{length};
+ghost use lib.ListN.{length, getD};
 ghost use Rattle.container.specs.Choice.{ite};
 ghost use Rattle.nodes.specs.Cells.{table};
 ghost use Rattle.nodes.specs.Stores.{stores};
@@ -20,11 +20,11 @@ ghost use Rattle.definitions.specs.Records.{actionNumber};
 ghost use Rattle.definitions.specs.Schedule.{countOf};
 ghost use Rattle.definitions.specs.Versions.{version, by, width};
 ghost use Rattle.definitions.specs.Run.{ended, reportOf, overlay, widerRow, runRefusal, runReport, runBuffer};
+ghost use Rattle.run.specs.Threads.{recounted};
 ghost use Rattle.run.specs.Standing.{Lent, Spare, rowOf, Carried, Handed};
 use definitions::Action;
 use definitions::Answer;
 use definitions::Report;
-use schedule::Record;
 use steps::Note;
 use steps::Notes;
 use steps::search;
@@ -107,12 +107,43 @@ pub fn put_row(
     put_depth(rows, next, depth)
 }
 
+// The count of the stop after a step at this place.
+fn recount(place: u8, count: usize) -> usize
+    requires { ⌜ (count < 5) × (place ≡ 5 → 0 < count) ⌝ }
+    ensures { λ r. ⌜ r ≡ recounted place count ⌝ }
+{
+    if place == 4 {
+        return count + 1;
+    }
+    if place == 5 {
+        return count - 1;
+    }
+    count
+}
+
+// A number by its two bytes.
+fn word(high: u8, low: u8) -> u16
+    ensures { λ r. ⌜ r ≡ high * 256 + low ⌝ }
+{
+    high as u16 * 256 + low as u16
+}
+
+// The last two bytes of a record from version 2 on, which starts at `from`.
+fn extra_at(schedule: &[u8], from: usize) -> u16
+    requires { ⌜ from + 3 < length (now schedule) ⌝ }
+    ensures { λ r. ⌜ r ≡ getD (now (schedule .entry)) (from + 2) 0 * 256 + getD (now (schedule .entry)) (from + 3) 0 ⌝ }
+{
+    let high = schedule[from + 2];
+    let low = schedule[from + 3];
+    word(high, low)
+}
+
 // All records of a file that is not refused, from a fresh bench; the first one refused ends them. A thread's record changes where it
-// lies; what decides a step gets a copy, made once the place is known, so that only the notes it reads are loaded. The first two bytes
-// of a record are read as in version 1; a version that has more reads it again, whole, so that version 1 pays nothing for it. `frames`
-// has how many frames each thread has; the arrays that hold them may hold anything at first. A file that asks for no query has no frame
-// and no result of a store, and may be lent no memory for them. Last in `frames` is the count of the stop: a variable of its own would
-// cost every record more.
+// lies; what decides a step gets a copy, made once the place is known, so that only the notes it reads are loaded. Version 1 has a way of
+// its own to ask, so that it pays nothing for what the others have more. `frames` has how many frames each thread has; the arrays that
+// hold them may hold anything at first. A file that asks for no query has no frame and no result of a store, and may be lent no memory for
+// them. Last in `frames` is the count of the stop: a variable of its own would cost every record more. `job` is what is left to do once a
+// record has been looked at: 0, nothing; 5, the row of `answer`; else what `query::round` does, a refusal among it.
 pub fn carry_out(
     cells: &mut [u8; 5120],
     sets: &mut [u64; 256],
@@ -126,8 +157,11 @@ pub fn carry_out(
     schedule: &[u8],
     rows: &mut [u8],
 ) -> Standing
-    requires { ⌜ Proper (now schedule) × ((table (now cells) (now sets) ≡ (λ _. shape emptyBase)) × ((stores (now flags) (now results) ≡ (λ _. Unset)) × (Lent (now schedule) (now depths) × Spare (now schedule) (now results) (now stacks) (now backups) (now notes) (now words)))) ⌝ }
-    ensures { λ r. ⌜ Carried (now (schedule .entry)) (countOf (now (schedule .entry))) (table (now (cells .exit)) (now (sets .exit))) (now (depths .exit)) (stores (now (flags .exit)) (now (results .exit))) r (now (rows .entry)) (now (rows .exit)) × Handed (now (schedule .entry)) (ended (now (schedule .entry)) .bench) r (now (stacks .exit)) (now (backups .exit)) (now (notes .exit)) (now (words .exit)) ⌝ }
+    requires { ⌜ Proper (now schedule) × ((table (now cells) (now sets) ≡ (λ _. shape emptyBase))
+        × ((stores (now flags) (now results) ≡ (λ _. Unset)) × (Lent (now schedule) (now depths) × Spare (now schedule) (now results) (now stacks) (now backups) (now notes) (now words)))) ⌝ }
+    ensures { λ r. ⌜ Carried (now (schedule .entry)) (countOf (now (schedule .entry))) (table (now (cells .exit)) (now (sets .exit)))
+        (now (depths .exit)) (stores (now (flags .exit)) (now (results .exit))) r (now (rows .entry)) (now (rows .exit))
+        × Handed (now (schedule .entry)) (ended (now (schedule .entry)) .bench) r (now (stacks .exit)) (now (backups .exit)) (now (notes .exit)) (now (words .exit)) ⌝ }
 {
     let v = schedule::version_of(schedule);
     let idle = machine::idle_notes();
@@ -142,285 +176,191 @@ pub fn carry_out(
     let mut from = 3usize;
     let mut k = 0usize;
     while from < schedule.len() {
-        let short = schedule::read(schedule, from, 1);
-        let record = short.found;
-        let mut after = short.at;
-        // a proper file has as many records as its header says
-        let Record::Of(x, y, _) = record else {
-            return Standing {
-                root: root,
-                used: used,
-                shown: shown,
-                refusal: 0,
-                done: k,
-                finished: finished,
-                at: at,
-                threads: threads,
-                frames: frames,
-            };
-        };
+        let x = schedule[from];
+        let y = schedule[from + 1];
+        let mut after = from + 2;
         let next = k + 1;
         let t = (x / 16 % 4) as usize;
         let place = threads[t].place;
         let mut extra = 0u16;
-        let mut first = x;
-        if v != 1 {
-            let whole = schedule::read(schedule, from, v);
-            let wide = whole.found;
-            let Record::Of(_, _, e) = wide else {
-                return Standing {
-                    root: root,
-                    used: used,
-                    shown: shown,
-                    refusal: 0,
-                    done: k,
-                    finished: finished,
-                    at: at,
-                    threads: threads,
-                    frames: frames,
-                };
-            };
-            extra = e;
-            after = whole.at;
-            let wanted = machine::ask(6, x, y, extra, place);
-            if 2 < wanted {
-                return Standing {
-                    root: root,
-                    used: used,
-                    shown: shown,
-                    refusal: wanted,
-                    done: k,
-                    finished: finished,
-                    at: at,
-                    threads: threads,
-                    frames: frames,
-                };
-            }
-            // a query's start goes on as a lookup's
-            if wanted == 2 {
-                first = x - 5;
-            }
-        }
-        let asked = machine::ask(5, first, y, 0, place);
+        let asked = if v == 1 {
+            machine::ask(5, x, y, 0, place)
+        } else {
+            extra = extra_at(schedule, from);
+            after = from + 4;
+            machine::ask(6, x, y, extra, place)
+        };
+        let mut job = 0u8;
+        let mut answer = Answer::No;
         match asked {
-            // a step: 1 and 2, 3, 10 to 13, or 15 to 51 decide, with the stop on also 4, 5 and 19; from 60 on it is a query's
             0 => {
-                let d = if place < 3 {
+                if place < 3 {
+                    // 1, 2: the search, which writes nothing
                     if on {
-                        let th = threads[t];
-                        threads[t].read = search::read_after(th);
+                        threads[t].read = search::read_after(threads[t]);
                     }
-                    let th = threads[t];
-                    search::find(cells, sets, root, on, th)
-                } else if place == 3 {
-                    let th = threads[t];
-                    search::examine(
-                        cells,
-                        sets,
-                        flags,
-                        results,
-                        root,
-                        used,
-                        shown,
-                        on,
-                        frames[4],
-                        th,
-                    )
-                } else if place < 10 {
-                    let th = threads[t];
-                    search::count(cells, sets, th)
-                } else if place < 14 {
-                    let th = threads[t];
-                    steps::decide_swap(
-                        cells,
-                        sets,
-                        flags,
-                        results,
-                        root,
-                        used,
-                        shown,
-                        on,
-                        frames[4],
-                        th,
-                    )
-                } else if place < 60 {
-                    let th = threads[t];
-                    steps::decide_join(
-                        cells,
-                        sets,
-                        flags,
-                        results,
-                        root,
-                        used,
-                        shown,
-                        on,
-                        frames[4],
-                        th,
-                    )
-                } else {
-                    let th = threads[t];
-                    let depth = frames[t];
-                    let left = query::turn(
-                        cells,
-                        sets,
-                        depths,
-                        flags,
-                        results,
-                        root,
-                        used,
-                        shown,
-                        &mut stacks[0],
-                        &mut backups[0],
-                        &mut notes[0],
-                        &mut words[0],
-                        t,
-                        depth,
-                        th,
-                    );
-                    let what = left.what;
-                    if 1 < what {
-                        return Standing {
-                            root: root,
-                            used: used,
-                            shown: shown,
-                            refusal: what,
-                            done: k,
-                            finished: finished,
-                            at: at,
-                            threads: threads,
-                            frames: frames,
-                        };
-                    }
-                    root = left.root;
-                    used = left.used;
-                    shown = left.shown;
+                    let d = search::find(cells, sets, root, on, threads[t]);
+                    let what = d.what;
                     if what == 0 {
-                        threads[t].place = left.place;
-                        threads[t].base = left.base;
-                        frames[t] = left.frames;
+                        let note = d.note;
+                        match note {
+                            Note::Route => {
+                                threads[t].place = d.place;
+                                threads[t].route = d.value;
+                            }
+                            _ => {
+                                threads[t] = machine::note(threads[t], d.place, note, d.value);
+                            }
+                        }
                     } else {
-                        at = query::put_found(rows, at, v, t as u8, th, left.set);
-                        finished += 1;
-                        threads[t] = idle;
-                        frames[t] = 0;
+                        answer = d.answer;
+                        job = 5;
                     }
-                    from = after;
-                    k = next;
-                    continue;
-                };
-                let what = d.what;
-                if what == 2 {
-                    return Standing {
-                        root: root,
-                        used: used,
-                        shown: shown,
-                        refusal: 13,
-                        done: k,
-                        finished: finished,
-                        at: at,
-                        threads: threads,
-                        frames: frames,
+                } else if place < 60 {
+                    // 3, 10 to 13, or 15 to 51, with the stop on also 4, 5 and 19
+                    let cs = &*cells;
+                    let ss = &*sets;
+                    let fs = &*flags;
+                    let rs = &results[..];
+                    let d = if place == 3 {
+                        search::examine(
+                            cs,
+                            ss,
+                            fs,
+                            rs,
+                            root,
+                            used,
+                            shown,
+                            on,
+                            frames[4],
+                            threads[t],
+                        )
+                    } else if place < 10 {
+                        frames[4] = recount(place, frames[4]);
+                        search::count(cs, ss, threads[t])
+                    } else if place < 14 {
+                        steps::decide_swap(
+                            cs,
+                            ss,
+                            fs,
+                            rs,
+                            root,
+                            used,
+                            shown,
+                            on,
+                            frames[4],
+                            threads[t],
+                        )
+                    } else {
+                        steps::decide_join(
+                            cs,
+                            ss,
+                            fs,
+                            rs,
+                            root,
+                            used,
+                            shown,
+                            on,
+                            frames[4],
+                            threads[t],
+                        )
                     };
-                }
-                let effect = d.effect;
-                root = machine::enact(cells, sets, depths, root, used, d.writes, effect);
-                used = machine::used_then(used, d.writes, effect);
-                if place == 4 {
-                    frames[4] = frames[4] + 1;
-                } else if place == 5 {
-                    frames[4] = frames[4] - 1;
-                }
-                if what == 0 {
-                    let note = d.note;
-                    match note {
-                        Note::Nothing => {
-                            threads[t].place = d.place;
-                        }
-                        Note::Route => {
-                            threads[t].place = d.place;
-                            threads[t].route = d.value;
-                        }
-                        // a range base is in the way: its query is helped in a frame of its own
-                        Note::Opened => {
-                            let th = threads[t];
-                            let depth = frames[t];
-                            query::help(
-                                cells,
-                                sets,
-                                &mut stacks[0],
-                                &mut backups[0],
-                                &mut notes[0],
-                                &mut words[0],
-                                t,
-                                depth,
-                                th,
-                            );
-                            threads[t].place = d.place;
-                            frames[t] = depth + 1;
-                        }
-                        _ => {
-                            let th = threads[t];
-                            let noted = machine::note(th, d.place, note, d.value);
-                            threads[t] = noted;
-                        }
-                    }
-                } else if what == 1 {
-                    let th = threads[t];
-                    let answer = d.answer;
-                    at = put_row(rows, at, v, t as u8, th, answer, depths);
-                    finished = finished + 1;
-                    threads[t] = idle;
-                    frames[t] = 0;
-                } else {
-                    // back: where its frames lead
-                    let depth = frames[t];
-                    if depth == 0 {
-                        threads[t].place = 1;
+                    let what = d.what;
+                    if what == 2 {
+                        job = 13;
                     } else {
-                        let back = frames::leave(
-                            &mut stacks[0],
-                            &backups[0],
-                            &mut notes[0],
-                            &mut words[0],
-                            t,
-                            depth,
-                        );
-                        threads[t].place = back;
+                        let effect = d.effect;
+                        root = machine::enact(cells, sets, depths, root, used, d.writes, effect);
+                        used = machine::used_then(used, d.writes, effect);
+                        if what == 0 {
+                            let note = d.note;
+                            match note {
+                                Note::Nothing => {
+                                    threads[t].place = d.place;
+                                }
+                                // a range base is in the way: its query is helped in a frame of its own
+                                Note::Opened => {
+                                    threads[t].place = d.place;
+                                    job = 2;
+                                }
+                                _ => {
+                                    threads[t] = machine::note(threads[t], d.place, note, d.value);
+                                }
+                            }
+                        } else if what == 1 {
+                            answer = d.answer;
+                            job = 5;
+                        } else {
+                            job = 3;
+                        }
                     }
+                } else {
+                    job = 4;
                 }
             }
             // a start; a query's has a frame
-            1 => {
-                let begun = machine::begin(x % 16, y, extra);
-                threads[t] = begun;
-                if x % 16 == 6 {
-                    query::start(
-                        &mut stacks[0],
-                        &mut backups[0],
-                        &mut notes[0],
-                        &mut words[0],
-                        t,
-                        y,
-                        extra,
-                    );
-                    frames[t] = 1;
-                } else {
-                    frames[t] = 0;
+            1 | 2 => {
+                threads[t] = machine::begin(x % 16, y, extra);
+                frames[t] = 0;
+                if asked == 2 {
+                    job = 1;
                 }
             }
             // a refusal
             _ => {
+                job = asked;
+            }
+        }
+        if job == 5 {
+            at = put_row(rows, at, v, t as u8, threads[t], answer, depths);
+            finished = finished + 1;
+            threads[t] = idle;
+            frames[t] = 0;
+        } else if job != 0 {
+            let left = query::round(
+                cells,
+                sets,
+                depths,
+                flags,
+                results,
+                root,
+                used,
+                shown,
+                stacks,
+                backups,
+                notes,
+                words,
+                job,
+                t,
+                frames[t],
+                threads[t],
+            );
+            let what = left.what;
+            if 1 < what {
                 return Standing {
                     root: root,
                     used: used,
                     shown: shown,
-                    refusal: asked,
+                    refusal: what,
                     done: k,
                     finished: finished,
                     at: at,
                     threads: threads,
                     frames: frames,
                 };
+            }
+            root = left.root;
+            used = left.used;
+            shown = left.shown;
+            if what == 0 {
+                threads[t].place = left.place;
+                threads[t].base = left.base;
+                frames[t] = left.frames;
+            } else {
+                at = query::put_found(rows, at, v, t as u8, threads[t], left.set);
+                finished += 1;
+                threads[t] = idle;
+                frames[t] = 0;
             }
         }
         from = after;
@@ -492,7 +432,8 @@ fn report(
     schedule: &[u8],
     rows: &mut [u8],
 ) -> Report
-    requires { ⌜ Proper (now schedule) × (Lent (now schedule) (now depths) × (Spare (now schedule) (now results) (now stacks) (now backups) (now notes) (now words) × (by (now schedule) 2 7 * countOf (now schedule) ≤ length (now rows)))) ⌝ }
+    requires { ⌜ Proper (now schedule) × (Lent (now schedule) (now depths)
+        × (Spare (now schedule) (now results) (now stacks) (now backups) (now notes) (now words) × (by (now schedule) 2 7 * countOf (now schedule) ≤ length (now rows)))) ⌝ }
     ensures { λ r. ⌜ (r ≡ reportOf (ended (now (schedule .entry)))) × (now (rows .exit) ≡ overlay (ended (now (schedule .entry)) .rows) (now (rows .entry))) ⌝ }
 {
     let mut cells = [0u8; 5120];

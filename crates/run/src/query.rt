@@ -11,7 +11,8 @@ ghost use Rattle.buffer.specs.Page.{page, putAll};
 ghost use Rattle.definitions.specs.Run.{bytesOf};
 ghost use Rattle.definitions.specs.Threads.{newFrame};
 ghost use Rattle.definitions.specs.declared.Link.the-variants.{Nil};
-ghost use Rattle.run.specs.Query.{Ranged, Laid, Wrote, helping, Leaves, foundNumber, foundRow};
+ghost use Rattle.run.specs.Threads.{heldIn};
+ghost use Rattle.run.specs.Query.{Ranged, Laid, Wrote, helping, Leaves, goesTo, refusedWith, Due, Rounds, foundNumber, foundRow};
 use definitions::Effect;
 use definitions::Link;
 use frames::Outcome;
@@ -59,7 +60,8 @@ fn write(
     e: Effect,
 ) -> Counts
     requires { ⌜ Ranged e × (length (now results) ≡ 256) ⌝ }
-    ensures { λ r. ⌜ Wrote (table (now (cells .entry)) (now (sets .entry))) (now (depths .entry)) (stores (now (flags .entry)) (now (results .entry))) root used shown e (table (now (cells .exit)) (now (sets .exit))) (now (depths .exit)) (stores (now (flags .exit)) (now (results .exit))) r ⌝ }
+    ensures { λ r. ⌜ Wrote (table (now (cells .entry)) (now (sets .entry))) (now (depths .entry)) (stores (now (flags .entry)) (now (results .entry))) root used shown e
+        (table (now (cells .exit)) (now (sets .exit))) (now (depths .exit)) (stores (now (flags .exit)) (now (results .exit))) r ⌝ }
 {
     match e {
         Effect::Ask {
@@ -121,7 +123,8 @@ pub fn start(
     d: u16,
 )
     requires { ⌜ t < 4 ⌝ }
-    ensures { λ _. ⌜ Opens (held (now (stacks .entry)) (now (backups .entry)) (now (notes .entry)) (now (words .entry))) (held (now (stacks .exit)) (now (backups .exit)) (now (notes .exit)) (now (words .exit))) t 0 (newFrame y (d % 256) Nil) ⌝ }
+    ensures { λ _. ⌜ Opens (held (now (stacks .entry)) (now (backups .entry)) (now (notes .entry)) (now (words .entry)))
+        (held (now (stacks .exit)) (now (backups .exit)) (now (notes .exit)) (now (words .exit))) t 0 (newFrame y (d % 256) Nil) ⌝ }
 {
     let upper = (d % 256) as u8;
     frames::enter(stacks, backups, notes, words, t, 0, y, upper, Link::Nil);
@@ -140,7 +143,8 @@ pub fn help(
     th: Notes,
 )
     requires { ⌜ (t < 4) × (depth < 4) ⌝ }
-    ensures { λ _. ⌜ Opens (held (now (stacks .entry)) (now (backups .entry)) (now (notes .entry)) (now (words .entry))) (held (now (stacks .exit)) (now (backups .exit)) (now (notes .exit)) (now (words .exit))) t depth (helping (table (now (cells .entry)) (now (sets .entry)) (th .base))) ⌝ }
+    ensures { λ _. ⌜ Opens (held (now (stacks .entry)) (now (backups .entry)) (now (notes .entry)) (now (words .entry)))
+        (held (now (stacks .exit)) (now (backups .exit)) (now (notes .exit)) (now (words .exit))) t depth (helping (table (now (cells .entry)) (now (sets .entry)) (th .base))) ⌝ }
 {
     let lower = nodes::lower_at(cells, sets, th.base);
     let upper = nodes::upper_at(cells, sets, th.base);
@@ -179,7 +183,9 @@ pub fn turn(
     th: Notes,
 ) -> Left
     requires { ⌜ (t < 4) × ((depth ≤ 4) × ((60 ≤ th .place) × (Room (th .place) (framesOf (held (now stacks) (now backups) (now notes) (now words)) t depth) × (length (now results) ≡ 256)))) ⌝ }
-    ensures { λ r. ⌜ Leaves (table (now (cells .entry)) (now (sets .entry))) (now (depths .entry)) (stores (now (flags .entry)) (now (results .entry))) root used shown (held (now (stacks .entry)) (now (backups .entry)) (now (notes .entry)) (now (words .entry))) t depth th (table (now (cells .exit)) (now (sets .exit))) (now (depths .exit)) (stores (now (flags .exit)) (now (results .exit))) (held (now (stacks .exit)) (now (backups .exit)) (now (notes .exit)) (now (words .exit))) r ⌝ }
+    ensures { λ r. ⌜ Leaves (table (now (cells .entry)) (now (sets .entry))) (now (depths .entry)) (stores (now (flags .entry)) (now (results .entry))) root used shown
+        (held (now (stacks .entry)) (now (backups .entry)) (now (notes .entry)) (now (words .entry))) t depth th (table (now (cells .exit)) (now (sets .exit)))
+        (now (depths .exit)) (stores (now (flags .exit)) (now (results .exit))) (held (now (stacks .exit)) (now (backups .exit)) (now (notes .exit)) (now (words .exit))) r ⌝ }
 {
     let action = th.action;
     let r = queries::query(
@@ -270,6 +276,126 @@ pub fn turn(
             set: 0,
         },
     }
+}
+
+// A thread goes on, with this place, this base and so many frames; nothing else changes.
+fn moved(root: u8, used: u16, shown: u16, place: u8, base: u8, frames: usize) -> Left
+    ensures { λ r. ⌜ r ≡ goesTo root used shown place base frames ⌝ }
+{
+    Left {
+        what: 0,
+        root: root,
+        used: used,
+        shown: shown,
+        place: place,
+        base: base,
+        frames: frames,
+        set: 0,
+    }
+}
+
+// A record is refused with this number; nothing changes.
+fn refused(root: u8, used: u16, shown: u16, refusal: u8) -> Left
+    ensures { λ r. ⌜ r ≡ refusedWith root used shown refusal ⌝ }
+{
+    Left {
+        what: refusal,
+        root: root,
+        used: used,
+        shown: shown,
+        place: 0,
+        base: 0,
+        frames: 0,
+        set: 0,
+    }
+}
+
+// What has to do with frames. `job`: 1, thread t, which has the notes th, has started a query; 2, it has reached a range base, whose query it
+// is to help; 3, it goes back where its `depth` frames lead; 5 and more, its record is refused with that number; else its step at a place from
+// 60 on. A refusal, and a way back without frames, need none of the memory.
+pub fn round(
+    cells: &mut [u8; 5120],
+    sets: &mut [u64; 256],
+    depths: &mut [u16],
+    flags: &mut [u8; 256],
+    results: &mut [u64],
+    root: u8,
+    used: u16,
+    shown: u16,
+    stacks: &mut [[u8; 1408]],
+    backups: &mut [[u8; 1408]],
+    notes: &mut [[u8; 128]],
+    words: &mut [[u64; 64]],
+    job: u8,
+    t: usize,
+    depth: usize,
+    th: Notes,
+) -> Left
+    requires { ⌜ Due job t depth th (now results) (now stacks) (now backups) (now notes) (now words) ⌝ }
+    ensures { λ r. ⌜ Rounds job (table (now (cells .entry)) (now (sets .entry))) (now (depths .entry)) (stores (now (flags .entry)) (now (results .entry))) root used shown
+        (heldIn (now (stacks .entry)) (now (backups .entry)) (now (notes .entry)) (now (words .entry))) t depth th (table (now (cells .exit)) (now (sets .exit)))
+        (now (depths .exit)) (stores (now (flags .exit)) (now (results .exit))) (heldIn (now (stacks .exit)) (now (backups .exit)) (now (notes .exit)) (now (words .exit))) r ⌝ }
+{
+    if 4 < job {
+        return refused(root, used, shown, job);
+    }
+    if job == 1 {
+        start(
+            &mut stacks[0],
+            &mut backups[0],
+            &mut notes[0],
+            &mut words[0],
+            t,
+            th.station,
+            th.extra,
+        );
+        return moved(root, used, shown, th.place, th.base, 1);
+    }
+    if job == 2 {
+        help(
+            cells,
+            sets,
+            &mut stacks[0],
+            &mut backups[0],
+            &mut notes[0],
+            &mut words[0],
+            t,
+            depth,
+            th,
+        );
+        return moved(root, used, shown, th.place, th.base, depth + 1);
+    }
+    if job == 3 {
+        if depth == 0 {
+            return moved(root, used, shown, 1, th.base, 0);
+        }
+        let back = frames::leave(
+            &mut stacks[0],
+            &backups[0],
+            &mut notes[0],
+            &mut words[0],
+            t,
+            depth,
+        );
+        return moved(root, used, shown, back, th.base, depth);
+    }
+    turn(
+        cells,
+        sets,
+        depths,
+        flags,
+        results,
+        root,
+        used,
+        shown,
+        &mut stacks[0],
+        &mut backups[0],
+        &mut notes[0],
+        &mut words[0],
+        t,
+        depth,
+        th,
+    )
 }
 
 // ---- its row
