@@ -14,3 +14,9 @@ pub mod Unused
 pub mod Cases
 pub mod Loops
 pub mod Files
+pub mod Bits
+pub mod Apart
+pub mod Marking
+pub mod Blocks
+pub mod Visits
+pub mod Marked

@@ -13,7 +13,7 @@ use lib.Dec.{eqb}
 use lib.ListN.{length, getD}
 use Rattle.container.specs.Choice.{ite, upd}
 use Rattle.season.specs.Tally.{starts, unfinished, place, Tally, just, sum, taken, numbers}
-use Rattle.tally.specs.Walk.{packed, firstByte, threadOf, lanes, begun, walked, answerPlace, answered, finished, closed, closing, Room, laneIn, Ready, Turned}
+use Rattle.tally.specs.Walk.{packed, firstByte, threadOf, lanes, begun, walked, answerPlace, answered, finished, closed, closing, Room, laneIn, Ready, Turned, Held}
 use Rattle.tally.proofs.Sums.{sum-assoc, sum-none}
 use Rattle.tally.proofs.Walks.{lanes-step, lanes-start, begun-step, begun-start, walked-step, walked-start, sum-most, taken-most, just-most, lanes-most, begun-most, walked-most, answered-most, finished-most}
 use Rattle.tally.proofs.Lanes.{lane-is, packed-fits, lane-changed, lane-within, unit-small, power-is, closing-some, closing-end}
@@ -46,11 +46,6 @@ pub room-fewer : (l : List ℕ) (m n : ℕ) → m ≤ n → Room l n → Room l 
 room-fewer l m n h r = record { at = λ i b. omega (arith, r .at i b) }
 
 -- ---- the records
-pub record Held (file : List ℕ) (w k : ℕ) (first tally : List ℕ) (a b : ℕ) : Type 0 where
-  pub counts : numbers tally ≡ sum (numbers first) (walked file w k)
-  pub lanes : a ≡ packed 4 (lanes file w k)
-  pub begun : b ≡ packed 4 (begun file w k)
-
 pub held-none : (file : List ℕ) (w : ℕ) (first : List ℕ) → Held file w 0 first first 0 0
 unfolding walked lanes begun packed
 held-none file w first = record { counts = sym (sum-none (numbers first)); lanes = refl; begun = refl }
@@ -122,6 +117,7 @@ module _ (file : List ℕ) (w k : ℕ) (first tally : List ℕ) (a b : ℕ) (few
     ready r = record {
       low = low;
       word = rw (h .lanes) (packed-fits (lanes file w k) lanes-low);
+      other = rw (h .begun) (packed-fits (begun file w k) (λ u l. omega (arith, begun-most file w k u)));
       step = λ s. rw (← thread-is) (step-fits s);
       start = λ s. rw (← thread-is) (start-fits s (a / 65536 ^ threadOf x % 65536) lane-now);
       room = room-now r;

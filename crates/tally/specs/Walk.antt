@@ -9,6 +9,7 @@ use Rattle.container.specs.Choice.{ite, upd}
 use Rattle.definitions.specs.Run.{runReport, runBuffer}
 use Rattle.definitions.specs.declared.Report.{Report}
 use Rattle.season.specs.Tally.{starts, unfinished, place, Tally, empty, just, sum, taken, numbers}
+use Rattle.tally.specs.Marks.{Width, mark, bits}
 
 -- ---- words: n numbers of 16 bits, the lowest first
 unfoldable pub packed : ℕ → (ℕ → ℕ) → ℕ
@@ -85,6 +86,7 @@ laneIn x a = a / 65536 ^ (x / 16) % 65536
 pub record Ready (x a b : ℕ) (l : List ℕ) : Type 0 where
   pub low : x < 64
   pub word : a < 18446744073709551616
+  pub other : b < 18446744073709551616
   pub step : x % 16 ≡ 0 → a + 8 * 65536 ^ (x / 16) < 18446744073709551616
   pub start : (x % 16 ≡ 0 → ⊥)
       → (laneIn x a * 65536 ^ (x / 16) ≤ a)
@@ -98,9 +100,39 @@ pub record Turned (x a b : ℕ) (l : List ℕ) (a' b' : ℕ) (l' : List ℕ) : T
       → (a' ≡ a - laneIn x a * 65536 ^ (x / 16) + x % 8 * 65536 ^ (x / 16))
       × ((b' ≡ b + 65536 ^ (x / 16)) × (numbers l' ≡ sum (sum (numbers l) (taken (laneIn x a % 8) (laneIn x a / 8))) (just (place starts (x % 8)) 1)))
 
+-- the same of a start; a step is left to the records that follow
+pub record Visited (x a b : ℕ) (l : List ℕ) (a' b' : ℕ) (l' : List ℕ) : Type 0 where
+  pub step : x % 16 ≡ 0 → (a' ≡ a) × ((b' ≡ b) × (numbers l' ≡ numbers l))
+  pub start : (x % 16 ≡ 0 → ⊥)
+      → (a' ≡ a - laneIn x a * 65536 ^ (x / 16) + x % 8 * 65536 ^ (x / 16))
+      × ((b' ≡ b + 65536 ^ (x / 16)) × (numbers l' ≡ sum (sum (numbers l) (taken (laneIn x a % 8) (laneIn x a / 8))) (just (place starts (x % 8)) 1)))
+
 -- every one of the first d records has such a byte
 pub record Low (file : List ℕ) (w d : ℕ) : Type 0 where
   pub at : (k : ℕ) → k < d → firstByte file w k < 64
+
+-- ---- the first k records are walked: `first` was the tally before them
+pub record Held (file : List ℕ) (w k : ℕ) (first tally : List ℕ) (a b : ℕ) : Type 0 where
+  pub counts : numbers tally ≡ sum (numbers first) (walked file w k)
+  pub lanes : a ≡ packed 4 (lanes file w k)
+  pub begun : b ≡ packed 4 (begun file w k)
+
+-- what the next n records need, of which m has the marks
+pub record Reached (file : List ℕ) (w k n m a b : ℕ) (l : List ℕ) : Type 0 where
+  pub width : Width w
+  pub some : 1 ≤ k
+  pub few : n ≤ 64
+  pub end : k + n ≤ 4096
+  pub inside : 3 + w * (k + n) ≤ length file
+  pub low : Low file w (k + n)
+  pub marks : m ≡ bits n (λ i. mark file w (3 + w * k + w * i))
+  pub first : List ℕ
+  pub room : Room first 33554432
+  pub held : Held file w k first l a b
+
+-- what they leave
+pub record Onward (file : List ℕ) (w k n a b : ℕ) (l : List ℕ) (a' b' : ℕ) (l' : List ℕ) : Type 0 where
+  pub held : (first : List ℕ) → Held file w k first l a b → Held file w (k + n) first l' a' b'
 
 -- every count is low, and one more of refusal k keeps within 32 bits
 pub record Spare (l : List ℕ) (k : ℕ) : Type 0 where

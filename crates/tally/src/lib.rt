@@ -8,9 +8,14 @@ ghost use lib.ListN.{length, getD};
 ghost use Rattle.definitions.specs.Run.{runBuffer};
 ghost use Rattle.season.specs.Tally.{join, numbers, just, sum, taken, refusedOnce, fits, fileTally, tallyReport, tallyNumbers};
 ghost use Rattle.season.specs.Season.{gcd, average, averageOf};
-ghost use Rattle.tally.specs.Walk.{packed, lanes, begun, walked, answerPlace, answered, finished, closing, Room, Ready, Turned, Low, Spare, Words, Told};
+ghost use Rattle.container.specs.Choice.{ite};
+ghost use lib.Dec.{eqb};
+ghost use Rattle.tally.specs.Walk.{packed, lanes, begun, walked, answerPlace, answered, finished, closing, Room, Ready, Turned, Visited, Reached, Onward, Low, Spare, Words, Told};
+ghost use Rattle.tally.specs.Marks.{Width, mark, bits, stepWord};
 use season::Average;
 use season::Tallied;
+
+mod marks;
 
 // What a walk over the records leaves, a lane of 16 bits for each thread: 8 × own steps + action of its last operation; its starts.
 struct Walked {
@@ -84,7 +89,7 @@ fn walk_one(x: u8, w: Walked, tally: &mut [u32; 65]) -> Walked
 }
 
 // The first `done` records, of `width` bytes each: four a turn, then those that are left.
-fn walk(schedule: &[u8], width: usize, done: usize, tally: &mut [u32; 65]) -> Walked
+fn walk_each(schedule: &[u8], width: usize, done: usize, tally: &mut [u32; 65]) -> Walked
     requires { ⌜ (1 ≤ width) × ((done ≤ 4096) × ((3 + width * done ≤ length (now schedule)) × (Low (now schedule) width done × Room (now tally) 33554432))) ⌝ }
     ensures { λ r. ⌜ (numbers (now (tally .exit)) ≡ sum (numbers (now (tally .entry))) (walked (now (schedule .entry)) width done)) × ((r .lanes ≡ packed 4 (lanes (now (schedule .entry)) width done)) × (r .begun ≡ packed 4 (begun (now (schedule .entry)) width done))) ⌝ }
 {
@@ -105,6 +110,132 @@ fn walk(schedule: &[u8], width: usize, done: usize, tally: &mut [u32; 65]) -> Wa
         k = k + 1;
     }
     w
+}
+
+// ---- many records: only those that are marked are visited, the others are steps of the thread before them
+
+// n more at place i.
+fn count_some(tally: &mut [u32; 65], i: usize, n: u32)
+    requires { ⌜ (i < 40) × Room (now tally) n ⌝ }
+    ensures { λ _. ⌜ numbers (now (tally .exit)) ≡ sum (numbers (now (tally .entry))) (just i n) ⌝ }
+{
+    let whole = &tally[..];
+    tally[i] = tally[i] + n;
+}
+
+// The number where a record, whose first byte is x, is a start, else 0.
+fn of_start(x: u8, n: u64) -> u64
+    ensures { λ r. ⌜ r ≡ ite (eqb (x % 16) 0) 0 n ⌝ }
+{
+    if x % 16 == 0 {
+        return 0;
+    }
+    n
+}
+
+// One record, whose first byte is x, as far as it is a start.
+fn visit_one(x: u8, w: Walked, tally: &mut [u32; 65]) -> Walked
+    requires { ⌜ Ready x (w .lanes) (w .begun) (now tally) ⌝ }
+    ensures { λ r. ⌜ Visited x (w .lanes) (w .begun) (now (tally .entry)) (r .lanes) (r .begun) (now (tally .exit)) ⌝ }
+{
+    let t = x / 16;
+    let one = unit(t);
+    let v = lane(w.lanes, t);
+    let e = of_start(x, v);
+    let f = of_start(x, 1);
+    let action = x % 8;
+    count_steps(tally, (e % 8) as usize, (e / 8) as u32);
+    count_some(tally, action as usize, f as u32);
+    Walked {
+        lanes: w.lanes - e * one + action as u64 * one,
+        begun: w.begun + f * one,
+    }
+}
+
+// The lanes after `gap` steps of the thread whose unit is `one`.
+fn steps_on(lanes: u64, gap: usize, one: u64) -> u64
+    requires { ⌜ (gap ≤ 64) × ((one ≤ 281474976710656) × (stepWord lanes gap one < 18446744073709551616)) ⌝ }
+    ensures { λ r. ⌜ r ≡ stepWord lanes gap one ⌝ }
+{
+    lanes + 8 * gap as u64 * one
+}
+
+// The next `size` records from record k on, at most 64, whose marks are given.
+fn visit(
+    schedule: &[u8],
+    width: usize,
+    k: usize,
+    size: usize,
+    marks: u64,
+    before: Walked,
+    tally: &mut [u32; 65],
+) -> Walked
+    requires { ⌜ Reached (now schedule) width k size marks (before .lanes) (before .begun) (now tally) ⌝ }
+    ensures { λ r. ⌜ Onward (now (schedule .entry)) width k size (before .lanes) (before .begun) (now (tally .entry)) (r .lanes) (r .begun) (now (tally .exit)) ⌝ }
+{
+    let at = 3 + width * k;
+    let mut w = before;
+    let mut one = unit(schedule[at - width] / 16);
+    let mut last = 0usize;
+    let mut mask = marks;
+    while mask != 0 {
+        let i = u64::trailing_zeros(mask) as usize;
+        let x = schedule[at + width * i];
+        let lanes = steps_on(w.lanes, i - last, one);
+        w = visit_one(
+            x,
+            Walked {
+                lanes: lanes,
+                begun: w.begun,
+            },
+            tally,
+        );
+        one = unit(x / 16);
+        last = i + of_start(x, 1) as usize;
+        mask = mask & (mask - 1);
+    }
+    let lanes = steps_on(w.lanes, size - last, one);
+    Walked {
+        lanes: lanes,
+        begun: w.begun,
+    }
+}
+
+// The first `done` records, more than 64: the first, then 64 a turn, their marks found a turn ahead.
+fn walk_marked(schedule: &[u8], width: usize, done: usize, tally: &mut [u32; 65]) -> Walked
+    requires { ⌜ (64 < done) × (Width width × ((done ≤ 4096) × ((3 + width * done ≤ length (now schedule)) × (Low (now schedule) width done × Room (now tally) 33554432)))) ⌝ }
+    ensures { λ r. ⌜ (numbers (now (tally .exit)) ≡ sum (numbers (now (tally .entry))) (walked (now (schedule .entry)) width done))
+        × ((r .lanes ≡ packed 4 (lanes (now (schedule .entry)) width done)) × (r .begun ≡ packed 4 (begun (now (schedule .entry)) width done))) ⌝ }
+{
+    let mut w = walk_one(schedule[3], Walked { lanes: 0, begun: 0 }, tally);
+    let mut at = 3 + width;
+    let mut k = 1usize;
+    let mut ahead = marks::marks(schedule, width, at, done - 1);
+    while k < done {
+        let n = marks::block_size(done - k);
+        let these = ahead;
+        at = at + width * n;
+        ahead = marks::marks(schedule, width, at, done - k - n);
+        w = visit(schedule, width, k, n, these, w, tally);
+        k = k + n;
+    }
+    w
+}
+
+// The first `done` records, of `width` bytes each: by marks where they are many and of two bytes or four.
+fn walk(schedule: &[u8], width: usize, done: usize, tally: &mut [u32; 65]) -> Walked
+    requires { ⌜ (1 ≤ width) × ((done ≤ 4096) × ((3 + width * done ≤ length (now schedule)) × (Low (now schedule) width done × Room (now tally) 33554432))) ⌝ }
+    ensures { λ r. ⌜ (numbers (now (tally .exit)) ≡ sum (numbers (now (tally .entry))) (walked (now (schedule .entry)) width done)) × ((r .lanes ≡ packed 4 (lanes (now (schedule .entry)) width done)) × (r .begun ≡ packed 4 (begun (now (schedule .entry)) width done))) ⌝ }
+{
+    if done < 385 {
+        return walk_each(schedule, width, done, tally);
+    }
+    if width != 2 {
+        if width != 4 {
+            return walk_each(schedule, width, done, tally);
+        }
+    }
+    walk_marked(schedule, width, done, tally)
 }
 
 // Where an answer is counted: yes for 1, no for any other.

@@ -1,6 +1,7 @@
 //! What the differential tests and the benchmark share: the library's C interface, schedules and checks.
 
 pub mod answers;
+pub mod blocks;
 pub mod compare;
 pub mod coverage;
 pub mod guard;

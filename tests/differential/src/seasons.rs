@@ -1,6 +1,7 @@
 //! Seasons: one tally lent to file after file, through the library's and the reference's Tally, begun empty, with any content and
 //! near 32 bits, so that each field in turn is refused with 19; that it is the sum of the single tallies; and averages.
 
+use crate::blocks::Blocks;
 use crate::compare::{claimed, version_index, Comparer};
 use crate::library;
 use crate::rng::Rng;
@@ -39,6 +40,7 @@ pub struct Seasons {
     /// The last few files that were given, for seasons in another order.
     kept: Vec<Vec<u8>>,
     orders: u64,
+    blocks: Blocks,
 }
 
 impl Default for Seasons {
@@ -55,6 +57,7 @@ impl Default for Seasons {
             averages: 0,
             kept: Vec::new(),
             orders: 0,
+            blocks: Blocks::default(),
         }
     }
 }
@@ -118,6 +121,7 @@ impl Seasons {
             return Err("the tally is not the sum of the single tallies".into());
         }
         self.balanced(&one, &report)?;
+        self.blocks.file(file, report.records);
         self.tally = after;
         self.limits(file, room, &one, comparer, rng)?;
         self.reordered(file, comparer, rng)
@@ -261,6 +265,7 @@ impl Seasons {
                 need(self.just[version][cell], what("just in"));
             }
         }
+        self.blocks.report(&mut missing);
         missing
     }
 }
