@@ -204,6 +204,13 @@ static void compare_merges(const uint8_t *data, size_t size)
     }
 }
 
+/* The input with its header put right, where that is another file. */
+static void compare_repaired(const uint8_t *file, size_t length, const uint8_t *data, size_t size)
+{
+    if (length != size || memcmp(file, data, size) != 0)
+        compare_all(file, length);
+}
+
 int LLVMFuzzerTestOneInput(const uint8_t *data, size_t size)
 {
     static uint8_t repaired[3 + 4 * MOST_RECORDS];
@@ -224,7 +231,7 @@ int LLVMFuzzerTestOneInput(const uint8_t *data, size_t size)
         repaired[0] = 1;
         repaired[1] = (uint8_t)(count >> 8);
         repaired[2] = (uint8_t)count;
-        compare_all(repaired, 3 + 2 * count);
+        compare_repaired(repaired, 3 + 2 * count, data, size);
         count = (size - 3) / 4 > MOST_RECORDS / 2 ? MOST_RECORDS / 2 : (size - 3) / 4;
         repaired[1] = (uint8_t)(count >> 8);
         repaired[2] = (uint8_t)count;
@@ -235,7 +242,7 @@ int LLVMFuzzerTestOneInput(const uint8_t *data, size_t size)
         repaired[2] = (uint8_t)count;
         for (int version = NUXALDER_DEEP_FILE_VERSION; version <= NUXALDER_STOP_FILE_VERSION; version++) {
             repaired[0] = (uint8_t)version;
-            compare_all(repaired, 3 + 4 * count);
+            compare_repaired(repaired, 3 + 4 * count, data, size);
         }
     }
     return 0;

@@ -72,19 +72,21 @@ def seed(root, crate, work, *others):
 
 
 def keep(file, crate, folder):
-    """Leaves of the proofs of a crate this file of proofs/ and those that it uses; no function's proof."""
-    proofs, kept, left = folder / "proofs", set(), [file]
+    """Leaves of the files of a crate's proofs/ this one, those that functions' proofs use, and those that these use."""
+    proofs, kept = folder / "proofs", set()
+    uses = re.compile(rf"^use Rattle\.{crate}\.proofs\.(\w+)\.", re.M)
+    names = re.findall(r"^pub mod (\w+)$", (proofs / "Lib.antt").read_text(), re.M)
+    left = [file]
+    for part in proofs.glob("*/**/*.antt"):
+        left += set(uses.findall(part.read_text())) & {*names}
     while left:
         name = left.pop()
         if name not in kept:
             kept.add(name)
-            left += re.findall(rf"^use Rattle\.{crate}\.proofs\.(\w+)\.", (proofs / f"{name}.antt").read_text(), re.M)
-    names = re.findall(r"^pub mod (\w+)$", (proofs / "Lib.antt").read_text(), re.M)
+            left += uses.findall((proofs / f"{name}.antt").read_text())
     (proofs / "Lib.antt").write_text("".join(f"pub mod {name}\n" for name in names if name in kept))
     for name in set(names) - kept:
         (proofs / f"{name}.antt").unlink()
-    for proof in [*proofs.rglob("Proof.antt")]:
-        empty(proof.parent)
 
 
 def empty(proof):

@@ -1,4 +1,5 @@
 pub mod Cases
+pub mod Quick
 pub mod Tallies
 pub mod StopTallies
 pub mod Averages

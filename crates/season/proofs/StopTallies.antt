@@ -1,7 +1,7 @@
 -- What files of version 3 add, worked out by hand from 02, f and h, beside files of version 2 with the same records, shown of the definitions: the
 -- steps at 4, 5 and 19 are own steps, and a join's 7 is a no. One table. Assumes nothing.
 use Prim.Native.Nat.{ℕ, zero, suc, _+_, _*_, _/_, _%_}
-use mathlib.Core.Path.{_≡_, refl}
+use mathlib.Core.Path.{_≡_, refl, sym, ap₂, _∙_}
 use mathlib.Core.List.{List, [], _∷_, _++_, map}
 use lib.Count.{onesIn, trailingZeros}
 use lib.ListN.{length}
@@ -13,11 +13,12 @@ use Rattle.definitions.specs.Frames.{between, reaches, adding, back}
 use Rattle.definitions.specs.Steps.{reached, onward, followed, blocked, lacks, cleared, lost, probe, replaced, beside, reachedFirst, reachedNext, step}
 use Rattle.definitions.specs.Records.{taken as carriedOut, stepped, started, asked, recordStep}
 use Rattle.definitions.specs.Schedule.{countOf, recordAt, fileRefusal}
-use Rattle.definitions.specs.Run.{advance, after, runRefusal, runReport}
-use Rattle.season.specs.Tally.{join, sum, taken, enter, ledger, busyWith, leftBusy, refusedOnce, recordsTally, fileTally, listed, laid}
+use Rattle.definitions.specs.Run.{runRefusal}
+use Rattle.season.specs.Tally.{join, sum, taken, busyWith, leftBusy, refusedOnce, fileTally, listed, laid}
 use Rattle.definitions.proofs.Cases.{Lookup, Insert, Split, Join}
 use Rattle.definitions.proofs.DeepCases.{steps as steps', op, deepRun}
 use Rattle.season.proofs.Cases.{deep, stopping, Entry, filled, row, leftOver, Single, _⊢>_}
+use Rattle.season.proofs.Quick.{quickTally, quickTally-laid}
 
 -- eight routes: t0 inserts 0 and 1 and splits, then inserts k and splits its base for k from 2 to 8, each in k + 4 steps; so inserts take 69
 -- steps and splits 66, 12 at most, in either version
@@ -43,6 +44,14 @@ singles =
     ∷ (stopping (chain 7 ++ op 1 Lookup 8 10 ++ op 0 Join 3 7 ++ steps' 1 1) ⊢> chainRows ++ row 1 1 0 11 11 ++ row 5 0 1 7 7)
     ∷ []
 
+-- computed by the quick form, which is the definition
+computed : map (λ (s : Single). quickTally (s .asks .file) (s .asks .room)) singles ≡ map (λ (s : Single). filled (s .adds)) singles
+unfolding refusedOnce busyWith leftBusy sum join taken listed runRefusal countOf recordAt fileRefusal check replaceable between reaches adding back reachedFirst reachedNext carriedOut stepped started asked recordStep reached onward followed blocked lacks cleared lost probe replaced beside step ite has insert remove union cut below from size least dropLeast upperHalf lowerHalf splitKey put takeOut merge inside lower upper onesIn trailingZeros
+computed = refl
+
+each : (l : List Single) → map (λ (s : Single). laid (fileTally (s .asks .file) (s .asks .room))) l ≡ map (λ (s : Single). quickTally (s .asks .file) (s .asks .room)) l
+each [] = refl
+each (s ∷ l) = ap₂ (λ (a : List ℕ) (b : List (List ℕ)). a ∷ b) (sym (quickTally-laid (s .asks .file) (s .asks .room))) (each l)
+
 stop-tallies : map (λ (s : Single). laid (fileTally (s .asks .file) (s .asks .room))) singles ≡ map (λ (s : Single). filled (s .adds)) singles
-unfolding fileTally recordsTally refusedOnce ledger enter busyWith leftBusy sum join taken listed after advance runRefusal runReport countOf recordAt fileRefusal check replaceable between reaches adding back reachedFirst reachedNext carriedOut stepped started asked recordStep reached onward followed blocked lacks cleared lost probe replaced beside step ite has insert remove union cut below from size least dropLeast upperHalf lowerHalf splitKey put takeOut merge inside lower upper onesIn trailingZeros
-stop-tallies = refl
+stop-tallies = each singles ∙ computed

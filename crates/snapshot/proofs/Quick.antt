@@ -1,12 +1,14 @@
 -- Forms of the definitions that antt computes quickly on a written file, each with its proof that it is the definition: the first records of a
 -- file, each handed the bench that the one before left, and the ranges by a walk that leaves a branch not taken alone. They are those of
--- crates/definitions/proofs/Quick.antt, which carries out whole files.
-use Prim.Native.Nat.{ℕ, zero, suc, _+_, _/_}
+-- crates/definitions/proofs/Quick.antt, which carries out whole files. And what a buffer of equal bytes holds once some are written.
+use Prim.Native.Nat.{ℕ, zero, suc, _+_, _-_, _/_}
+use native.Mathlib.Nat.{zero-sub, sub-zero, suc-sub-suc}
 use native.Mathlib.Omega.{arith}
 use mathlib.Core.Path.{_≡_, refl, sym, ap, _∙_}
 use mathlib.Core.Bool.{Bool, true, false}
 use mathlib.Core.List.{List, [], _++_}
 use lib.Dec.{eqb·suc-zero}
+use lib.ListN.{length, drop, replicate}
 use Rattle.container.specs.Choice.{ite, upd}
 use Rattle.container.specs.Container.{all, below, from}
 use Rattle.definitions.specs.Nodes.{Shapes, shape, isRoute}
@@ -15,7 +17,7 @@ use Rattle.definitions.specs.Records.{Result, refused, carried, recordStep}
 use Rattle.definitions.specs.Tree.{levels}
 use Rattle.definitions.specs.Versions.{stopOf}
 use Rattle.definitions.specs.Schedule.{Rec, recordAt}
-use Rattle.definitions.specs.Run.{Progress, rowBytes, rowCount, advanceBy, advance, after}
+use Rattle.definitions.specs.Run.{Progress, rowBytes, rowCount, advanceBy, advance, after, overlay}
 use Rattle.definitions.specs.declared.Shared.{Shared}
 use Rattle.definitions.specs.declared.Shared.the-variants.{Unset, Set}
 use Rattle.snapshot.specs.Layout.{reachedBelow}
@@ -112,3 +114,16 @@ quickRanges b = rangesUnder levels (λ x. shape (b .store .nodes x)) (b .store .
 pub quickRanges-ranges : (b : Bench) → quickRanges b ≡ ranges b
 unfolding ranges
 quickRanges-ranges b = rangesUnder-below levels (λ x. shape (b .store .nodes x)) (b .store .root) all (λ _. Unset)
+
+-- ---- a buffer of n bytes x, with l written at its start or left alone
+
+drop-equal : (k n x : ℕ) → drop k (replicate n x) ≡ replicate (n - k) x
+drop-equal zero n x = ap (λ (m : ℕ). replicate m x) (sym (sub-zero n))
+drop-equal (suc k) zero x = ap (λ (m : ℕ). replicate m x) (sym (zero-sub (suc k)))
+drop-equal (suc k) (suc n) x = drop-equal k n x ∙ ap (λ (m : ℕ). replicate m x) (sym (suc-sub-suc n k))
+
+pub overlay-equal : (b : Bool) (l : List ℕ) (n x : ℕ)
+    → ite b (overlay l (replicate n x)) (replicate n x) ≡ ite b l [] ++ replicate (n - length (ite b l [])) x
+unfolding ite
+overlay-equal true l n x = ap (λ (r : List ℕ). l ++ r) (drop-equal (length l) n x)
+overlay-equal false l n x = ap (λ (m : ℕ). replicate m x) (sym (sub-zero n))

@@ -1,11 +1,11 @@
 -- States worked out by hand from the places, shown of the definitions: one table that a single theorem covers. Each case has a file, a number of
 -- records and a buffer's length, and all that State hands back: the report and every byte of the buffer.
 use Prim.Native.Nat.{ℕ, zero, suc, _+_, _-_, _*_, _/_, _%_}
-use mathlib.Core.Path.{_≡_, refl, sym, ap₂, _∙_}
+use mathlib.Core.Path.{_≡_, refl, sym, ap, ap₂, _∙_}
 use mathlib.Core.List.{List, [], _∷_, _++_, map}
 use lib.Dec.{eqb, ltb}
 use lib.Count.{onesIn, trailingZeros}
-use lib.ListN.{length, replicate, take}
+use lib.ListN.{length, replicate, length-replicate, take}
 use Rattle.container.specs.Choice.{ite}
 use Rattle.container.specs.Container.{has, insert, remove, union, cut, below, from, size, least, dropLeast, upperHalf, lowerHalf, splitKey}
 use Rattle.container.specs.Depths.{find, put, takeOut, merge, within, lower, upper}
@@ -16,13 +16,13 @@ use Rattle.definitions.specs.Records.{taken, stepped, started, asked, recordSte
 use Rattle.definitions.specs.Schedule.{countOf, recordAt, fileRefusal}
 use Rattle.definitions.specs.Run.{Progress, bytesOf, after, overlay}
 use Rattle.snapshot.specs.Layout.{noted, padded, each, threadHead, frameBytes, framesBytes, threadBytes, nodeBytes, sharedBytes}
-use Rattle.snapshot.specs.State.{stateHead, stateBytes, stateRefusal, stateReport, stateBuffer}
+use Rattle.snapshot.specs.State.{ranges, stateHead, stateBytes, stateRefusal, stateReport, stateBuffer}
 use Rattle.definitions.specs.declared.Shared.{Shared}
 use Rattle.snapshot.specs.declared.Stated.{Stated}
 use Rattle.definitions.proofs.Cases.{Lookup, Insert, Split, Join, untouched, holding}
 use Rattle.definitions.proofs.Runs.{steps as oldSteps, op as oldOp, printedRun}
 use Rattle.definitions.proofs.DeepCases.{steps, start, op, schedule, deepRun}
-use Rattle.snapshot.proofs.Quick.{forward, forward-after, quickRanges, quickRanges-ranges}
+use Rattle.snapshot.proofs.Quick.{forward, forward-after, quickRanges, quickRanges-ranges, overlay-equal}
 
 -- ---- what a state is made of (docs/STATE.md)
 
@@ -255,27 +255,51 @@ bytesAt file p w =
     ++ (each (λ x. nodeBytes file (w x) (p .bench .store .nodes x)) (p .bench .store .used)
     ++ each (λ j. sharedBytes (p .bench .store .stores j)) (p .bench .store .shown)))
 
-abbrev outcomeAt : Case → Progress → (ℕ → Shared) → Stated × List ℕ
-outcomeAt c p w = (
-  ite (eqb (stateRefusal (c .file) (c .room)) 0) (report (p .refusal) (p .done) (length (bytesAt (c .file) p w))) (report (stateRefusal (c .file) (c .room)) 0 0),
-  ite (eqb (stateRefusal (c .file) (length (replicate (c .room) untouched))) 0) (overlay (bytesAt (c .file) p w) (replicate (c .room) untouched)) (replicate (c .room) untouched),
+-- the buffer's length, the report and what is written
+abbrev writtenAt : Case → Progress → (ℕ → Shared) → ℕ × (Stated × List ℕ)
+writtenAt c p w = (
+  c .room,
+  (
+    ite (eqb (stateRefusal (c .file) (c .room)) 0) (report (p .refusal) (p .done) (length (bytesAt (c .file) p w))) (report (stateRefusal (c .file) (c .room)) 0 0),
+    ite (eqb (stateRefusal (c .file) (c .room)) 0) (bytesAt (c .file) p w) [],
+  ),
 )
+
+abbrev inBuffer : ℕ × (Stated × List ℕ) → Stated × List ℕ
+inBuffer r = (r .1 .0, holding (r .1 .1) (r .0))
+
+buffer-of : (c : Case) (l : List ℕ)
+    → ite (eqb (stateRefusal (c .file) (length (replicate (c .room) untouched))) 0) (overlay l (replicate (c .room) untouched)) (replicate (c .room) untouched)
+    ≡ holding (ite (eqb (stateRefusal (c .file) (c .room)) 0) l []) (c .room)
+buffer-of c l =
+    ap (λ (n : ℕ). ite (eqb (stateRefusal (c .file) n) 0) (overlay l (replicate (c .room) untouched)) (replicate (c .room) untouched)) (length-replicate (c .room) untouched)
+    ∙ overlay-equal (eqb (stateRefusal (c .file) (c .room)) 0) l (c .room) untouched
 
 abbrev cutTo : Case → ℕ
 cutTo c = ite (ltb (c .count) (countOf (c .file))) (c .count) (countOf (c .file))
 
-abbrev quick : Case → Stated × List ℕ
-quick c = forward (λ p. outcomeAt c p (quickRanges (p .bench))) (c .file) (cutTo c)
+abbrev quick : Case → ℕ × (Stated × List ℕ)
+quick c = forward (λ p. writtenAt c p (quickRanges (p .bench))) (c .file) (cutTo c)
 
-quick-outcome : (c : Case) → quick c ≡ outcome c
+quick-outcome : (c : Case) → inBuffer (quick c) ≡ outcome c
 unfolding stateReport stateBuffer stateBytes
 quick-outcome c =
-    forward-after (λ p. outcomeAt c p (quickRanges (p .bench))) (c .file) (cutTo c)
-    ∙ (λ i. outcomeAt c (after (c .file) (cutTo c)) (quickRanges-ranges (after (c .file) (cutTo c) .bench) i))
+    let p = after (c .file) (cutTo c) in
+    ap inBuffer (forward-after (λ p. writtenAt c p (quickRanges (p .bench))) (c .file) (cutTo c))
+    ∙ (λ i. inBuffer (writtenAt c p (quickRanges-ranges (p .bench) i)))
+    ∙ (λ i. (outcome c .0, sym (buffer-of c (bytesAt (c .file) p (ranges (p .bench)))) i))
 
-map-quick : (cs : List Case) → map outcome cs ≡ map quick cs
+map-quick : (cs : List Case) → map outcome cs ≡ map inBuffer (map quick cs)
 map-quick [] = refl
 map-quick (c ∷ cs) = ap₂ {C = List (Stated × List ℕ)} (λ o os. o ∷ os) (sym (quick-outcome c)) (map-quick cs)
+
+-- what each case promises is in its buffer
+abbrev written : Case → ℕ × (Stated × List ℕ)
+written c = (c .room, (c .gives, c .bytes))
+
+map-promised : (cs : List Case) → map inBuffer (map written cs) ≡ map promised cs
+map-promised [] = refl
+map-promised (c ∷ cs) = ap {B = List (Stated × List ℕ)} (λ os. promised c ∷ os) (map-promised cs)
 
 abbrev farQuick : ℕ × List ℕ → ℕ × List ℕ
 farQuick c = forward (λ p. (c .0, take 1648 (bytesAt far p (quickRanges (p .bench))))) far (c .0)
@@ -290,9 +314,9 @@ map-far : (cs : List (ℕ × List ℕ)) → map farOutcome cs ≡ map farQuick c
 map-far [] = refl
 map-far (c ∷ cs) = ap₂ {C = List (ℕ × List ℕ)} (λ o os. o ∷ os) (sym (far-outcome c)) (map-far cs)
 
-by-computing : (map quick table ≡ map promised table) × (map farQuick farHeads ≡ farHeads)
+by-computing : (map quick table ≡ map written table) × (map farQuick farHeads ≡ farHeads)
 unfolding noted padded each threadHead frameBytes framesBytes threadBytes nodeBytes stateHead stateRefusal find bytesOf recordAt between reaches adding back reachedFirst reachedNext asked put takeOut merge within lower upper check replaceable taken stepped started recordStep countOf fileRefusal reached onward followed blocked lacks cleared lost probe replaced beside step ite has insert remove union cut below from size least dropLeast upperHalf lowerHalf splitKey onesIn trailingZeros
 by-computing = (refl, refl)
 
 pub states : (map outcome table ≡ map promised table) × (map farOutcome farHeads ≡ farHeads)
-states = (map-quick table ∙ by-computing .0, map-far farHeads ∙ by-computing .1)
+states = (map-quick table ∙ ap (map inBuffer) (by-computing .0) ∙ map-promised table, map-far farHeads ∙ by-computing .1)

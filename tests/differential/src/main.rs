@@ -18,6 +18,7 @@ use differential::seasons::Seasons;
 use differential::stops::Stops;
 use differential::ways::Ways;
 use differential::{answers, coverage, outside, random, systematic};
+use std::collections::BTreeMap;
 use std::fs::File;
 use std::io::{BufWriter, Write};
 use std::path::Path;
@@ -231,7 +232,17 @@ fn main() -> ExitCode {
     }
     println!("{} files for the one-writer run", session.passed + session.failed - before);
     if options.first {
-        // a few of all kinds find most differences
+        // a few of each kind find most differences
+        for version in [3, 2, 1] {
+            let mut seen: BTreeMap<&str, u64> = BTreeMap::new();
+            systematic::each(version, &mut |name, file| {
+                let number = seen.entry(name).or_default();
+                *number += 1;
+                if number.is_power_of_two() {
+                    session.file(name, &file);
+                }
+            });
+        }
         let mut number = 0;
         for version in [3, 2, 1] {
             systematic::each(version, &mut |name, file| {
