@@ -16,7 +16,7 @@ ROOT = Path(__file__).resolve().parent.parent
 WORD = re.compile(r'[^\s(){}.;,@"«»]+')
 SIGNATURE = re.compile(r'^((?:unfoldable |abbrev |pub |pattern )*)([^\s(){}.;,@"«»:]+)(?: \{[^{}\n]*\})* :\s(.*)$', re.M)
 TYPE = re.compile(r'^(?:pub )?(?:abbrev )?(?:pub )?(?:data|record|ruleset) ([^\s(){}.;,@"«»:=]+)', re.M)
-MEMBER = re.compile(r'^  (?:\| )?([^\s(){}.;,@"«»:=|]+) : ', re.M)
+MEMBER = re.compile(r'^ +(?:\| )?(?:(?:unfoldable|abbrev|pub|pattern) )*([^\s(){}.;,@"«»:=|]+)(?: \{[^{}\n]*\})* :\s', re.M)
 COMMENT = re.compile(r'(?<![^\s(){}.;,@"«»])--[^\n]*')
 WORDS = {"use", "mod", "data", "record", "where", "unfolding", "open", "ruleset", "elim", "let", "in", "pub"}
 BROUGHT = re.compile(r"^(?:pub )?use ([^\s{;]+)\{([^}]*)\}", re.M)

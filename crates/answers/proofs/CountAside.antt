@@ -42,8 +42,8 @@ standing th = eqb th.place 5 || (eqb th.place 2 && ltb 7 th.read)
 pub record Noted (sw i : Bool) (th : Thread) : Type 0 where
   pub stands : sw ≡ true → i ≡ standing th
   pub ready : th.place ≡ 4 → 7 < th.read
-  pub off-out : sw ≡ false → i ≡ false
-  pub off-place : sw ≡ false → (th.place ≢ 4) × (th.place ≢ 5) × (th.place ≢ 19)
+  pub off_out : sw ≡ false → i ≡ false
+  pub off_place : sw ≡ false → (th.place ≢ 4) × (th.place ≢ 5) × (th.place ≢ 19)
 
 -- the count after a step at `place`
 abbrev pub counted : ℕ → ℕ → ℕ
@@ -73,12 +73,12 @@ pub aside_noted : (sw : Bool) (th : Thread) → apart sw th.place ≡ true → N
 aside_noted sw th h = let ((h2, h4, h5), h19) = apart_of sw th.place h in record {
   stands = λ _. rw (h2, h5);
   ready = λ e. absurd (eqb-false _ _ h4 e);
-  off-out = λ _. refl;
-  off-place = λ z. (eqb-false _ _ h4, eqb-false _ _ h5, eqb-false _ _ (h19 z));
+  off_out = λ _. refl;
+  off_place = λ z. (eqb-false _ _ h4, eqb-false _ _ h5, eqb-false _ _ (h19 z));
 }
 
 pub aside_not : {sw i : Bool} {th : Thread} → Noted sw i th → Elsewhere th.place → i ≡ false
-aside_not {sw} {i} {th} k (h2, h4, h5) = elim (test sw) [ on z ↦ k.stands z ∙ rw (h2, h5) | off z ↦ k.off-out z ]
+aside_not {sw} {i} {th} k (h2, h4, h5) = elim (test sw) [ on z ↦ k.stands z ∙ rw (h2, h5) | off z ↦ k.off_out z ]
 
 -- ---- steps aside: they leave the count, and lead to a place elsewhere
 
@@ -301,53 +301,53 @@ module _ (s : Sight) (th : Thread) where
   in_frame_lem (f ∷ fs) k h = h f fs
 
   -- every place but 1, 2, 4 and 5
-  pub aside-op : (p : Place) → apart sw₀ th.place ≡ true → p ≢ p1 → p ≢ p2 → p ≢ p4 → p ≢ p5 → Aside sw₀ (step p s th)
+  pub aside_op : (p : Place) → apart sw₀ th.place ≡ true → p ≢ p1 → p ≢ p2 → p ≢ p4 → p ≢ p5 → Aside sw₀ (step p s th)
   unfolding step beside cleared blocked
-  aside-op nowhere h h1 h2 h4 h5 = (h, refl)
-  aside-op p1 h h1 h2 h4 h5 = absurd (h1 refl)
-  aside-op p2 h h1 h2 h4 h5 = absurd (h2 refl)
-  aside-op p4 h h1 h2 h4 h5 = absurd (h4 refl)
-  aside-op p5 h h1 h2 h4 h5 = absurd (h5 refl)
-  aside-op p3 _ _ _ _ _ = fork sw₀ _ _ _ refl (fork sw₀ _ _ _ (clear th.action) (block th.action (check s.nodes s.stores th.base)))
-  aside-op p15 _ _ _ _ _ = (help (check s.nodes s.stores th.base))
-  aside-op p16 _ _ _ _ _ = (fork sw₀ _ _ _ (goes_back _ refl) (goes_back _ refl))
-  aside-op p19 _ _ _ _ _ = (fork sw₀ _ _ _ (refl, refl) refl)
-  aside-op p20 _ _ _ _ _ = (fork sw₀ _ _ _ (refl, refl) (refl, refl))
-  aside-op p21 _ _ _ _ _ = (fork sw₀ _ _ _ (refl, refl) refl)
-  aside-op p22 _ _ _ _ _ = (fork sw₀ _ _ _ (refl, refl) (refl, refl))
-  aside-op p23 _ _ _ _ _ = (fork sw₀ _ _ _ (refl, refl) (refl, refl))
-  aside-op p24 _ _ _ _ _ = (fork sw₀ _ _ _ (refl, refl) refl)
-  aside-op p25 _ _ _ _ _ = (fork sw₀ _ _ _ (fork sw₀ _ _ _ (refl, refl) tt) refl)
-  aside-op p30 _ _ _ _ _ = (fork sw₀ _ _ _ (refl, refl) (refl, refl))
-  aside-op p31 _ _ _ _ _ = (fork sw₀ _ _ _ (refl, refl) (fork sw₀ _ _ _ (refl, refl) (refl, refl)))
-  aside-op p32 _ _ _ _ _ = (fork sw₀ _ _ _ (refl, refl) (fork sw₀ _ _ _ (refl, refl) (refl, refl)))
-  aside-op p33 _ _ _ _ _ = (grand th.grandparent)
-  aside-op p34 _ _ _ _ _ = (refl, refl)
-  aside-op p35 _ _ _ _ _ = (fork sw₀ _ _ _ (fork sw₀ _ _ _ (refl, refl) tt) (backs_out th.grandparent, refl))
-  aside-op p36 _ _ _ _ _ = (refl, unmarks th.grandparent)
-  aside-op p37 _ _ _ _ _ = (refl, refl)
-  aside-op p38 _ _ _ _ _ = refl
-  aside-op p40 _ _ _ _ _ = (fork sw₀ _ _ _ (fork sw₀ _ _ _ refl (goes_back _ refl)) (refl, refl))
-  aside-op p45 _ _ _ _ _ = (refl, invalids (s.nodes th.main).parent)
-  aside-op p46 _ _ _ _ _ = (at_46 (s.nodes th.main).grandparent (s.nodes th.main))
-  aside-op p47 _ _ _ _ _ = (at_47 true (s.nodes th.main).grandparent (s.nodes th.main))
-  aside-op p48 _ _ _ _ _ = (at_48 (s.nodes th.main).grandparent (s.nodes th.main))
-  aside-op p49 _ _ _ _ _ = (at_47 false (s.nodes th.main).grandparent (s.nodes th.main))
-  aside-op p50 _ _ _ _ _ = (at_50 (s.nodes th.main).grandparent)
-  aside-op p51 _ _ _ _ _ = (fork sw₀ _ _ _ refl (goes_back _ refl))
-  aside-op (swap own q) _ _ _ _ _ = (by_own (probe q (s.nodes th.base).parent s.nodes s.root th.base))
-  aside-op (swap found q) _ _ _ _ _ = (by_found (probe q (s.nodes th.found).parent s.nodes s.root th.found))
-  aside-op (swap united q) _ _ _ _ _ = (by_united (probe q (s.nodes (s.nodes th.main).neighbour).parent s.nodes s.root (s.nodes th.main).neighbour) (s.nodes th.main))
-  aside-op p60 _ _ _ _ _ = in_frame_lem th.frames _ (λ f fs. first_reached s.root [] f fs)
-  aside-op p61 _ _ _ _ _ = in_frame_lem th.frames _ (λ f fs. first_reached _ f.stack f fs)
-  aside-op p62 _ _ _ _ _ = in_frame_lem th.frames _ (λ f fs. fork sw₀ _ _ _ (refl, refl) (fork sw₀ _ _ _ (refl, refl) (refl, refl)))
-  aside-op (swap opening q) _ _ _ _ _ = in_frame_lem th.frames _ (λ f fs. by_opening (probe q (s.nodes f.base).parent s.nodes s.root f.base) (s.nodes f.base) f fs)
-  aside-op p70 _ _ _ _ _ = in_frame_lem th.frames _ (λ f fs. fork sw₀ _ _ _ (refl, refl) (refl, refl))
-  aside-op p71 _ _ _ _ _ = in_frame_lem th.frames _ (λ f fs. next_reached _ f fs)
-  aside-op p72 _ _ _ _ _ = in_frame_lem th.frames _ (λ f fs. fork sw₀ _ _ _ (refl, refl) (popped (tail_of f.stack) f fs))
-  aside-op p73 _ _ _ _ _ = in_frame_lem th.frames _ (λ f fs. next_reached _ f fs)
-  aside-op p74 _ _ _ _ _ = in_frame_lem th.frames _ (λ f fs. met (s.stores (store_of f.store)) (s.nodes f.base) f fs)
-  aside-op p76 _ _ _ _ _ = in_frame_lem th.frames _ (λ f fs. fork sw₀ _ _ _ (refl, refl) (refl, refl))
-  aside-op (swap next q) _ _ _ _ _ = in_frame_lem th.frames _ (λ f fs. by_next (probe q (s.nodes f.base).parent s.nodes s.root f.base) (s.nodes f.base) f fs)
-  aside-op p81 _ _ _ _ _ = in_frame_lem th.frames _ (λ f fs. fills (s.stores (store_of f.store)) f)
-  aside-op p82 _ _ _ _ _ = in_frame_lem th.frames _ (λ f fs. read_out_lem (s.stores (store_of f.store)) fs)
+  aside_op nowhere h h1 h2 h4 h5 = (h, refl)
+  aside_op p1 h h1 h2 h4 h5 = absurd (h1 refl)
+  aside_op p2 h h1 h2 h4 h5 = absurd (h2 refl)
+  aside_op p4 h h1 h2 h4 h5 = absurd (h4 refl)
+  aside_op p5 h h1 h2 h4 h5 = absurd (h5 refl)
+  aside_op p3 _ _ _ _ _ = fork sw₀ _ _ _ refl (fork sw₀ _ _ _ (clear th.action) (block th.action (check s.nodes s.stores th.base)))
+  aside_op p15 _ _ _ _ _ = (help (check s.nodes s.stores th.base))
+  aside_op p16 _ _ _ _ _ = (fork sw₀ _ _ _ (goes_back _ refl) (goes_back _ refl))
+  aside_op p19 _ _ _ _ _ = (fork sw₀ _ _ _ (refl, refl) refl)
+  aside_op p20 _ _ _ _ _ = (fork sw₀ _ _ _ (refl, refl) (refl, refl))
+  aside_op p21 _ _ _ _ _ = (fork sw₀ _ _ _ (refl, refl) refl)
+  aside_op p22 _ _ _ _ _ = (fork sw₀ _ _ _ (refl, refl) (refl, refl))
+  aside_op p23 _ _ _ _ _ = (fork sw₀ _ _ _ (refl, refl) (refl, refl))
+  aside_op p24 _ _ _ _ _ = (fork sw₀ _ _ _ (refl, refl) refl)
+  aside_op p25 _ _ _ _ _ = (fork sw₀ _ _ _ (fork sw₀ _ _ _ (refl, refl) tt) refl)
+  aside_op p30 _ _ _ _ _ = (fork sw₀ _ _ _ (refl, refl) (refl, refl))
+  aside_op p31 _ _ _ _ _ = (fork sw₀ _ _ _ (refl, refl) (fork sw₀ _ _ _ (refl, refl) (refl, refl)))
+  aside_op p32 _ _ _ _ _ = (fork sw₀ _ _ _ (refl, refl) (fork sw₀ _ _ _ (refl, refl) (refl, refl)))
+  aside_op p33 _ _ _ _ _ = (grand th.grandparent)
+  aside_op p34 _ _ _ _ _ = (refl, refl)
+  aside_op p35 _ _ _ _ _ = (fork sw₀ _ _ _ (fork sw₀ _ _ _ (refl, refl) tt) (backs_out th.grandparent, refl))
+  aside_op p36 _ _ _ _ _ = (refl, unmarks th.grandparent)
+  aside_op p37 _ _ _ _ _ = (refl, refl)
+  aside_op p38 _ _ _ _ _ = refl
+  aside_op p40 _ _ _ _ _ = (fork sw₀ _ _ _ (fork sw₀ _ _ _ refl (goes_back _ refl)) (refl, refl))
+  aside_op p45 _ _ _ _ _ = (refl, invalids (s.nodes th.main).parent)
+  aside_op p46 _ _ _ _ _ = (at_46 (s.nodes th.main).grandparent (s.nodes th.main))
+  aside_op p47 _ _ _ _ _ = (at_47 true (s.nodes th.main).grandparent (s.nodes th.main))
+  aside_op p48 _ _ _ _ _ = (at_48 (s.nodes th.main).grandparent (s.nodes th.main))
+  aside_op p49 _ _ _ _ _ = (at_47 false (s.nodes th.main).grandparent (s.nodes th.main))
+  aside_op p50 _ _ _ _ _ = (at_50 (s.nodes th.main).grandparent)
+  aside_op p51 _ _ _ _ _ = (fork sw₀ _ _ _ refl (goes_back _ refl))
+  aside_op (swap own q) _ _ _ _ _ = (by_own (probe q (s.nodes th.base).parent s.nodes s.root th.base))
+  aside_op (swap found q) _ _ _ _ _ = (by_found (probe q (s.nodes th.found).parent s.nodes s.root th.found))
+  aside_op (swap united q) _ _ _ _ _ = (by_united (probe q (s.nodes (s.nodes th.main).neighbour).parent s.nodes s.root (s.nodes th.main).neighbour) (s.nodes th.main))
+  aside_op p60 _ _ _ _ _ = in_frame_lem th.frames _ (λ f fs. first_reached s.root [] f fs)
+  aside_op p61 _ _ _ _ _ = in_frame_lem th.frames _ (λ f fs. first_reached _ f.stack f fs)
+  aside_op p62 _ _ _ _ _ = in_frame_lem th.frames _ (λ f fs. fork sw₀ _ _ _ (refl, refl) (fork sw₀ _ _ _ (refl, refl) (refl, refl)))
+  aside_op (swap opening q) _ _ _ _ _ = in_frame_lem th.frames _ (λ f fs. by_opening (probe q (s.nodes f.base).parent s.nodes s.root f.base) (s.nodes f.base) f fs)
+  aside_op p70 _ _ _ _ _ = in_frame_lem th.frames _ (λ f fs. fork sw₀ _ _ _ (refl, refl) (refl, refl))
+  aside_op p71 _ _ _ _ _ = in_frame_lem th.frames _ (λ f fs. next_reached _ f fs)
+  aside_op p72 _ _ _ _ _ = in_frame_lem th.frames _ (λ f fs. fork sw₀ _ _ _ (refl, refl) (popped (tail_of f.stack) f fs))
+  aside_op p73 _ _ _ _ _ = in_frame_lem th.frames _ (λ f fs. next_reached _ f fs)
+  aside_op p74 _ _ _ _ _ = in_frame_lem th.frames _ (λ f fs. met (s.stores (store_of f.store)) (s.nodes f.base) f fs)
+  aside_op p76 _ _ _ _ _ = in_frame_lem th.frames _ (λ f fs. fork sw₀ _ _ _ (refl, refl) (refl, refl))
+  aside_op (swap next q) _ _ _ _ _ = in_frame_lem th.frames _ (λ f fs. by_next (probe q (s.nodes f.base).parent s.nodes s.root f.base) (s.nodes f.base) f fs)
+  aside_op p81 _ _ _ _ _ = in_frame_lem th.frames _ (λ f fs. fills (s.stores (store_of f.store)) f)
+  aside_op p82 _ _ _ _ _ = in_frame_lem th.frames _ (λ f fs. read_out_lem (s.stores (store_of f.store)) fs)

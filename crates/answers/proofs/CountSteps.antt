@@ -21,7 +21,7 @@ use Rattle.definitions.specs.Steps.{at_leaf, reached, onward, one_more, followed
 use Rattle.definitions.specs.Count.{crossed}
 use Rattle.answers.proofs.Tools.{◌==?◌, on, off, test}
 use Rattle.answers.proofs.PlaceNumbers.{number_of}
-use Rattle.answers.proofs.CountAside.{Noted, counted, Elsewhere, apart, aside_noted, aside_not, silent_stop, Aside, aside-op}
+use Rattle.answers.proofs.CountAside.{Noted, counted, Elsewhere, apart, aside_noted, aside_not, silent_stop, Aside, aside_op}
 
 -- one route more is at most 8 where there were at most 7, and over 8 where there were more
 pub few_read : (k : ℕ) → one_more k ≤ 8 → k ≤ 7
@@ -90,8 +90,8 @@ module _ (s : Store) (th : Thread) where
         settles _ (record {
           stands = λ z. rw (e-on ∙ z, le-ltb 7 c (few z));
           ready = λ z. absurd (omega (arith, z));
-          off-out = λ _. refl;
-          off-place = λ _. ((λ z. omega (arith, z)), (λ z. omega (arith, z)), (λ z. omega (arith, z)));
+          off_out = λ _. refl;
+          off_place = λ _. ((λ z. omega (arith, z)), (λ z. omega (arith, z)), (λ z. omega (arith, z)));
         }),
         same,
       )) (λ _. leaf th.action x)
@@ -100,16 +100,16 @@ module _ (s : Store) (th : Thread) where
     passes : (e : Effect) (v : Bool) (c x : ℕ) → 7 < (reading v c th).read → crossed th.place i ≡ true → (sw ≡ false → ⊥) → (perform e s).stop ≡ stop s.stop.on (counted th.place s.stop.count) → Kept (onward e (sight_of s).nodes (reading v c th) x)
     unfolding onward
     passes e v c x l h f q = either _ _ _
-        (λ _. (rw h (record { stands = λ _. rw (lt-ltb 7 (reading v c th).read l); ready = λ z. absurd (omega (arith, z)); off-out = λ z. absurd (f z); off-place = λ z. absurd (f z) }), q))
-        (λ _. (rw h (record { stands = λ _. refl; ready = λ z. absurd (omega (arith, z)); off-out = λ z. absurd (f z); off-place = λ z. absurd (f z) }), q))
+        (λ _. (rw h (record { stands = λ _. rw (lt-ltb 7 (reading v c th).read l); ready = λ z. absurd (omega (arith, z)); off_out = λ z. absurd (f z); off_place = λ z. absurd (f z) }), q))
+        (λ _. (rw h (record { stands = λ _. refl; ready = λ z. absurd (omega (arith, z)); off_out = λ z. absurd (f z); off_place = λ z. absurd (f z) }), q))
 
     at_1 : place_of th.place ≡ p1 → Kept (step p1 (sight_of s) th)
     unfolding step
     at_1 e = let h : Elsewhere th.place = rw (number_of th.place p1 e (omega arith)) (refl, refl, refl) in arrive h.1 h.2 0 (aside_not k h) (λ _. omega arith) s.root
 
-    at-2 : place_of th.place ≡ p2 → Kept (step p2 (sight_of s) th)
+    at_2 : place_of th.place ≡ p2 → Kept (step p2 (sight_of s) th)
     unfolding step followed
-    at-2 e = go s.stop.on refl
+    at_2 e = go s.stop.on refl
       where
         two : th.place ≡ 2
         two = number_of th.place p2 e (omega arith)
@@ -128,19 +128,19 @@ module _ (s : Store) (th : Thread) where
         k' = one_more th.read
 
         go : (v : Bool) → s.stop.on ≡ v → Kept (followed v (sight_of s).nodes (reading s.stop.on k' th) x)
-        go false z = arrive n4 n5 k' (k.off-out (sym e-on ∙ z)) (λ q. absurd (true≢false (sym q ∙ sym e-on ∙ z))) x
+        go false z = arrive n4 n5 k' (k.off_out (sym e-on ∙ z)) (λ q. absurd (true≢false (sym q ∙ sym e-on ∙ z))) x
         go true z = either _ _ _
             (λ h. let r = ltb-true count 8 h in arrive n4 n5 k' (out (omega (arith, r, same))) (λ _. omega (arith, r, same)) x)
             (λ h. either _ _ _
             (λ h8. let r = eqb-true count 8 h8 in (
               rw (n4, n5, out (omega (arith, r, same)))
-                  (record { stands = λ _. refl; ready = λ _. omega (arith, r); off-out = λ _. refl; off-place = λ q. absurd (on-sw q) }),
+                  (record { stands = λ _. refl; ready = λ _. omega (arith, r); off_out = λ _. refl; off_place = λ q. absurd (on_sw q) }),
               rw (n4, n5),
             ))
-            (λ h9. let l = over count (ltb-false count 8 h) (eqb-false count 8 h9) in passes Quiet s.stop.on k' x (omega (arith, l)) (rw (n4, n5) (is_in_lem (omega (arith, l, same)))) on-sw (rw (n4, n5))))
+            (λ h9. let l = over count (ltb-false count 8 h) (eqb-false count 8 h9) in passes Quiet s.stop.on k' x (omega (arith, l)) (rw (n4, n5) (is_in_lem (omega (arith, l, same)))) on_sw (rw (n4, n5))))
           where
-            on-sw : sw ≡ false → ⊥
-            on-sw q = true≢false (sym z ∙ e-on ∙ q)
+            on_sw : sw ≡ false → ⊥
+            on_sw q = true≢false (sym z ∙ e-on ∙ q)
 
             count : ℕ
             count = (reading s.stop.on k' th).read
@@ -151,18 +151,18 @@ module _ (s : Store) (th : Thread) where
             over : (m : ℕ) → 8 ≤ m → m ≢ 8 → 8 < m
             over m a b = omega (arith, a, b)
 
-            i-is : i ≡ ltb 7 th.read
-            i-is = k.stands (sym e-on ∙ z) ∙ rw two
+            i_is : i ≡ ltb 7 th.read
+            i_is = k.stands (sym e-on ∙ z) ∙ rw two
 
             out : k' ≤ 8 → i ≡ false
-            out l = i-is ∙ le-ltb 7 th.read (few_read th.read l)
+            out l = i_is ∙ le-ltb 7 th.read (few_read th.read l)
 
             is_in_lem : 8 < k' → i ≡ true
-            is_in_lem l = i-is ∙ lt-ltb 7 th.read (many_read th.read l)
+            is_in_lem l = i_is ∙ lt-ltb 7 th.read (many_read th.read l)
 
-    at-4 : place_of th.place ≡ p4 → Kept (step p4 (sight_of s) th)
+    at_4 : place_of th.place ≡ p4 → Kept (step p4 (sight_of s) th)
     unfolding step
-    at-4 e = passes Raise false 0 th.route (k.ready four) (rw four) (λ q. (k.off-place q).0 four) (rw four)
+    at_4 e = passes Raise false 0 th.route (k.ready four) (rw four) (λ q. (k.off_place q).0 four) (rw four)
       where
         four : th.place ≡ 4
         four = number_of th.place p4 e (omega arith)
@@ -174,24 +174,24 @@ module _ (s : Store) (th : Thread) where
         five : th.place ≡ 5
         five = number_of th.place p5 e (omega arith)
 
-        on-3 : Kept (Moves (at p3 th) Lower)
-        on-3 = (rw five (aside_noted sw _ refl), rw five)
+        on_3 : Kept (Moves (at p3 th) Lower)
+        on_3 = (rw five (aside_noted sw _ refl), rw five)
 
         go : (a : Action) → Kept (released a (sight_of s).nodes th)
         go Lookup = (rw five, rw five)
-        go Insert = on-3
-        go Remove = on-3
-        go Split = on-3
-        go Join = on-3
+        go Insert = on_3
+        go Remove = on_3
+        go Split = on_3
+        go Join = on_3
         go Query = tt
 
     -- a thread that is not at 2, 4 or 5 is apart
-    stands-apart : Elsewhere th.place → apart s.stop.on th.place ≡ true
-    stands-apart (h2, h4, h5) = rw (h2, h4, h5, e-on) (go sw refl)
+    stands_apart : Elsewhere th.place → apart s.stop.on th.place ≡ true
+    stands_apart (h2, h4, h5) = rw (h2, h4, h5, e-on) (go sw refl)
       where
         go : (v : Bool) → sw ≡ v → not (eqb th.place 19 && not v) ≡ true
         go true z = elim (test (eqb th.place 19)) [ on e ↦ rw e | off e ↦ rw e ]
-        go false z = rw (ne_eqb th.place 19 (k.off-place z).2)
+        go false z = rw (ne_eqb th.place 19 (k.off_place z).2)
 
     by_place : (p : Place) → place_of th.place ≡ p → Kept (step p (sight_of s) th) → Kept (step (place_of th.place) (sight_of s) th)
     by_place p e h = subst (λ v. Kept (step v (sight_of s) th)) (sym e) h
@@ -201,15 +201,15 @@ module _ (s : Store) (th : Thread) where
       | yes e ↦ by_place p1 (ap place_of e) (at_1 (ap place_of e))
       | no n1 ↦
           elim (th.place ==? 2) [
-            | yes e ↦ by_place p2 (ap place_of e) (at-2 (ap place_of e))
+            | yes e ↦ by_place p2 (ap place_of e) (at_2 (ap place_of e))
             | no n2 ↦
                 elim (th.place ==? 4) [
-                  | yes e ↦ by_place p4 (ap place_of e) (at-4 (ap place_of e))
+                  | yes e ↦ by_place p4 (ap place_of e) (at_4 (ap place_of e))
                   | no n4 ↦
                       elim (th.place ==? 5) [
                         | yes e ↦ by_place p5 (ap place_of e) (at_5 (ap place_of e))
                         | no n5 ↦
-                            (let h : Elsewhere th.place = (ne_eqb _ _ n2, ne_eqb _ _ n4, ne_eqb _ _ n5) in aside (step (place_of th.place) (sight_of s) th) h (aside-op (sight_of s) th (place_of th.place) (stands-apart h)
+                            (let h : Elsewhere th.place = (ne_eqb _ _ n2, ne_eqb _ _ n4, ne_eqb _ _ n5) in aside (step (place_of th.place) (sight_of s) th) h (aside_op (sight_of s) th (place_of th.place) (stands_apart h)
                             (λ z. n1 (number_of th.place p1 z (omega arith))) (λ z. n2 (number_of th.place p2 z (omega arith))) (λ z. n4 (number_of th.place p4 z (omega arith))) (λ z. n5 (number_of th.place p5 z (omega arith)))))
                       ]
                 ]

@@ -43,16 +43,16 @@ sum_has i t h e = let a = sum_upd i t h false in let z : one (i t) ≡ 1 = rw e 
 -- ---- a moment
 
 four_out : {sw i : Bool} {th : Thread} → Noted sw i th → th.place ≡ 4 → i ≡ false
-four_out {sw} k e = elim (test sw) [ on z ↦ k.stands z ∙ rw e | off z ↦ k.off-out z ]
+four_out {sw} k e = elim (test sw) [ on z ↦ k.stands z ∙ rw e | off z ↦ k.off_out z ]
 
 five_in : {sw i : Bool} {th : Thread} → Noted sw i th → th.place ≡ 5 → i ≡ true
-five_in {sw} k e = elim (test sw) [ on z ↦ k.stands z ∙ rw e | off z ↦ absurd ((k.off-place z).1 e) ]
+five_in {sw} k e = elim (test sw) [ on z ↦ k.stands z ∙ rw e | off z ↦ absurd ((k.off_place z).1 e) ]
 
 pub right : (sw : Bool) (b : Bench) (i : ℕ → Bool) → Tally sw b i → CountRight sw b i
-right sw b i z = (z.switch, z.count, (λ e. (z.count ∙ none e, λ t. (z.notes t).off-place e)), λ t h e. rw z.count (sum_has i t h (five_in (z.notes t) e)))
+right sw b i z = (z.switch, z.count, (λ e. (z.count ∙ none e, λ t. (z.notes t).off_place e)), λ t h e. rw z.count (sum_has i t h (five_in (z.notes t) e)))
   where
     none : sw ≡ false → searches i ≡ 0
-    none e = let n : (t : ℕ) → i t ≡ false = λ t. (z.notes t).off-out e in rw (n 0, n 1, n 2, n 3)
+    none e = let n : (t : ℕ) → i t ≡ false = λ t. (z.notes t).off_out e in rw (n 0, n 1, n 2, n 3)
 
 -- ---- one record
 

@@ -27,7 +27,7 @@ use Rattle.answers.proofs.Memory.{World, Hist}
 use Rattle.answers.proofs.Facts.{Replaceable}
 use Rattle.answers.proofs.FrameFacts.{Asks, free, rides, Own, PileOf, Opening, TopOf}
 use Rattle.answers.proofs.Invariant.{Inv, after, Stands, seen}
-use Rattle.answers.proofs.ReadPlaces.{know-now, here}
+use Rattle.answers.proofs.ReadPlaces.{know_now, here}
 use Rattle.answers.proofs.Owners.{Bears, Owner, Owned, push_fits}
 use Rattle.answers.proofs.Staying.{Shows, Sem, Single}
 
@@ -75,9 +75,9 @@ module _ {b : Bench} {hist : Hist} {now : ℕ} {first : ℕ → Link} (inv : Inv
   few_on : (s' : Store) (th' : Thread) → length th'.frames ≤ 4 → (u : ℕ) → length ((after b t s' th').threads u).frames ≤ 4
   few_on s' th' h u = elim (u ==? t) [ yes q ↦ rw (eq-eqb u t q) h | no q ↦ rw (ne_eqb u t q) (counts.few u) ]
 
-  pub moves-count : (e : Effect) (th' : Thread) → ((S : ℕ) → Owner th S → Owner th' S) × (length th.frames ≤ 4 → length th'.frames ≤ 4) × ((k : ℕ) → Shows e k → (k ≡ b.store.shown) × Owner th' k)
+  pub moves_count : (e : Effect) (th' : Thread) → ((S : ℕ) → Owner th S → Owner th' S) × (length th.frames ≤ 4 → length th'.frames ≤ 4) × ((k : ℕ) → Shows e k → (k ≡ b.store.shown) × Owner th' k)
       → Counts (after b t (perform e b.store) th')
-  moves-count e th' (f, w, n) = record {
+  moves_count e th' (f, w, n) = record {
     owned = λ S h q. elim (was_before e b.store S h q) [
       | inl (h', q') ↦ owner_on (perform e b.store) th' S f (counts.owned S h' q')
       | inr (k, v, lt, q') ↦ (let (z, ow) = n k v in elim (S ==? k) [
@@ -89,8 +89,8 @@ module _ {b : Bench} {hist : Hist} {now : ℕ} {first : ℕ → Link} (inv : Inv
   }
 
   -- a thread that ends owns no unset store
-  pub ends-count : (e : Effect) → ((k : ℕ) → Shows e k → ⊥) → ((S : ℕ) → Owner th S → b.store.stores S ≡ Unset → ⊥) → Counts (after b t (perform e b.store) idle)
-  ends-count e n none = record {
+  pub ends_count : (e : Effect) → ((k : ℕ) → Shows e k → ⊥) → ((S : ℕ) → Owner th S → b.store.stores S ≡ Unset → ⊥) → Counts (after b t (perform e b.store) idle)
+  ends_count e n none = record {
     owned = λ S h q. elim (was_before e b.store S h q) [
       | inl (h', q') ↦ (let (o, ho, v) = counts.owned S h' q' in elim (o ==? t) [ yes y ↦ absurd (none S (subst (λ u. Owner (b.threads u) S) y v) q') | no y ↦ (o, ho, rw (ne_eqb o t y) v) ])
       | inr (k, v, _, _) ↦ absurd (n k v)
@@ -100,10 +100,10 @@ module _ {b : Bench} {hist : Hist} {now : ℕ} {first : ℕ → Link} (inv : Inv
 
   -- an idle thread has no frames
   bare : is_idle th ≡ true → th.frames ≡ []
-  bare i = (know-now inv t nowhere (ap place_of (eqb-true th.place 0 i))).1
+  bare i = (know_now inv t nowhere (ap place_of (eqb-true th.place 0 i))).1
 
-  pub starts-count : (th₀ : Thread) → is_idle th ≡ true → length th₀.frames ≤ 4 → Counts (after b t b.store th₀)
-  starts-count th₀ i h = record {
+  pub starts_count : (th₀ : Thread) → is_idle th ≡ true → length th₀.frames ≤ 4 → Counts (after b t b.store th₀)
+  starts_count th₀ i h = record {
     owned = λ S k q. let (o, ho, v) = counts.owned S k q in elim (o ==? t) [
       | yes y ↦ absurd (subst (λ l. Bears l S) (bare i) (subst (λ u. Owner (b.threads u) S) y v).1)
       | no y ↦ (o, ho, rw (ne_eqb o t y) v)
@@ -112,12 +112,12 @@ module _ {b : Bench} {hist : Hist} {now : ℕ} {first : ℕ → Link} (inv : Inv
   }
 
   -- what `Stay` asks of the invariant
-  pub sem-of : (p : Place) → Stands b t p → Sem p (sight_of b.store) th
-  sem-of p e = record {
-    unhelped = λ z _ _. rw (know-now inv t p3 (e ∙ z)).2 (omega arith);
+  pub sem_of : (p : Place) → Stands b t p → Sem p (sight_of b.store) th
+  sem_of p e = record {
+    unhelped = λ z _ _. rw (know_now inv t p3 (e ∙ z)).2 (omega arith);
     fits = λ z. push_fits inv counts.owned t small (e ∙ z);
-    new = λ z. tops th.frames (know-now inv t p62 (e ∙ z)).0;
-    single = λ q z f fs E. alone f fs E (subst (λ v. TopOf v (λ f. Opening (seen b.store.nodes b.store (here inv t).ghost now) f × Replaceable (seen b.store.nodes b.store (here inv t).ghost now) f.base)) E (know-now inv t (swap opening q) (e ∙ z)).0).0 (subst (λ v. PileOf (seen b.store.nodes b.store (here inv t).ghost now) hist (moment (first t)) th v) E ((here inv t).piles t));
+    new = λ z. tops th.frames (know_now inv t p62 (e ∙ z)).0;
+    single = λ q z f fs E. alone f fs E (subst (λ v. TopOf v (λ f. Opening (seen b.store.nodes b.store (here inv t).ghost now) f × Replaceable (seen b.store.nodes b.store (here inv t).ghost now) f.base)) E (know_now inv t (swap opening q) (e ∙ z)).0).0 (subst (λ v. PileOf (seen b.store.nodes b.store (here inv t).ghost now) hist (moment (first t)) th v) E ((here inv t).piles t));
   }
     where
       tops : (fs : List Frame) → TopOf fs (λ f. Opening (seen b.store.nodes b.store (here inv t).ghost now) f) → TopOf fs (λ f. f.begun ≡ false)

@@ -32,15 +32,15 @@ use Rattle.answers.proofs.Tools.{on, off, test, clash}
 use Rattle.answers.proofs.Memory.{World, Hist, Waits, Of, Mem}
 use Rattle.answers.proofs.FrameFacts.{Short, own_free, blocked, prev_of, Asks, Bottom, free, rides, Own, PileOf, Pile, Unless, Complete, Ready, TopOf, Top}
 use Rattle.answers.proofs.Knows.{looks, Know, owning, asks_of}
-use Rattle.answers.proofs.Invariant.{Ghost, Agrees, Inv, after, alike, NotBack, Stands, seen, pile_alike, pile_opened, kin-pile, build, away}
-use Rattle.answers.proofs.Shown.{Good, Still, Feeds, either, ends-quiet, T'}
-use Rattle.answers.proofs.ReadPlaces.{go_on, go-frames, know-now, here}
+use Rattle.answers.proofs.Invariant.{Ghost, Agrees, Inv, after, alike, NotBack, Stands, seen, pile_alike, pile_opened, kin_pile, build, away}
+use Rattle.answers.proofs.Shown.{Good, Still, Feeds, either, ends_quiet, T'}
+use Rattle.answers.proofs.ReadPlaces.{go_on, go_frames, know_now, here}
 use Rattle.answers.proofs.Returns.{Returns, returns, asks_begun}
 use Rattle.answers.proofs.RangeSets.{between_has}
 use Rattle.answers.proofs.Fill.{timed, fill}
-use Rattle.answers.proofs.FillKnown.{fill-rely}
-use Rattle.answers.proofs.FirstPlaces.{framed-ok, on-not-back}
-use Rattle.answers.proofs.WalkPlaces.{pile-f, top-f, f-top}
+use Rattle.answers.proofs.FillKnown.{fill_rely}
+use Rattle.answers.proofs.FirstPlaces.{framed_ok, on_not_back}
+use Rattle.answers.proofs.WalkPlaces.{pile_f, top_f, f_top}
 
 -- a result cut to a query's range
 cut_right_lem : (r l h : ℕ) (H : ℕ → Bool) → ((s : ℕ) → l ≤ s → s ≤ h → has r s ≡ H s) → (s : ℕ) → s < 64 → has (cut r (between l h)) s ≡ inside l h s && H s
@@ -50,17 +50,17 @@ cut_right_lem r l h H f s i = has_cut r (between l h) s ∙ ap (λ v. has r s &&
     two_on true d e = (refl, e)
     two_on false d e = absurd (false≢true e)
 
-    off-right : (c : Bool) → c && false ≡ false
-    off-right true = refl
-    off-right false = refl
+    off_right : (c : Bool) → c && false ≡ false
+    off_right true = refl
+    off_right false = refl
 
-    on-right : (c : Bool) → c && true ≡ c
-    on-right true = refl
-    on-right false = refl
+    on_right : (c : Bool) → c && true ≡ c
+    on_right true = refl
+    on_right false = refl
 
     go : (v : Bool) → inside l h s ≡ v → has r s && v ≡ v && H s
-    go false e = off-right (has r s)
-    go true e = let (a, c) = two_on (leb l s) (leb s h) e in on-right (has r s) ∙ f s (leb-true l s a) (leb-true s h c)
+    go false e = off_right (has r s)
+    go true e = let (a, c) = two_on (leb l s) (leb s h) e in on_right (has r s) ∙ f s (leb-true l s a) (leb-true s h c)
 
 query_is : (a : Action) → is_query a ≡ true → a ≡ Query
 query_is Lookup e = absurd (false≢true e)
@@ -81,17 +81,17 @@ module _ {b : Bench} {hist : Hist} {now : ℕ} {first : ℕ → Link} (inv : Inv
   W' n g = seen n b.store g (suc now)
 
   -- ---- 81
-  pub ok-81 : Stands b t p81 → Good inv t (step p81 (sight_of b.store) th)
+  pub ok_81 : Stands b t p81 → Good inv t (step p81 (sight_of b.store) th)
   unfolding step
-  ok-81 e = framed-ok inv t th.frames refl _ (λ f fs E. go f fs E (b.store.stores (store_of f.store)) refl)
+  ok_81 e = framed_ok inv t th.frames refl _ (λ f fs E. go f fs E (b.store.stores (store_of f.store)) refl)
     where
       nl : looks th.action ≡ false
-      nl = (know-now inv t p81 e).1
+      nl = (know_now inv t p81 e).1
 
       go : (f : Frame) (fs : List Frame) → th.frames ≡ f ∷ fs → (v : Shared) → b.store.stores (store_of f.store) ≡ v → Good inv t (filling v f th)
-      go f fs E (Set c) q = go-frames inv t p81 _ e refl (λ z _. clash (cc)) refl (λ n g a m k pl₀. let pl = pile-f inv t f fs E (W' n g) pl₀ in let co = top-f inv t f fs E (λ f. Complete (W' n g) f) k.0 in
+      go f fs E (Set c) q = go_frames inv t p81 _ e refl (λ z _. clash (cc)) refl (λ n g a m k pl₀. let pl = pile_f inv t f fs E (W' n g) pl₀ in let co = top_f inv t f fs E (λ f. Complete (W' n g) f) k.0 in
           let (S, as₀) = asks_begun (W' n g) hist (T' inv t) th f fs pl co.begun in (
-            (f-top inv t f fs E (λ f. Ready (W' n g) f) (S, c, as₀.store, sym (ap (λ v. b.store.stores (store_of v)) as₀.store) ∙ q), nl),
+            (f_top inv t f fs E (λ f. Ready (W' n g) f) (S, c, as₀.store, sym (ap (λ v. b.store.stores (store_of v)) as₀.store) ∙ q), nl),
             pile_alike (W' n g) hist (T' inv t) th (at p82 th) th.frames refl refl refl pl₀,
           ))
       go f fs E Unset q = λ qu. build inv t (perform (Fill (store_of f.store) f.done) b.store) (at p82 th) (λ _. Unit {0}) (inv.stations t) (λ z _. clash (cc)) (away inv t (at p82 th) refl) (λ _ _ _. tt) (λ n a. (
@@ -104,14 +104,14 @@ module _ {b : Bench} {hist : Hist} {now : ℕ} {first : ℕ → Link} (inv : Inv
             let ask : Asks (W n g) hist f S = subst (λ v. Asks (W n g) hist f v) z as₀ in let d = ask.added co.begun in
             let right : (s : ℕ) → (g.tale S).start ≤ s → s ≤ (g.tale S).upper → has f.done s ≡ is_in (hist now s) = λ s i j. d.agrees q s i (let v = co.passed S ask.store q in omega (arith, ask.upper)) in
             let full : (reaches (n (prev_of f)).container.set (g.tale S).upper ≡ true) ⊎ (g.hi (prev_of f) ≡ 64) = subst (λ v. (reaches (n (prev_of f)).container.set v ≡ true) ⊎ (g.hi (prev_of f) ≡ 64)) ask.upper (co.full S ask.store q) in
-            let re = fill-rely m S f.done qu ask.low q right (prev_of f) d.of d.born full in
+            let re = fill_rely m S f.done qu ask.low q right (prev_of f) d.of d.born full in
             record {
               ghost = record { lo = g.lo; hi = g.hi; up = g.up; life = g.life; tale = upd g.tale S (timed (suc now) (g.tale S)) };
               mem = fill m S f.done qu ask.low q right;
               rely = re;
               linked = λ x i j. absurd (omega arith);
               know = (subst (λ v. TopOf v (λ h. (Z c : ℕ) × (h.store ≡ To Z) × (upd b.store.stores (store_of f.store) (Set f.done) Z ≡ Set c))) (sym E) (S, f.done, ask.store, rw (eq-eqb S S refl)), nl);
-              pile = kin-pile inv t _ _ (λ _. Unit {0}) (at p82 th) (alike refl refl refl refl) re refl pl₀;
+              pile = kin_pile inv t _ _ (λ _. Unit {0}) (at p82 th) (alike refl refl refl refl) re refl pl₀;
             },
       ))
 
@@ -119,12 +119,12 @@ module _ {b : Bench} {hist : Hist} {now : ℕ} {first : ℕ → Link} (inv : Inv
   still_of : (a : Action) → a ≡ Query → (st d : ℕ) → ((z : ℕ) → hist (suc now) z ≡ settled a st d (hist now) z) → (z : ℕ) → hist (suc now) z ≡ hist now z
   still_of a e st d f z = f z ∙ ap (λ v. settled v st d (hist now) z) e
 
-  pub ok-82 : Stands b t p82 → Good inv t (step p82 (sight_of b.store) th)
+  pub ok_82 : Stands b t p82 → Good inv t (step p82 (sight_of b.store) th)
   unfolding step
-  ok-82 e = framed-ok inv t th.frames refl _ (λ f fs E. go f fs E (b.store.stores (store_of f.store)) refl)
+  ok_82 e = framed_ok inv t th.frames refl _ (λ f fs E. go f fs E (b.store.stores (store_of f.store)) refl)
     where
       nl : looks th.action ≡ false
-      nl = (know-now inv t p82 e).1
+      nl = (know_now inv t p82 e).1
 
       -- the pile under the frame that ends
       under : (w : World) (T : ℕ) (f : Frame) (fs : List Frame) → PileOf w hist T th (f ∷ fs) → PileOf w hist T th fs
@@ -138,8 +138,8 @@ module _ {b : Bench} {hist : Hist} {now : ℕ} {first : ℕ → Link} (inv : Inv
       waited w T f (g ∷ fs) (_, blocked _ i _, _) = λ _. i
 
       leave : (f : Frame) (fs : List Frame) → th.frames ≡ f ∷ fs → Good inv t (back_in fs Quiet th)
-      leave f fs E = returns th Quiet (Good inv t) (either inv t) fs (λ th' rt. go-frames inv t p82 th' e rt.station (on-not-back inv t th' nl rt.action) rt.apart
-          (λ n g a m k pl₀. rt.knows (W' n g) hist (T' inv t) nl (under (W' n g) (T' inv t) f fs (pile-f inv t f fs E (W' n g) pl₀)) (waited (W' n g) (T' inv t) f fs (pile-f inv t f fs E (W' n g) pl₀))))
+      leave f fs E = returns th Quiet (Good inv t) (either inv t) fs (λ th' rt. go_frames inv t p82 th' e rt.station (on_not_back inv t th' nl rt.action) rt.apart
+          (λ n g a m k pl₀. rt.knows (W' n g) hist (T' inv t) nl (under (W' n g) (T' inv t) f fs (pile_f inv t f fs E (W' n g) pl₀)) (waited (W' n g) (T' inv t) f fs (pile_f inv t f fs E (W' n g) pl₀))))
 
       -- a query's row
       row : (f : Frame) → th.frames ≡ f ∷ [] → (c : ℕ) → b.store.stores (store_of f.store) ≡ Set c → is_query th.action ≡ true
@@ -152,7 +152,7 @@ module _ {b : Bench} {hist : Hist} {now : ℕ} {first : ℕ → Link} (inv : Inv
           same_first = rw (eq-eqb t t refl)
 
           ready : Ready (W b.store.nodes (here inv t).ghost) f
-          ready = subst (λ v. TopOf v (λ f. Ready (W b.store.nodes (here inv t).ghost) f)) E (know-now inv t p82 e).0
+          ready = subst (λ v. TopOf v (λ f. Ready (W b.store.nodes (here inv t).ghost) f)) E (know_now inv t p82 e).0
 
           fin : Bottom (W b.store.nodes (here inv t).ghost) hist (T' inv t) th f
               → FitsRange th.station th.extra hist (T' inv t) now (said (not (eqb (cut c (between th.station th.extra)) 0))) (cut c (between th.station th.extra))
@@ -166,7 +166,7 @@ module _ {b : Bench} {hist : Hist} {now : ℕ} {first : ℕ → Link} (inv : Inv
           )
 
       leaves : (fs : List Frame) (f : Frame) → th.frames ≡ f ∷ fs → (c : ℕ) → b.store.stores (store_of f.store) ≡ Set c → Good inv t (leaving fs c th)
-      leaves [] f E c q = either inv t _ _ _ (λ iq fe. (ends-quiet inv t (still_of th.action (query_is _ iq) th.station th.extra fe), query_is _ iq, row f E c q iq)) (λ _. leave f [] E)
+      leaves [] f E c q = either inv t _ _ _ (λ iq fe. (ends_quiet inv t (still_of th.action (query_is _ iq) th.station th.extra fe), query_is _ iq, row f E c q iq)) (λ _. leave f [] E)
       leaves (g ∷ fs) f E c q = leave f (g ∷ fs) E
 
       go : (f : Frame) (fs : List Frame) → th.frames ≡ f ∷ fs → (v : Shared) → b.store.stores (store_of f.store) ≡ v → Good inv t (read_out v fs th)

@@ -88,7 +88,7 @@ fork_fits n u j l r k c el er h g = record {
     | no q ↦ elim (x ==? l) [
       | yes q' ↦ rw (ne_eqb x r q, eq-eqb x l q') (λ e. absurd (clash (cc)))
       | no q' ↦ elim (x ==? u) [
-        | yes z ↦ (λ e. record { some = omega (arith, g.some); room = omega arith; next = after-l x z; last = after-r x z })
+        | yes z ↦ (λ e. record { some = omega (arith, g.some); room = omega arith; next = after_l x z; last = after_r x z })
         | no z ↦ rw (ne_eqb x r q, ne_eqb x l q', ne_eqb x u z) (λ e. let o = g.gap x (omega arith) e in record {
           some = o.some;
           room = omega (arith, o.room);
@@ -103,8 +103,8 @@ fork_fits n u j l r k c el er h g = record {
     old : (y : ℕ) → y < u → forked u l r k c n y ≡ n y
     old y i = rw (ne_eqb y r (λ z. omega arith), ne_eqb y l (λ z. omega arith), ne_eqb y u (λ z. omega arith))
 
-    after-l : (x : ℕ) → x ≡ u → (forked u l r k c n (suc x)).kind ≢ Route
-    after-l x z = rw (ne_eqb (suc x) r (λ v. omega arith), eq-eqb (suc x) l (omega arith)) (λ e. clash (cc))
+    after_l : (x : ℕ) → x ≡ u → (forked u l r k c n (suc x)).kind ≢ Route
+    after_l x z = rw (ne_eqb (suc x) r (λ v. omega arith), eq-eqb (suc x) l (omega arith)) (λ e. clash (cc))
 
-    after-r : (x : ℕ) → x ≡ u → (forked u l r k c n (suc (suc x))).kind ≢ Route
-    after-r x z = rw (eq-eqb (suc (suc x)) r (omega arith)) (λ e. clash (cc))
+    after_r : (x : ℕ) → x ≡ u → (forked u l r k c n (suc (suc x))).kind ≢ Route
+    after_r x z = rw (eq-eqb (suc (suc x)) r (omega arith)) (λ e. clash (cc))

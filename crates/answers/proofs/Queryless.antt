@@ -27,7 +27,7 @@ use Rattle.definitions.specs.Schedule.{Rec, record_at}
 use Rattle.definitions.specs.Run.{Progress, advance_by, advance, after}
 use Rattle.answers.specs.Reachable.{Unasked}
 use Rattle.answers.proofs.Tools.{◌==?◌, clash}
-use Rattle.answers.proofs.QuerylessSteps.{Unasking, Untouched, Queryless, Mild, Level, normal_range, neighbour_range, route_range, level-at}
+use Rattle.answers.proofs.QuerylessSteps.{Unasking, Untouched, Queryless, Mild, Level, normal_range, neighbour_range, route_range, level_at}
 
 -- ---- what a mild effect leaves
 
@@ -106,7 +106,7 @@ module _ (b : Bench) (h : Queryless b) (t y d : ℕ) where
 
   stepped_keeps : Keeps (stepped b t y d)
   unfolding stepped
-  stepped_keeps = either _ _ _ (λ _. either _ _ _ (λ _. either _ _ _ (λ _. tt) (λ _. taken_keeps _ (level-at (sight_of b.store) h.store.nodes (b.threads t) (h.threads t) (b.threads t).place (h.threads t).place))) (λ _. tt)) (λ _. tt)
+  stepped_keeps = either _ _ _ (λ _. either _ _ _ (λ _. either _ _ _ (λ _. tt) (λ _. taken_keeps _ (level_at (sight_of b.store) h.store.nodes (b.threads t) (h.threads t) (b.threads t).place (h.threads t).place))) (λ _. tt)) (λ _. tt)
 
   acted_keeps : (n : ℕ) → (n ≡ 6 → ⊥) → Keeps (acted n b t y d)
   acted_keeps zero o = stepped_keeps

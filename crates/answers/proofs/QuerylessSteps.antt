@@ -321,5 +321,5 @@ module _ (s : Sight) (none : (x : ℕ) → (s.nodes x).kind ≢ Range) (th : Thr
   level p82 l = absurd (omega arith)
 
   -- of every number below 60, whether it is a place's or not
-  pub level-at : (n : ℕ) → n < 60 → Level (step (place_of n) s th)
-  level-at n l = level (place_of n) (elim (dec_lt 0 (number (place_of n))) [ yes z ↦ subst (λ m. m < 60) (number_of n (place_of n) refl z) l | no z ↦ omega arith ])
+  pub level_at : (n : ℕ) → n < 60 → Level (step (place_of n) s th)
+  level_at n l = level (place_of n) (elim (dec_lt 0 (number (place_of n))) [ yes z ↦ subst (λ m. m < 60) (number_of n (place_of n) refl z) l | no z ↦ omega arith ])

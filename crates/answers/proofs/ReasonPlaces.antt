@@ -34,7 +34,7 @@ use Rattle.definitions.specs.Steps.{says, at_leaf, reached, onward, one_more, fo
 use Rattle.definitions.specs.Reasons.{changes, Reason}
 use Rattle.answers.proofs.PlaceNumbers.{place_number, number_of}
 use Rattle.answers.proofs.ReasonParts.{part_of, Stand, Stands, Told, same, either, one_shown, one_looked, or_off, apart, all_of, none}
-use Rattle.answers.proofs.ReasonQueries.{Free, fork, goes_back, at-60, at-61, at-62, at-opening, at_70, at_71, at_72, at_73, at_74, at_76, at_next, at_81, at_82}
+use Rattle.answers.proofs.ReasonQueries.{Free, fork, goes_back, at_60, at_61, at_62, at_opening, at_70, at_71, at_72, at_73, at_74, at_76, at_next, at_81, at_82}
 
 -- where nothing is written, none either
 not_less : (n : ℕ) → ltb n n ≡ false
@@ -209,9 +209,9 @@ module _ (s : Store) (th : Thread) where
     not_made : is_preparing (s.nodes th.main).stage ≡ false → changes th.action 35 s s th ≡ false
     not_made e = rw (i, e)
 
-    at-35 : Told th 35 (after 35 false) (step p35 r th)
+    at_35 : Told th 35 (after 35 false) (step p35 r th)
     unfolding step
-    at-35 = either th 35 _ _ _ _ (λ e. either th 35 _ _ _ _ (λ _. made e _ _ _ _ _ ∙ sym o) (λ _. tt)) (λ e. rw (not_made e) (backs th.grandparent))
+    at_35 = either th 35 _ _ _ _ (λ e. either th 35 _ _ _ _ (λ _. made e _ _ _ _ _ ∙ sym o) (λ _. tt)) (λ e. rw (not_made e) (backs th.grandparent))
 
   -- ---- 40 to 51
 
@@ -303,7 +303,7 @@ module _ (s : Store) (th : Thread) where
   told p32 d e (i, o, h) = calmly p32 false d e refl h (split 32 _ _ _ (i, o, refl) (split 32 _ _ _ (i, o, refl) (i, o, refl)))
   told p33 d e (i, o, h) = calmly p33 false d e refl h (grand i o th.grandparent)
   told p34 d e (i, o, h) = calmly p34 false d e refl h (i, o, refl)
-  told p35 d e (i, o, h) = placed p35 d e (omega arith) (rw h (at-35 i o))
+  told p35 d e (i, o, h) = placed p35 d e (omega arith) (rw h (at_35 i o))
   told p36 d e (i, o, h) = calmly p36 false d e refl h (i, o, refl)
   told p37 d e (i, o, h) = calmly p37 false d e refl h (i, o, refl)
   told p38 d e (i, o, h) = calmly p38 false d e refl h (rw i (refl, refl))
@@ -316,10 +316,10 @@ module _ (s : Store) (th : Thread) where
   told p49 d e h = calmly p49 th.owner d e refl h (at_47 49 false (r.nodes th.main).grandparent (r.nodes th.main))
   told p50 d e h = calmly p50 th.owner d e refl h (at_50 (r.nodes th.main).grandparent)
   told p51 d e h = calmly p51 th.owner d e refl h (ends 51 _)
-  told p60 d e h = calmly p60 false d e refl h (at-60 r th)
-  told p61 d e h = calmly p61 false d e refl h (at-61 r th)
-  told p62 d e h = calmly p62 false d e refl h (at-62 r th)
-  told (swap opening q) d e h = calmly (swap opening q) false d e (apart_opening q) h (at-opening r th (number (swap opening q)) q)
+  told p60 d e h = calmly p60 false d e refl h (at_60 r th)
+  told p61 d e h = calmly p61 false d e refl h (at_61 r th)
+  told p62 d e h = calmly p62 false d e refl h (at_62 r th)
+  told (swap opening q) d e h = calmly (swap opening q) false d e (apart_opening q) h (at_opening r th (number (swap opening q)) q)
   told p70 d e h = calmly p70 false d e refl h (at_70 r th)
   told p71 d e h = calmly p71 false d e refl h (at_71 r th)
   told p72 d e h = calmly p72 false d e refl h (at_72 r th)

@@ -109,21 +109,21 @@ module _ (s : Sight) (th : Thread) where
 
   -- ---- the places
 
-  pub at-60 : Free 60 (step p60 s th)
+  pub at_60 : Free 60 (step p60 s th)
   unfolding step
-  at-60 = in_frame_lem 60 th.frames _ (λ f fs. first_reached 60 s.root [] f fs)
+  at_60 = in_frame_lem 60 th.frames _ (λ f fs. first_reached 60 s.root [] f fs)
 
-  pub at-61 : Free 61 (step p61 s th)
+  pub at_61 : Free 61 (step p61 s th)
   unfolding step
-  at-61 = in_frame_lem 61 th.frames _ (λ f fs. first_reached 61 _ f.stack f fs)
+  at_61 = in_frame_lem 61 th.frames _ (λ f fs. first_reached 61 _ f.stack f fs)
 
-  pub at-62 : Free 62 (step p62 s th)
+  pub at_62 : Free 62 (step p62 s th)
   unfolding step
-  at-62 = in_frame_lem 62 th.frames _ (λ f fs. fork 62 _ _ _ refl (fork 62 _ _ _ refl refl))
+  at_62 = in_frame_lem 62 th.frames _ (λ f fs. fork 62 _ _ _ refl (fork 62 _ _ _ refl refl))
 
-  pub at-opening : (n : ℕ) (q : Quarter) → Free n (step (swap opening q) s th)
+  pub at_opening : (n : ℕ) (q : Quarter) → Free n (step (swap opening q) s th)
   unfolding step
-  at-opening n q = in_frame_lem n th.frames _ (λ f fs. by_opening n (probe q (s.nodes f.base).parent s.nodes s.root f.base) (s.nodes f.base) f fs)
+  at_opening n q = in_frame_lem n th.frames _ (λ f fs. by_opening n (probe q (s.nodes f.base).parent s.nodes s.root f.base) (s.nodes f.base) f fs)
 
   pub at_70 : Free 70 (step p70 s th)
   unfolding step

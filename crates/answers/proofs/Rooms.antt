@@ -21,7 +21,7 @@ use Rattle.answers.proofs.Memory.{World, Hist, Mem}
 use Rattle.answers.proofs.FrameFacts.{Climb, Downward, Opening, Upward, Nexts, TopOf, Top}
 use Rattle.answers.proofs.Knows.{Know}
 use Rattle.answers.proofs.Owners.{push_fits}
-use Rattle.answers.proofs.ReadPlaces.{know-now}
+use Rattle.answers.proofs.ReadPlaces.{know_now}
 use Rattle.answers.proofs.RunSet.{run_ends}
 use Rattle.answers.proofs.Reach.{nodes}
 use Rattle.answers.proofs.Gaps.{FitsIn}
@@ -145,4 +145,4 @@ pub reach_enter : (file : List ℕ) (k t : ℕ) → t < 4 → ((after file k).be
 reach_enter file k t l e = let o = run_ends file k in push_fits o.inv o.counts.owned t l (ap place_of e)
 
 pub reach_bare : (file : List ℕ) (k t : ℕ) → ((after file k).bench.threads t).place ≡ 0 → ((after file k).bench.threads t).frames ≡ []
-reach_bare file k t e = (know-now (run_ends file k).inv t nowhere (ap place_of e)).1
+reach_bare file k t e = (know_now (run_ends file k).inv t nowhere (ap place_of e)).1

@@ -212,12 +212,12 @@ module _ (s : Sight) (th : Thread) where
     moves : (f' : Frame) → f'.store ≡ f.store → (f.begun ≡ true → f'.begun ≡ true) → (n : ℕ) → Stay s th (Moves (to_frames n (f' ∷ fs) th) Quiet)
     moves f' i j n = bears_next Quiet f f' fs i j mine few (λ k v. absurd v) n
 
-    with-top : (e : Effect) (c : ℕ) (f' : Frame) → ((k : ℕ) → Shows e k → ⊥) → f'.store ≡ f.store → (f.begun ≡ true → f'.begun ≡ true) → Stay s th (adding e c f' fs th)
-    with-top e c f' n i j = added e c f' fs (λ S o. bears_top f f' fs S i j (mine S o)) few (λ k v. absurd (n k v))
+    with_top : (e : Effect) (c : ℕ) (f' : Frame) → ((k : ℕ) → Shows e k → ⊥) → f'.store ≡ f.store → (f.begun ≡ true → f'.begun ≡ true) → Stay s th (adding e c f' fs th)
+    with_top e c f' n i j = added e c f' fs (λ S o. bears_top f f' fs S i j (mine S o)) few (λ k v. absurd (n k v))
 
     first_found : (l : Link) (n : Node) (x : ℕ) (st : List ℕ) → Stay s th (found_first l n (in_hand x st f) fs th)
     first_found Nil n x st = moves (in_hand x st f) refl (λ v. v) 62
-    first_found (To k) n x st = fork s th _ _ _ (with-top Quiet _ (in_hand x st f) (λ k v. v) refl (λ v. v)) (moves (in_hand x st f) refl (λ v. v) 82)
+    first_found (To k) n x st = fork s th _ _ _ (with_top Quiet _ (in_hand x st f) (λ k v. v) refl (λ v. v)) (moves (in_hand x st f) refl (λ v. v) 82)
 
     first_reached : (x : ℕ) (l : List ℕ) → Stay s th (reached_first s.nodes x l f fs th)
     unfolding reached_first
@@ -233,7 +233,7 @@ module _ (s : Sight) (th : Thread) where
 
     met : (v : Shared) (n : Node) → Stay s th (met_by v n f fs th)
     met (Set c) n = (λ S o. o, λ h. h, λ k v. absurd v)
-    met Unset n = fork s th _ _ _ (with-top Quiet _ f (λ k v. v) refl (λ v. v)) (λ S o. o, λ h. h, λ k v. absurd v)
+    met Unset n = fork s th _ _ _ (with_top Quiet _ f (λ k v. v) refl (λ v. v)) (λ S o. o, λ h. h, λ k v. absurd v)
 
     -- 62: the frame takes another store; it has not begun
     ride : f.begun ≡ false → (l h k n : ℕ) → Stay s th (Moves (to_frames n (asks l h k f ∷ fs) th) Quiet)
@@ -253,7 +253,7 @@ module _ (s : Sight) (th : Thread) where
         other (g ∷ fs) S v = v
 
     by_next : (o : Probe) (n : Node) → Stay s th (extended_by o n s f fs th)
-    by_next (Hit v) n = fork s th _ _ _ (with-top _ _ (in_hand s.used (tail_of f.stack) f) (λ k v. v) refl (λ v. v)) tt
+    by_next (Hit v) n = fork s th _ _ _ (with_top _ _ (in_hand s.used (tail_of f.stack) f) (λ k v. v) refl (λ v. v)) tt
     by_next (Next q) n = (λ S o. o, λ h. h, λ k v. absurd v)
     by_next Miss n = goes_back _ (λ k v. v)
 
@@ -283,11 +283,11 @@ module _ (s : Sight) (th : Thread) where
 
   range_helped : (v : Shared) (n : Node) → (v ≡ Unset → length th.frames ≤ 3) → Stay s th (help_by (check_store v n) th)
   range_helped (Set c) n h = goes_back _ (λ k v. v)
-  range_helped Unset n h = ((λ S o. (o.0, on-top th.frames S o.1)), (λ _. let k = h refl in omega arith), λ k v. absurd v)
+  range_helped Unset n h = ((λ S o. (o.0, on_top_lem th.frames S o.1)), (λ _. let k = h refl in omega arith), λ k v. absurd v)
     where
-      on-top : (fs : List Frame) (S : ℕ) → Bears fs S → Bears (new_frame n.lower n.upper (To n.store) ∷ fs) S
-      on-top [] S v = absurd v
-      on-top (g ∷ fs) S v = v
+      on_top_lem : (fs : List Frame) (S : ℕ) → Bears fs S → Bears (new_frame n.lower n.upper (To n.store) ∷ fs) S
+      on_top_lem [] S v = absurd v
+      on_top_lem (g ∷ fs) S v = v
 
   -- 15, and 3 after a no
   help : (k : Kind) → (s.nodes th.base).kind ≡ k → Room s th → Stay s th (help_by (check_as k s.nodes s.stores th.base) th)
@@ -334,53 +334,53 @@ module _ (s : Sight) (th : Thread) where
   at_50 Nil = (λ S o. o, λ h. h, λ k v. absurd v)
   at_50 (To g) = fork s th _ _ _ (λ S o. o, λ h. h, λ k v. absurd v) (λ S o. o, λ h. h, λ k v. absurd v)
 
-  pub stay-op : (p : Place) → Sem p s th → Stay s th (step p s th)
+  pub stay_op : (p : Place) → Sem p s th → Stay s th (step p s th)
   unfolding step beside cleared blocked check
-  stay-op nowhere sem = (λ S o. o, λ h. h, λ k v. absurd v)
-  stay-op p1 sem = reach s.stop.on 0 s.root
-  stay-op p2 sem = follow s.stop.on s.stop.on (one_more th.read) (child_for th.station (s.nodes th.route))
-  stay-op p3 sem = fork s th _ _ _ (λ k v. v) (fork s th _ _ _ (clear th.action) (block th.action (sem.unhelped refl)))
-  stay-op p4 sem = pass Raise false 0 th.route (λ k v. v)
-  stay-op p5 sem = release th.action
-  stay-op (swap own q) sem = by_own (probe q (s.nodes th.base).parent s.nodes s.root th.base)
-  stay-op p15 sem = help (s.nodes th.base).kind refl (sem.fits refl)
-  stay-op p16 sem = fork s th _ _ _ (goes_back _ (λ k v. v)) (goes_back _ (λ k v. v))
-  stay-op p19 sem = fork s th _ _ _ (λ S o. o, λ h. h, λ k v. absurd v) (λ k v. v)
-  stay-op p20 sem = fork s th _ _ _ (λ S o. o, λ h. h, λ k v. absurd v) (λ S o. o, λ h. h, λ k v. absurd v)
-  stay-op p21 sem = fork s th _ _ _ (λ S o. o, λ h. h, λ k v. absurd v) (λ k v. v)
-  stay-op p22 sem = fork s th _ _ _ (λ S o. o, λ h. h, λ k v. absurd v) (λ S o. o, λ h. h, λ k v. absurd v)
-  stay-op p23 sem = fork s th _ _ _ (λ S o. o, λ h. h, λ k v. absurd v) (λ S o. o, λ h. h, λ k v. absurd v)
-  stay-op p24 sem = fork s th _ _ _ (λ S o. o, λ h. h, λ k v. absurd v) (λ k v. v)
-  stay-op p25 sem = fork s th _ _ _ (fork s th _ _ _ (λ S o. o, λ h. h, λ k v. absurd v) tt) (λ k v. v)
-  stay-op (swap found q) sem = by_found (probe q (s.nodes th.found).parent s.nodes s.root th.found)
-  stay-op p30 sem = fork s th _ _ _ (λ S o. o, λ h. h, λ k v. absurd v) (λ S o. o, λ h. h, λ k v. absurd v)
-  stay-op p31 sem = fork s th _ _ _ (λ S o. o, λ h. h, λ k v. absurd v) (fork s th _ _ _ (λ S o. o, λ h. h, λ k v. absurd v) (λ S o. o, λ h. h, λ k v. absurd v))
-  stay-op p32 sem = fork s th _ _ _ (λ S o. o, λ h. h, λ k v. absurd v) (fork s th _ _ _ (λ S o. o, λ h. h, λ k v. absurd v) (λ S o. o, λ h. h, λ k v. absurd v))
-  stay-op p33 sem = grand th.grandparent
-  stay-op p34 sem = (λ S o. o, λ h. h, λ k v. absurd v)
-  stay-op p35 sem = fork s th _ _ _ (fork s th _ _ _ (λ S o. o, λ h. h, λ k v. absurd v) tt) (λ S o. o, λ h. h, λ k v. absurd v)
-  stay-op p36 sem = (λ S o. o, λ h. h, λ k v. absurd (shows_unmark th.grandparent k v))
-  stay-op p37 sem = (λ S o. o, λ h. h, λ k v. absurd v)
-  stay-op p38 sem = (λ k v. v)
-  stay-op p40 sem = fork s th _ _ _ (fork s th _ _ _ (λ k v. v) (goes_back _ (λ k v. v))) (λ S o. o, λ h. h, λ k v. absurd v)
-  stay-op (swap united q) sem = by_united (probe q (s.nodes (s.nodes th.main).neighbour).parent s.nodes s.root (s.nodes th.main).neighbour) (s.nodes th.main)
-  stay-op p45 sem = (λ S o. o, λ h. h, λ k v. absurd (shows_invalid (s.nodes th.main).parent k v))
-  stay-op p46 sem = at_46 (s.nodes th.main).grandparent (s.nodes th.main)
-  stay-op p47 sem = at_47 true (s.nodes th.main).grandparent (s.nodes th.main)
-  stay-op p48 sem = at_48 (s.nodes th.main).grandparent (s.nodes th.main)
-  stay-op p49 sem = at_47 false (s.nodes th.main).grandparent (s.nodes th.main)
-  stay-op p50 sem = at_50 (s.nodes th.main).grandparent
-  stay-op p51 sem = fork s th _ _ _ (λ k v. v) (goes_back _ (λ k v. v))
-  stay-op p60 sem = in_frame_lem th.frames _ refl (λ f fs E. first_reached f fs E s.root [])
-  stay-op p61 sem = in_frame_lem th.frames _ refl (λ f fs E. first_reached f fs E _ f.stack)
-  stay-op p62 sem = in_frame_lem th.frames _ refl (λ f fs E. fork s th _ _ _ (λ S o. o, λ h. h, λ k v. absurd v) (fork s th _ _ _ (ride f fs E (subst (λ v. TopOf v (λ f. f.begun ≡ false)) E (sem.new refl)) _ _ _ 60) (λ S o. o, λ h. h, λ k v. absurd v)))
-  stay-op (swap opening q) sem = in_frame_lem th.frames _ refl (λ f fs E. by_opening f fs E (sem.single q refl f fs E) (probe q (s.nodes f.base).parent s.nodes s.root f.base) (s.nodes f.base))
-  stay-op p70 sem = in_frame_lem th.frames _ refl (λ f fs E. fork s th _ _ _ (λ S o. o, λ h. h, λ k v. absurd v) (moves f fs E (noting (s.nodes (top_of f.stack)).key f) refl (λ v. v) 72))
-  stay-op p71 sem = in_frame_lem th.frames _ refl (λ f fs E. next_reached f fs E _)
-  stay-op p72 sem = in_frame_lem th.frames _ refl (λ f fs E. fork s th _ _ _ (λ S o. o, λ h. h, λ k v. absurd v) (popped f fs E (tail_of f.stack)))
-  stay-op p73 sem = in_frame_lem th.frames _ refl (λ f fs E. next_reached f fs E _)
-  stay-op p74 sem = in_frame_lem th.frames _ refl (λ f fs E. met f fs E (s.stores (store_of f.store)) (s.nodes f.base))
-  stay-op p76 sem = in_frame_lem th.frames _ refl (λ f fs E. fork s th _ _ _ (λ S o. o, λ h. h, λ k v. absurd v) (λ S o. o, λ h. h, λ k v. absurd v))
-  stay-op (swap next q) sem = in_frame_lem th.frames _ refl (λ f fs E. by_next f fs E (probe q (s.nodes f.base).parent s.nodes s.root f.base) (s.nodes f.base))
-  stay-op p81 sem = in_frame_lem th.frames _ refl (λ f fs E. fills f fs E (s.stores (store_of f.store)))
-  stay-op p82 sem = in_frame_lem th.frames _ refl (λ f fs E. read_out_lem f fs E (s.stores (store_of f.store)) refl)
+  stay_op nowhere sem = (λ S o. o, λ h. h, λ k v. absurd v)
+  stay_op p1 sem = reach s.stop.on 0 s.root
+  stay_op p2 sem = follow s.stop.on s.stop.on (one_more th.read) (child_for th.station (s.nodes th.route))
+  stay_op p3 sem = fork s th _ _ _ (λ k v. v) (fork s th _ _ _ (clear th.action) (block th.action (sem.unhelped refl)))
+  stay_op p4 sem = pass Raise false 0 th.route (λ k v. v)
+  stay_op p5 sem = release th.action
+  stay_op (swap own q) sem = by_own (probe q (s.nodes th.base).parent s.nodes s.root th.base)
+  stay_op p15 sem = help (s.nodes th.base).kind refl (sem.fits refl)
+  stay_op p16 sem = fork s th _ _ _ (goes_back _ (λ k v. v)) (goes_back _ (λ k v. v))
+  stay_op p19 sem = fork s th _ _ _ (λ S o. o, λ h. h, λ k v. absurd v) (λ k v. v)
+  stay_op p20 sem = fork s th _ _ _ (λ S o. o, λ h. h, λ k v. absurd v) (λ S o. o, λ h. h, λ k v. absurd v)
+  stay_op p21 sem = fork s th _ _ _ (λ S o. o, λ h. h, λ k v. absurd v) (λ k v. v)
+  stay_op p22 sem = fork s th _ _ _ (λ S o. o, λ h. h, λ k v. absurd v) (λ S o. o, λ h. h, λ k v. absurd v)
+  stay_op p23 sem = fork s th _ _ _ (λ S o. o, λ h. h, λ k v. absurd v) (λ S o. o, λ h. h, λ k v. absurd v)
+  stay_op p24 sem = fork s th _ _ _ (λ S o. o, λ h. h, λ k v. absurd v) (λ k v. v)
+  stay_op p25 sem = fork s th _ _ _ (fork s th _ _ _ (λ S o. o, λ h. h, λ k v. absurd v) tt) (λ k v. v)
+  stay_op (swap found q) sem = by_found (probe q (s.nodes th.found).parent s.nodes s.root th.found)
+  stay_op p30 sem = fork s th _ _ _ (λ S o. o, λ h. h, λ k v. absurd v) (λ S o. o, λ h. h, λ k v. absurd v)
+  stay_op p31 sem = fork s th _ _ _ (λ S o. o, λ h. h, λ k v. absurd v) (fork s th _ _ _ (λ S o. o, λ h. h, λ k v. absurd v) (λ S o. o, λ h. h, λ k v. absurd v))
+  stay_op p32 sem = fork s th _ _ _ (λ S o. o, λ h. h, λ k v. absurd v) (fork s th _ _ _ (λ S o. o, λ h. h, λ k v. absurd v) (λ S o. o, λ h. h, λ k v. absurd v))
+  stay_op p33 sem = grand th.grandparent
+  stay_op p34 sem = (λ S o. o, λ h. h, λ k v. absurd v)
+  stay_op p35 sem = fork s th _ _ _ (fork s th _ _ _ (λ S o. o, λ h. h, λ k v. absurd v) tt) (λ S o. o, λ h. h, λ k v. absurd v)
+  stay_op p36 sem = (λ S o. o, λ h. h, λ k v. absurd (shows_unmark th.grandparent k v))
+  stay_op p37 sem = (λ S o. o, λ h. h, λ k v. absurd v)
+  stay_op p38 sem = (λ k v. v)
+  stay_op p40 sem = fork s th _ _ _ (fork s th _ _ _ (λ k v. v) (goes_back _ (λ k v. v))) (λ S o. o, λ h. h, λ k v. absurd v)
+  stay_op (swap united q) sem = by_united (probe q (s.nodes (s.nodes th.main).neighbour).parent s.nodes s.root (s.nodes th.main).neighbour) (s.nodes th.main)
+  stay_op p45 sem = (λ S o. o, λ h. h, λ k v. absurd (shows_invalid (s.nodes th.main).parent k v))
+  stay_op p46 sem = at_46 (s.nodes th.main).grandparent (s.nodes th.main)
+  stay_op p47 sem = at_47 true (s.nodes th.main).grandparent (s.nodes th.main)
+  stay_op p48 sem = at_48 (s.nodes th.main).grandparent (s.nodes th.main)
+  stay_op p49 sem = at_47 false (s.nodes th.main).grandparent (s.nodes th.main)
+  stay_op p50 sem = at_50 (s.nodes th.main).grandparent
+  stay_op p51 sem = fork s th _ _ _ (λ k v. v) (goes_back _ (λ k v. v))
+  stay_op p60 sem = in_frame_lem th.frames _ refl (λ f fs E. first_reached f fs E s.root [])
+  stay_op p61 sem = in_frame_lem th.frames _ refl (λ f fs E. first_reached f fs E _ f.stack)
+  stay_op p62 sem = in_frame_lem th.frames _ refl (λ f fs E. fork s th _ _ _ (λ S o. o, λ h. h, λ k v. absurd v) (fork s th _ _ _ (ride f fs E (subst (λ v. TopOf v (λ f. f.begun ≡ false)) E (sem.new refl)) _ _ _ 60) (λ S o. o, λ h. h, λ k v. absurd v)))
+  stay_op (swap opening q) sem = in_frame_lem th.frames _ refl (λ f fs E. by_opening f fs E (sem.single q refl f fs E) (probe q (s.nodes f.base).parent s.nodes s.root f.base) (s.nodes f.base))
+  stay_op p70 sem = in_frame_lem th.frames _ refl (λ f fs E. fork s th _ _ _ (λ S o. o, λ h. h, λ k v. absurd v) (moves f fs E (noting (s.nodes (top_of f.stack)).key f) refl (λ v. v) 72))
+  stay_op p71 sem = in_frame_lem th.frames _ refl (λ f fs E. next_reached f fs E _)
+  stay_op p72 sem = in_frame_lem th.frames _ refl (λ f fs E. fork s th _ _ _ (λ S o. o, λ h. h, λ k v. absurd v) (popped f fs E (tail_of f.stack)))
+  stay_op p73 sem = in_frame_lem th.frames _ refl (λ f fs E. next_reached f fs E _)
+  stay_op p74 sem = in_frame_lem th.frames _ refl (λ f fs E. met f fs E (s.stores (store_of f.store)) (s.nodes f.base))
+  stay_op p76 sem = in_frame_lem th.frames _ refl (λ f fs E. fork s th _ _ _ (λ S o. o, λ h. h, λ k v. absurd v) (λ S o. o, λ h. h, λ k v. absurd v))
+  stay_op (swap next q) sem = in_frame_lem th.frames _ refl (λ f fs E. by_next f fs E (probe q (s.nodes f.base).parent s.nodes s.root f.base) (s.nodes f.base))
+  stay_op p81 sem = in_frame_lem th.frames _ refl (λ f fs E. fills f fs E (s.stores (store_of f.store)))
+  stay_op p82 sem = in_frame_lem th.frames _ refl (λ f fs E. read_out_lem f fs E (s.stores (store_of f.store)) refl)

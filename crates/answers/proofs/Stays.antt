@@ -52,7 +52,7 @@ module _ (w w' : World) (hist : Hist) (Mine : ℕ → Type 0) (r : Rely w w' his
   shorts (f ∷ fs) h = short_stays f h
 
   helps : (th : Thread) → Helps w th → Helps w' th
-  helps th a = record { act = a.act; no-look = a.no-look; main = on_main _ a.main; closed = r.closed _ a.closed; top = λ e. shorts th.frames (a.top e) }
+  helps th a = record { act = a.act; no_look = a.no_look; main = on_main _ a.main; closed = r.closed _ a.closed; top = λ e. shorts th.frames (a.top e) }
 
   p_stale : (m : ℕ) → PStale w m → PStale w' m
   p_stale m a P e = r.stores.invalid P (a P (sym (r.parent m) ∙ e))
@@ -68,7 +68,7 @@ module _ (w w' : World) (hist : Hist) (Mine : ℕ → Type 0) (r : Rely w w' his
     topped a b = r.marked _ _ _ _ mine a.owns b
 
     neighed : Neighed w th → Neighed w' th
-    neighed a = r.has-neigh _ _ _ _ a
+    neighed a = r.has_neigh _ _ _ _ a
 
     grand : Holds w th → Topped w th → Grand w th.main th.parent th.grandparent → Grand w' th.main th.parent th.grandparent
     grand a b (none e q) = none e (r.root _ _ _ a.owns b q)
@@ -76,9 +76,9 @@ module _ (w w' : World) (hist : Hist) (Mine : ℕ → Type 0) (r : Rely w w' his
 
   union_stays : (q : Quarter) (th : Thread) → KnowU q w th → KnowU q w' th
   union_stays ReadLeft th a = helps th a
-  union_stays SwapLeft th (a, b) = (helps th a, r.there-n _ true a.main a.closed b)
+  union_stays SwapLeft th (a, b) = (helps th a, r.there_n _ true a.main a.closed b)
   union_stays ReadRight th (a, b) = (helps th a, r.off_n _ true a.main a.closed b)
-  union_stays SwapRight th (a, b) = (helps th a, r.there-n _ false a.main a.closed b)
+  union_stays SwapRight th (a, b) = (helps th a, r.there_n _ false a.main a.closed b)
 
   -- ---- frames
 
@@ -117,8 +117,8 @@ module _ (w w' : World) (hist : Hist) (Mine : ℕ → Type 0) (r : Rely w w' his
     sight = λ q. sight_stays S _ (tail_of f.backup) a.of a.born q a.climb (a.sight (r.stores.waited S q));
   }
 
-  pub asks-stays : (f : Frame) (S : ℕ) → Asks w hist f S → Asks w' hist f S
-  asks-stays f S a = let o = r.stores.told S a.low in record {
+  pub asks_stays : (f : Frame) (S : ℕ) → Asks w hist f S → Asks w' hist f S
+  asks_stays f S a = let o = r.stores.told S a.low in record {
     store = a.store;
     low = omega (arith, a.low, r.stores.shown);
     lower = a.lower ∙ sym o.0;
@@ -131,7 +131,7 @@ module _ (w w' : World) (hist : Hist) (Mine : ℕ → Type 0) (r : Rely w w' his
   bottom_stays : (t : ℕ) (th : Thread) (f : Frame) → t ≤ w.now → Bottom w hist t th f → Bottom w' hist t th f
   bottom_stays t th f h (free a b c d e i j) = free a b c d e i j
   bottom_stays t th f h (rides S a i j p m) = let o = r.stores.told S a.low in
-      rides S (asks-stays f S a) (rw o.2 i) (rw o.1 j) p (λ c e. go (w.stores S) refl c e)
+      rides S (asks_stays f S a) (rw o.2 i) (rw o.1 j) p (λ c e. go (w.stores S) refl c e)
     where
       go : (v : Shared) → w.stores S ≡ v → (c : ℕ) → w'.stores S ≡ Set c → t ≤ (w'.tale S).time
       go Unset q c e = omega (arith, r.stores.timed S c a.low q e)
@@ -151,59 +151,59 @@ module _ (w w' : World) (hist : Hist) (Mine : ℕ → Type 0) (r : Rely w w' his
       let q' = r.stores.hold Z S (prev_of f) az.low lowS d.of d.born wz q eq (subst (λ v. reaches (w.nodes (prev_of f)).container.set v ≡ false) az.upper s) in
       (omega (arith, lowS, r.stores.shown), q', (r.stores.still Z _ d.of d.born q').1 ∙ eq ∙ sym (r.stores.told S lowS).2))
 
-  pub pile-stays : (t : ℕ) (th : Thread) (fs : List Frame) → t ≤ w.now → PileOf w hist t th fs → PileOf w' hist t th fs
-  pile-stays t th [] h p = tt
-  pile-stays t th (f ∷ []) h p = go (is_query th.action) p
+  pub pile_stays : (t : ℕ) (th : Thread) (fs : List Frame) → t ≤ w.now → PileOf w hist t th fs → PileOf w' hist t th fs
+  pile_stays t th [] h p = tt
+  pile_stays t th (f ∷ []) h p = go (is_query th.action) p
     where
       go : (c : Bool) → Own c w hist t th f → Own c w' hist t th f
       go true b = bottom_stays t th f h b
-      go false (S, a) = (S, asks-stays f S a)
-  pile-stays t th (f ∷ g ∷ fs) h ((S, a), v, p) = ((S, asks-stays f S a), waiting_stays f g S a (asks_of w hist t th (g ∷ fs) p) v, pile-stays t th (g ∷ fs) h p)
+      go false (S, a) = (S, asks_stays f S a)
+  pile_stays t th (f ∷ g ∷ fs) h ((S, a), v, p) = ((S, asks_stays f S a), waiting_stays f g S a (asks_of w hist t th (g ∷ fs) p) v, pile_stays t th (g ∷ fs) h p)
 
   unless : (f : Frame) (Q Q' : ℕ → Type 0) → ((S : ℕ) → f.store ≡ To S → Waits w' S → Q S → Q' S) → Unless w f Q → Unless w' f Q'
   unless f Q Q' h k S e q = h S e q (k S e (r.stores.waited S q))
 
   -- of the frame on top; its store is told of
   module _ (f : Frame) (tell : (S : ℕ) → f.store ≡ To S → Asks w hist f S) where
-    added-at : (S : ℕ) → f.store ≡ To S → f.begun ≡ true → Added w hist f S
-    added-at S e b = (tell S e).added b
+    added_at : (S : ℕ) → f.store ≡ To S → f.begun ≡ true → Added w hist f S
+    added_at S e b = (tell S e).added b
 
     downward : Downward w f → Downward w' f
     downward k = record {
       begun = k.begun;
       climb = climbs f.stack k.climb;
       some = k.some;
-      range = r.range _ _ (top-born f.stack k.climb k.some).1 k.range;
+      range = r.range _ _ (top_born f.stack k.climb k.some).1 k.range;
       entries = λ z m. r.range z _ (member_routed w z f.stack k.climb m).1 (k.entries z m);
-      fresh = unless f _ _ (λ S e q v. let o = r.stores.told S (tell S e).low in let b = top-born f.stack k.climb k.some in
+      fresh = unless f _ _ (λ S e q v. let o = r.stores.told S (tell S e).low in let b = top_born f.stack k.climb k.some in
           subst (λ z. Fresh w' z (top_of f.stack)) (sym o.3) (r.fresh _ _ o.4 v)) k.fresh;
     }
       where
-        top-born : (s : List ℕ) → Climb w s → s ≢ [] → Routed w (top_of s)
-        top-born s c h = top_routed w s c h
+        top_born : (s : List ℕ) → Climb w s → s ≢ [] → Routed w (top_of s)
+        top_born s c h = top_routed w s c h
 
-    opening-stays : Opening w f → Opening w' f
-    opening-stays k = record { begun = k.begun; free = k.free; at = base _ _ k.at; climb = climbs (tail_of f.stack) k.climb; alone = λ e. r.parent _ ∙ k.alone e; entries = λ z m. r.range z _ (member_routed w z (tail_of f.stack) k.climb m).1 (k.entries z m); hung = r.stores.hang _ _ k.at.born k.climb k.hung }
+    opening_stays : Opening w f → Opening w' f
+    opening_stays k = record { begun = k.begun; free = k.free; at = base _ _ k.at; climb = climbs (tail_of f.stack) k.climb; alone = λ e. r.parent _ ∙ k.alone e; entries = λ z m. r.range z _ (member_routed w z (tail_of f.stack) k.climb m).1 (k.entries z m); hung = r.stores.hang _ _ k.at.born k.climb k.hung }
 
     upward : Upward w f → Upward w' f
     upward k = record { begun = k.begun; climb = climbs f.stack k.climb; some = k.some; short = ap (λ c. reaches c.set f.upper) (r.container (prev_of f)) ∙ k.short }
 
-    hi-still : (S : ℕ) → f.store ≡ To S → f.begun ≡ true → Waits w' S → w'.hi (prev_of f) ≡ w.hi (prev_of f)
-    hi-still S e b q = let a = added-at S e b in (r.stores.still S _ a.of a.born q).1
+    hi_still : (S : ℕ) → f.store ≡ To S → f.begun ≡ true → Waits w' S → w'.hi (prev_of f) ≡ w.hi (prev_of f)
+    hi_still S e b q = let a = added_at S e b in (r.stores.still S _ a.of a.born q).1
 
     turns : Upward w f → Turns w f → Turns w' f
-    turns u = unless f _ _ (λ S e q v. let a = added-at S e u.begun in
-        (r.stores.turn S _ _ a.of a.born q (top-kind f.stack u.climb u.some) v.0 v.1, r.key _ ∙ v.1 ∙ sym (hi-still S e u.begun q)))
+    turns u = unless f _ _ (λ S e q v. let a = added_at S e u.begun in
+        (r.stores.turn S _ _ a.of a.born q (top_kind f.stack u.climb u.some) v.0 v.1, r.key _ ∙ v.1 ∙ sym (hi_still S e u.begun q)))
       where
-        top-kind : (s : List ℕ) → Climb w s → s ≢ [] → kind_of w (top_of s) ≡ Route
-        top-kind s c h = (top_routed w s c h).0
+        top_kind : (s : List ℕ) → Climb w s → s ≢ [] → kind_of w (top_of s) ≡ Route
+        top_kind s c h = (top_routed w s c h).0
 
     nearing : Upward w f → Nearing w f → Nearing w' f
-    nearing u = unless f _ _ (λ S e q v. let (X, k, l, i, j, n, en) = v in let a = added-at S e u.begun in let z = hi-still S e u.begun q in
-        (X, r.kind X ∙ k, r.stores.turn S _ _ a.of a.born q k l i, r.key X ∙ i ∙ sym z, j, rw z (r.range _ _ (top-born f.stack u.climb u.some) n), entries_stay f.stack _ _ u.climb z en))
+    nearing u = unless f _ _ (λ S e q v. let (X, k, l, i, j, n, en) = v in let a = added_at S e u.begun in let z = hi_still S e u.begun q in
+        (X, r.kind X ∙ k, r.stores.turn S _ _ a.of a.born q k l i, r.key X ∙ i ∙ sym z, j, rw z (r.range _ _ (top_born f.stack u.climb u.some) n), entries_stay f.stack _ _ u.climb z en))
       where
-        top-born : (s : List ℕ) → Climb w s → s ≢ [] → Born w (top_of s)
-        top-born s c h = (top_routed w s c h).1
+        top_born : (s : List ℕ) → Climb w s → s ≢ [] → Born w (top_of s)
+        top_born s c h = (top_routed w s c h).1
 
     nexts : Nexts w f → Nexts w' f
     nexts k = record {
@@ -213,7 +213,7 @@ module _ (w w' : World) (hist : Hist) (Mine : ℕ → Type 0) (r : Rely w w' his
       top = k.top;
       climb = climbs (tail_of f.stack) k.climb;
       some = k.some;
-      beyond = unless f _ _ (λ S e q v. let z = hi-still S e k.begun q in (rw z (r.range _ _ k.born v.0), rw z (r.range _ _ (top_routed w (tail_of f.stack) k.climb k.some).1 v.1), entries_stay (tail_of f.stack) _ _ k.climb z v.2)) k.beyond;
+      beyond = unless f _ _ (λ S e q v. let z = hi_still S e k.begun q in (rw z (r.range _ _ k.born v.0), rw z (r.range _ _ (top_routed w (tail_of f.stack) k.climb k.some).1 v.1), entries_stay (tail_of f.stack) _ _ k.climb z v.2)) k.beyond;
       hung = r.stores.hang _ _ k.born k.climb k.hung;
       short = ap (λ c. reaches c.set f.upper) (r.container (prev_of f)) ∙ k.short;
     }
@@ -222,25 +222,25 @@ module _ (w w' : World) (hist : Hist) (Mine : ℕ → Type 0) (r : Rely w w' his
     outside k o = record {
       other = λ S e v. o.other S e (sym (r.kind _) ∙ v.0, sym (r.stores.store _) ∙ v.1);
       waits = λ S e l. let q = o.waits S e (was_live _ k.born l) in let a = tell S e in let d = a.added k.begun in
-          r.stores.hold-base S (prev_of f) f.base a.low d.of d.born q (subst (λ v. reaches (w.nodes (prev_of f)).container.set v ≡ false) a.upper k.short) k.kind l (o.other S e) (k.beyond S e q).0;
+          r.stores.hold_base S (prev_of f) f.base a.low d.of d.born q (subst (λ v. reaches (w.nodes (prev_of f)).container.set v ≡ false) a.upper k.short) k.kind l (o.other S e) (k.beyond S e q).0;
     }
 
     aheads : Upward w f → Ahead w f → Ahead w' f
-    aheads u = unless f _ _ (λ S e q v i. let z = hi-still S e u.begun q in let (X, k, l, j, m) = v (rw z at i) in let a = added-at S e u.begun in
+    aheads u = unless f _ _ (λ S e q v i. let z = hi_still S e u.begun q in let (X, k, l, j, m) = v (rw z at i) in let a = added_at S e u.begun in
         (X, r.kind X ∙ k, r.stores.turn S _ _ a.of a.born q k l j, r.key X ∙ j ∙ sym z, m))
 
     besides : Upward w f → Beside w f → Beside w' f
     besides u k = record {
       some = k.some;
       key = k.key ∙ sym (r.key _);
-      off = unless f _ _ (λ S e q v. let a = added-at S e u.begun in r.stores.off S _ _ true a.of a.born q v) k.off;
+      off = unless f _ _ (λ S e q v. let a = added_at S e u.begun in r.stores.off S _ _ true a.of a.born q v) k.off;
     }
 
     complete : Complete w f → Complete w' f
     complete k = record {
       begun = k.begun;
-      passed = unless f _ _ (λ S e q v. rw (hi-still S e k.begun q) v) k.passed;
-      full = unless f _ _ (λ S e q v. elim v [ inl c ↦ inl (ap (λ u. reaches u.set f.upper) (r.container (prev_of f)) ∙ c) | inr c ↦ inr (hi-still S e k.begun q ∙ c) ]) k.full;
+      passed = unless f _ _ (λ S e q v. rw (hi_still S e k.begun q) v) k.passed;
+      full = unless f _ _ (λ S e q v. elim v [ inl c ↦ inl (ap (λ u. reaches u.set f.upper) (r.container (prev_of f)) ∙ c) | inr c ↦ inr (hi_still S e k.begun q ∙ c) ]) k.full;
     }
 
     ready : Ready w f → Ready w' f
@@ -263,7 +263,7 @@ module _ (w w' : World) (hist : Hist) (Mine : ℕ → Type 0) (r : Rely w w' his
   stays p23 t th mine pl (a, b) = (seeks th a, side_by _ _ _ _ _ (back_in_lem th a) b)
   stays p24 t th mine pl (a, b) = (seeks th a, found_by_lem _ _ _ _ _ (back_in_lem th a) b)
   stays p25 t th mine pl (a, b, c) = (seeks th a, found_by_lem _ _ _ _ _ (back_in_lem th a) b, r.replaceable _ c)
-  stays (swap found q) t th mine pl (a, b, c) = (holds th (mine refl) a, found_by_lem _ _ _ _ _ (r.prep-was _) b, r.replaceable _ c)
+  stays (swap found q) t th mine pl (a, b, c) = (holds th (mine refl) a, found_by_lem _ _ _ _ _ (r.prep_was _) b, r.replaceable _ c)
   stays p30 t th mine pl (a, b) = (holds th (mine refl) a, neighed th (mine refl) b)
   stays p31 t th mine pl (a, b, c) = (holds th (mine refl) a, neighed th (mine refl) b, topped th (mine refl) a c)
   stays p32 t th mine pl (a, b, c, d) = (holds th (mine refl) a, neighed th (mine refl) b, topped th (mine refl) a c, record { kind = r.kind _ ∙ d.kind; born = r.born _ d.born })
@@ -274,24 +274,24 @@ module _ (w w' : World) (hist : Hist) (Mine : ℕ → Type 0) (r : Rely w w' his
     neighed th (mine refl) b,
     topped th (mine refl) a c,
     grand th (mine refl) a c d,
-    λ e. r.other _ _ _ _ (r.prep-was _ e) a.owns c b ∙ s (r.prep-was _ e),
+    λ e. r.other _ _ _ _ (r.prep_was _ e) a.owns c b ∙ s (r.prep_was _ e),
   )
   stays p36 t th mine pl (a, c, d) = (holds th (mine refl) a, topped th (mine refl) a c, grand th (mine refl) a c d)
   stays p37 t th mine pl (a, c) = (holds th (mine refl) a, topped th (mine refl) a c)
   stays p38 t th mine pl a = holds th (mine refl) a
   stays p40 t th mine pl a = helps th a
   stays (swap united q) t th mine pl a = union_stays q th a
-  stays p45 t th mine pl (a, b) = (helps th a, r.n-dead _ a.closed b)
-  stays p46 t th mine pl (a, (b, i)) = (helps th a, (r.n-dead _ a.closed b, p_stale _ i))
-  stays p47 t th mine pl (a, (b, i), c) = (helps th a, (r.n-dead _ a.closed b, p_stale _ i), r.there-p _ true a.main a.closed c)
-  stays p48 t th mine pl (a, (b, i), c) = (helps th a, (r.n-dead _ a.closed b, p_stale _ i), r.off_p _ true a.main a.closed c)
-  stays p49 t th mine pl (a, (b, i), c) = (helps th a, (r.n-dead _ a.closed b, p_stale _ i), r.there-p _ false a.main a.closed c)
+  stays p45 t th mine pl (a, b) = (helps th a, r.n_dead _ a.closed b)
+  stays p46 t th mine pl (a, (b, i)) = (helps th a, (r.n_dead _ a.closed b, p_stale _ i))
+  stays p47 t th mine pl (a, (b, i), c) = (helps th a, (r.n_dead _ a.closed b, p_stale _ i), r.there_p _ true a.main a.closed c)
+  stays p48 t th mine pl (a, (b, i), c) = (helps th a, (r.n_dead _ a.closed b, p_stale _ i), r.off_p _ true a.main a.closed c)
+  stays p49 t th mine pl (a, (b, i), c) = (helps th a, (r.n_dead _ a.closed b, p_stale _ i), r.there_p _ false a.main a.closed c)
   stays p50 t th mine pl (a, b) = (helps th a, p_dead _ b)
   stays p51 t th mine pl (a, b) = (helps th a, p_dead _ b)
   stays p60 t th mine pl (a, h) = (a, h)
   stays p61 t th mine pl (a, h) = (on_top w hist t th th.frames _ _ pl (λ f s k. downward f s k) a, h)
-  stays p62 t th mine pl (a, h) = (on_top w hist t th th.frames _ _ pl (λ f s k. opening-stays f s k) a, h)
-  stays (swap opening q) t th mine pl (a, h) = (on_top w hist t th th.frames _ _ pl (λ f s (k, v). (opening-stays f s k, r.replaceable _ v)) a, h)
+  stays p62 t th mine pl (a, h) = (on_top w hist t th th.frames _ _ pl (λ f s k. opening_stays f s k) a, h)
+  stays (swap opening q) t th mine pl (a, h) = (on_top w hist t th th.frames _ _ pl (λ f s (k, v). (opening_stays f s k, r.replaceable _ v)) a, h)
   stays p70 t th mine pl (a, h) = (on_top w hist t th th.frames _ _ pl (λ f s (k, v, x). (upward f s k, v, x)) a, h)
   stays p71 t th mine pl (a, h) = (on_top w hist t th th.frames _ _ pl (λ f s (k, v, x). (upward f s k, turns f s k v, x)) a, h)
   stays p72 t th mine pl (a, h) = (on_top w hist t th th.frames _ _ pl (λ f s (k, x, v, o). (upward f s k, x, aheads f s k v, besides f s k o)) a, h)

@@ -53,8 +53,8 @@ pub record Allowed (s : Store) (p : Place) (th : Thread) (Q : Effect → Type 0)
   pub fork : (v : Spot) (q : Quarter) → p ≡ swap own q → th.action ≡ Split → s.used + 3 ≤ 256
       → Q (Fork v s.used (s.used + 1) (s.used + 2) (split_key (s.nodes th.base).container.set) th.base)
   pub commit : (m : ℕ) (l : Link) (n : ℕ) (g : Link) (o : ℕ) → s.used + 1 ≤ 256 → Q (Commit m s.used l n g o)
-  pub ask-old : (v : Spot) (l : Link) (y a h k : ℕ) → s.used + 1 ≤ 256 → Q (Ask v s.used l y a h k false)
-  pub ask-new : (v : Spot) (l : Link) (y a h : ℕ) → s.used + 1 ≤ 256 → s.shown + 1 ≤ 64 → Q (Ask v s.used l y a h s.shown true)
+  pub ask_old : (v : Spot) (l : Link) (y a h k : ℕ) → s.used + 1 ≤ 256 → Q (Ask v s.used l y a h k false)
+  pub ask_new : (v : Spot) (l : Link) (y a h : ℕ) → s.used + 1 ≤ 256 → s.shown + 1 ≤ 64 → Q (Ask v s.used l y a h s.shown true)
 
 -- Q of the effect of a turn
 abbrev pub Each : (Effect → Type 0) → Turn → Type 0
@@ -258,12 +258,12 @@ module _ (s : Store) (p : Place) (th : Thread) (Q : Effect → Type 0) (may : Al
   reach_next x f fs = pick _ _ _ may.quiet may.quiet
 
   opened : (o : Probe) (b : Node) (f : Frame) (fs : List Frame) → Each Q (opened_by o b w f fs th)
-  opened (Hit v) b f fs = with_room 1 _ (λ g. with_store _ (λ k. added _ _ _ fs (may.ask-new v b.parent f.base f.lower f.upper g k)))
+  opened (Hit v) b f fs = with_room 1 _ (λ g. with_store _ (λ k. added _ _ _ fs (may.ask_new v b.parent f.base f.lower f.upper g k)))
   opened (Next q) b f fs = may.quiet
   opened Miss b f fs = may.quiet
 
   extended : (o : Probe) (b : Node) (f : Frame) (fs : List Frame) → Each Q (extended_by o b w f fs th)
-  extended (Hit v) b f fs = with_room 1 _ (λ g. added _ _ _ fs (may.ask-old v b.parent f.base f.lower f.upper (store_of f.store) g))
+  extended (Hit v) b f fs = with_room 1 _ (λ g. added _ _ _ fs (may.ask_old v b.parent f.base f.lower f.upper (store_of f.store) g))
   extended (Next q) b f fs = may.quiet
   extended Miss b f fs = backed Quiet may.quiet
 

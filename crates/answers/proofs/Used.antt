@@ -36,8 +36,8 @@ fits s p th h = record {
   base = λ v k l c m i g. hang_fits v s.used _ (push_fits s.nodes s.used s.shown s.shown _ g h.stores i h);
   fork = λ v q e a g. hang_fits v s.used _ (fork_fits s.nodes s.used s.shown (s.used + 1) (s.used + 2) _ (s.nodes th.base).container refl refl g h);
   commit = λ m l n gp o g. write_fits _ _ _ m _ refl (push_fits s.nodes s.used s.shown s.shown _ g h.stores neighbour h);
-  ask-old = λ v l y a u k g. hang_fits v s.used _ (push_fits s.nodes s.used s.shown s.shown _ g h.stores range h);
-  ask-new = λ v l y a u g k. hang_fits v s.used _ (push_fits s.nodes s.used s.shown (suc s.shown) _ g (omega arith) range h);
+  ask_old = λ v l y a u k g. hang_fits v s.used _ (push_fits s.nodes s.used s.shown s.shown _ g h.stores range h);
+  ask_new = λ v l y a u g k. hang_fits v s.used _ (push_fits s.nodes s.used s.shown (suc s.shown) _ g (omega arith) range h);
 }
 
 pub step_few : (s : Store) → Fits s → (p : Place) (th : Thread) → Few s (step p (sight_of s) th)

@@ -74,9 +74,9 @@ module _ (w : ℕ) where
     pub second_fits : onto 16 (onto 8 (bytes w)) < 2 ^ 64
     second_fits = rw second (word_fits (with_below 2 once) (λ i. omega (arith, twice_le i)))
 
-    pub third-fits : onto 32 (onto 16 (onto 8 (bytes w))) < 2 ^ 64
-    third-fits = rw third (word_fits (with_below 4 (with_below 2 once)) (twofold 4 32 (with_below 2 once) twice_le))
+    pub third_fits : onto 32 (onto 16 (onto 8 (bytes w))) < 2 ^ 64
+    third_fits = rw third (word_fits (with_below 4 (with_below 2 once)) (twofold 4 32 (with_below 2 once) twice_le))
 
-    pub third-is : onto 32 (onto 16 (onto 8 (bytes w))) ≡ running 8 0 w
+    pub third_is : onto 32 (onto 16 (onto 8 (bytes w))) ≡ running 8 0 w
     unfolding running byte_from
-    third-is = third ∙ omega arith
+    third_is = third ∙ omega arith

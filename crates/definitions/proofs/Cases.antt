@@ -71,26 +71,26 @@ pub record Case : Type 0 where
 
 pub record Outcome : Type 0 where
   pub report : Report
-  pub rowBuffer : List ℕ
+  pub row_buffer : List ℕ
   pub listed : Listed
-  pub textBuffer : List ℕ
+  pub text_buffer : List ℕ
 
 -- by the definitions
 abbrev pub outcome : Case → Outcome
 outcome c = record {
   report = run_report c.file c.buffer;
-  rowBuffer = run_buffer c.file (replicate c.buffer untouched);
+  row_buffer = run_buffer c.file (replicate c.buffer untouched);
   listed = list_report c.file c.text;
-  textBuffer = list_buffer c.file (replicate c.text untouched);
+  text_buffer = list_buffer c.file (replicate c.text untouched);
 }
 
 -- by the papers
 abbrev pub promised : Case → Outcome
 promised c = record {
   report = c.gives;
-  rowBuffer = holding c.rows c.buffer;
+  row_buffer = holding c.rows c.buffer;
   listed = record { refusal = c.refusal; length = length (lines c.lists) };
-  textBuffer = holding (lines c.lists) c.text;
+  text_buffer = holding (lines c.lists) c.text;
 }
 
 -- an empty tree
@@ -103,9 +103,9 @@ nothing = "0 normal -" ∷ "set -" ∷ []
 abbrev pub outcome_at : Case → Progress → ℕ → ℕ → List ℕ → Outcome
 outcome_at c p set held text = record {
   report = ite (eqb (run_refusal c.file c.buffer) 0) (report p.refusal p.done p.finished set held p.bench.store.used) (refused_report (run_refusal c.file c.buffer));
-  rowBuffer = ite (eqb (run_refusal c.file (length (replicate c.buffer untouched))) 0) (overlay p.rows (replicate c.buffer untouched)) (replicate c.buffer untouched);
+  row_buffer = ite (eqb (run_refusal c.file (length (replicate c.buffer untouched))) 0) (overlay p.rows (replicate c.buffer untouched)) (replicate c.buffer untouched);
   listed = ite (eqb (list_refusal c.file c.text) 0) (record { refusal = p.refusal; length = length text }) (record { refusal = list_refusal c.file c.text; length = 0 });
-  textBuffer = ite (eqb (list_refusal c.file (length (replicate c.text untouched))) 0) (overlay text (replicate c.text untouched)) (replicate c.text untouched);
+  text_buffer = ite (eqb (list_refusal c.file (length (replicate c.text untouched))) 0) (overlay text (replicate c.text untouched)) (replicate c.text untouched);
 }
 
 abbrev pub quick : Case → Outcome

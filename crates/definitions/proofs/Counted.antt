@@ -30,15 +30,15 @@ module _ (n : Nodes) (s : ℕ) where
   inside zero x range h = cut_out (n x).container.set range s h
   inside (suc k) x range h = elim (test (is_route (n x).kind)) [
     | on e ↦ rw e (has_union (held_below k n (n x).left (below (n x).key range)).set (held_below k n (n x).right (from (n x).key range)).set s
-        ∙ rw (inside k (n x).left (below (n x).key range) in-below, inside k (n x).right (from (n x).key range) in-from))
+        ∙ rw (inside k (n x).left (below (n x).key range) in_below, inside k (n x).right (from (n x).key range) in_from))
     | off e ↦ rw e (cut_out (n x).container.set range s h)
   ]
     where
-      in-below : has (below (n x).key range) s ≡ false
-      in-below = elim (dec_lt s (n x).key) [ yes l ↦ below_in (n x).key range s l ∙ h | no l ↦ below_out (n x).key range s (omega arith) ]
+      in_below : has (below (n x).key range) s ≡ false
+      in_below = elim (dec_lt s (n x).key) [ yes l ↦ below_in (n x).key range s l ∙ h | no l ↦ below_out (n x).key range s (omega arith) ]
 
-      in-from : has (from (n x).key range) s ≡ false
-      in-from = elim (dec_lt s (n x).key) [ yes l ↦ from_out (n x).key range s l | no l ↦ from_in (n x).key range s (omega arith) ∙ h ]
+      in_from : has (from (n x).key range) s ≡ false
+      in_from = elim (dec_lt s (n x).key) [ yes l ↦ from_out (n x).key range s l | no l ↦ from_in (n x).key range s (omega arith) ∙ h ]
 
   -- so no station is found on both sides of a key
   apart : (k l r key range : ℕ) → has (held_below k n l (below key range)).set s && has (held_below k n r (from key range)).set s ≡ false

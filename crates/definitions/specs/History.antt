@@ -31,7 +31,7 @@ pub record Operation : Type 0 where
   pub action : ℕ
   pub station : ℕ
   pub yes : Bool
-  pub finishedBefore : ℕ → Bool
+  pub finished_before : ℕ → Bool
 
 -- the operations that have started, by number
 pub record Operations : Type 0 where
@@ -48,7 +48,7 @@ pub record Reading : Type 0 where
   pub finished : ℕ → Bool
 
 abbrev pub no_operation : Operation
-no_operation = record { action = 0; station = 0; yes = false; finishedBefore = λ _. false }
+no_operation = record { action = 0; station = 0; yes = false; finished_before = λ _. false }
 
 abbrev pub unread : Reading
 unread = record { all = operations 0 (λ _. no_operation); busy = λ _. Nil; finished = λ _. false }
@@ -56,13 +56,13 @@ unread = record { all = operations 0 (λ _. no_operation); busy = λ _. Nil; fin
 -- a start: the next number, on its thread
 abbrev pub begun : Event → Reading → Reading
 begun e R = record {
-  all = operations (suc R.all.count) (upd R.all.operation R.all.count (record { action = e.action; station = e.station; yes = false; finishedBefore = R.finished }));
+  all = operations (suc R.all.count) (upd R.all.operation R.all.count (record { action = e.action; station = e.station; yes = false; finished_before = R.finished }));
   busy = upd R.busy e.thread (To R.all.count);
   finished = R.finished;
 }
 
 abbrev pub answered : Operation → Bool → Operation
-answered o y = record { action = o.action; station = o.station; yes = y; finishedBefore = o.finishedBefore }
+answered o y = record { action = o.action; station = o.station; yes = y; finished_before = o.finished_before }
 
 -- a finish of what its thread has open
 abbrev pub ended_by : Link → Event → Reading → Reading

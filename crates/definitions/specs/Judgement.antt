@@ -25,7 +25,7 @@ Each n l = (i : ℕ) → times i l ≡ once (ltb i n)
 -- "keeping every finish that precedes a start": nothing that stands after i had finished when i started
 abbrev pub Keeps : Operations → List ℕ → Type 0
 Keeps R [] = Unit {0}
-Keeps R (i ∷ l) = ((j : ℕ) → times j l ≢ 0 → (R.operation i).finishedBefore j ≡ false) × Keeps R l
+Keeps R (i ∷ l) = ((j : ℕ) → times j l ≢ 0 → (R.operation i).finished_before j ≡ false) × Keeps R l
 
 -- actions in a history: 1 lookup, 2 insert, 3 remove
 abbrev pub action_of : ℕ → Action

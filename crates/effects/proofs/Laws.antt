@@ -48,22 +48,22 @@ upd_own d x y = elim (ℕ_discrete y x) [ yes e ↦ rw (eq-eqb y x e) | no e ↦
 
 -- ---- a node is put at a spot: t' is the table after it
 module _ (t : Shapes) (o x : ℕ) {v : Spot} where
-  pub hang-root : v ≡ Root → Hung t o v x t x
-  hang-root q d u k j z = rw q
+  pub hang_root : v ≡ Root → Hung t o v x t x
+  hang_root q d u k j z = rw q
 
-  pub hang-under : {t' : Shapes} (r : ℕ) (b : Bool) → v ≡ Under r b → t' ≡ upd t r (with_kid b x (t r)) → Hung t o v x t' o
-  hang-under r b q h d u k j z = rw (q, h) (ap (λ n. store n o u k j z) (full_same t d r (with_kid b x (t r))))
+  pub hang_under : {t' : Shapes} (r : ℕ) (b : Bool) → v ≡ Under r b → t' ≡ upd t r (with_kid b x (t r)) → Hung t o v x t' o
+  hang_under r b q h d u k j z = rw (q, h) (ap (λ n. store n o u k j z) (full_same t d r (with_kid b x (t r))))
 
 -- ---- the set of a new base: n is the node y
 module _ (t : Shapes) {c : Content} {n : Node} where
   pub set_same : (y : ℕ) → c ≡ Of y → n ≡ t y → n.container ≡ set_of c t
   set_same y q e = rw (q, e)
 
-  pub set-with : {w : ℕ} (y s v : ℕ) → c ≡ With y s v → n ≡ t y → w ≡ insert n.container s → w ≡ set_of c t
-  set-with y s v q e i = rw (q, i, e)
+  pub set_with : {w : ℕ} (y s v : ℕ) → c ≡ With y s v → n ≡ t y → w ≡ insert n.container s → w ≡ set_of c t
+  set_with y s v q e i = rw (q, i, e)
 
-  pub set-without : {w : ℕ} (y s : ℕ) → c ≡ Without y s → n ≡ t y → w ≡ remove n.container s → w ≡ set_of c t
-  set-without y s q e i = rw (q, i, e)
+  pub set_without : {w : ℕ} (y s : ℕ) → c ≡ Without y s → n ≡ t y → w ≡ remove n.container s → w ≡ set_of c t
+  set_without y s q e i = rw (q, i, e)
 
 -- its container
 content_made : (c : Content) (t : Shapes) (d : Rows) → container (set_of c t) (depths_of c d) ≡ content_of c (full t d)
@@ -99,51 +99,51 @@ range_made t d x p y l h k = full_new t d x _ _
 
 -- ---- the numbers used after a write that makes nodes
 module _ (u : ℕ) {e : Write} where
-  pub used-base : (v : Spot) (x : ℕ) (k : Kind) (p : Link) (c : Content) (m : ℕ) → e ≡ Base v x k p c m → x + 1 ≡ used_after u (effect_of e)
-  used-base v x k p c m q = rw q
+  pub used_base : (v : Spot) (x : ℕ) (k : Kind) (p : Link) (c : Content) (m : ℕ) → e ≡ Base v x k p c m → x + 1 ≡ used_after u (effect_of e)
+  used_base v x k p c m q = rw q
 
-  pub used-fork : (v : Spot) (x l r k y : ℕ) → e ≡ Fork v x l r k y → x + 3 ≡ used_after u (effect_of e)
-  used-fork v x l r k y q = rw q
+  pub used_fork : (v : Spot) (x l r k y : ℕ) → e ≡ Fork v x l r k y → x + 3 ≡ used_after u (effect_of e)
+  used_fork v x l r k y q = rw q
 
-  pub used-commit : (m x : ℕ) (p : Link) (b : ℕ) (g : Link) (w : ℕ) → e ≡ Commit m x p b g w → x + 1 ≡ used_after u (effect_of e)
-  used-commit m x p b g w q = rw q
+  pub used_commit : (m x : ℕ) (p : Link) (b : ℕ) (g : Link) (w : ℕ) → e ≡ Commit m x p b g w → x + 1 ≡ used_after u (effect_of e)
+  used_commit m x p b g w q = rw q
 
 -- ---- on the nodes, whatever the stores: t₁ is the table with the new nodes, t' and y the table and the root after it
 module _ (t : Shapes) (o u : ℕ) (k : Stores) (j : ℕ) {e : Write} where
-  pub apply-quiet : e ≡ Quiet → Applied t o u k j (effect_of e) t o k
-  apply-quiet q = record { stored = λ d z'. rw q }
+  pub apply_quiet : e ≡ Quiet → Applied t o u k j (effect_of e) t o k
+  apply_quiet q = record { stored = λ d z'. rw q }
 
-  pub apply-mark : {t' : Shapes} (r : ℕ) (l : Link) → e ≡ Mark r l → t' ≡ upd t r (with_mark l (t r)) → Applied t o u k j (effect_of e) t' o k
-  apply-mark r l q h = record { stored = λ d z'. rw (q, h) (ap (λ a. store a o u k j z') (full_same t d r _)) }
+  pub apply_mark : {t' : Shapes} (r : ℕ) (l : Link) → e ≡ Mark r l → t' ≡ upd t r (with_mark l (t r)) → Applied t o u k j (effect_of e) t' o k
+  apply_mark r l q h = record { stored = λ d z'. rw (q, h) (ap (λ a. store a o u k j z') (full_same t d r _)) }
 
-  pub apply-settle : {t' : Shapes} (m : ℕ) (s : Stage) → e ≡ Settle m s → t' ≡ upd t m (with_stage s (t m)) → Applied t o u k j (effect_of e) t' o k
-  apply-settle m s q h = record { stored = λ d z'. rw (q, h) (ap (λ a. store a o u k j z') (full_same t d m _)) }
+  pub apply_settle : {t' : Shapes} (m : ℕ) (s : Stage) → e ≡ Settle m s → t' ≡ upd t m (with_stage s (t m)) → Applied t o u k j (effect_of e) t' o k
+  apply_settle m s q h = record { stored = λ d z'. rw (q, h) (ap (λ a. store a o u k j z') (full_same t d m _)) }
 
-  pub apply-invalid : {t' : Shapes} (r : ℕ) → e ≡ Invalid r → t' ≡ upd t r (with_valid false (t r)) → Applied t o u k j (effect_of e) t' o k
-  apply-invalid r q h = record { stored = λ d z'. rw (q, h) (ap (λ a. store a o u k j z') (full_same t d r _)) }
+  pub apply_invalid : {t' : Shapes} (r : ℕ) → e ≡ Invalid r → t' ≡ upd t r (with_valid false (t r)) → Applied t o u k j (effect_of e) t' o k
+  apply_invalid r q h = record { stored = λ d z'. rw (q, h) (ap (λ a. store a o u k j z') (full_same t d r _)) }
 
-  pub apply-swing : {t' : Shapes} {y : ℕ} (v : Spot) (x : ℕ) → e ≡ Swing v x → Hung t o v x t' y → Applied t o u k j (effect_of e) t' y k
-  apply-swing v x q h = record { stored = λ d z'. rw q (h d u k j z') }
+  pub apply_swing : {t' : Shapes} {y : ℕ} (v : Spot) (x : ℕ) → e ≡ Swing v x → Hung t o v x t' y → Applied t o u k j (effect_of e) t' y k
+  apply_swing v x q h = record { stored = λ d z'. rw q (h d u k j z') }
 
-  pub apply-base : {t₁ t' : Shapes} {y w : ℕ} (v : Spot) (x : ℕ) (i : Kind) (p : Link) (c : Content) (m : ℕ) → e ≡ Base v x i p c m → w ≡ set_of c t → t₁ ≡ upd t x (base_shape i p w m) → Hung t₁ o v x t' y → Applied t o u k j (effect_of e) t' y k
-  apply-base {t₁} {t'} {y} {w} v x i p c m q f h g = record {
+  pub apply_base : {t₁ t' : Shapes} {y w : ℕ} (v : Spot) (x : ℕ) (i : Kind) (p : Link) (c : Content) (m : ℕ) → e ≡ Base v x i p c m → w ≡ set_of c t → t₁ ≡ upd t x (base_shape i p w m) → Hung t₁ o v x t' y → Applied t o u k j (effect_of e) t' y k
+  apply_base {t₁} {t'} {y} {w} v x i p c m q f h g = record {
     stored = λ d z'. rw q (
         g (upd d x (depths_of c d)) (x + 1) k j z'
         ∙ rw (h, f, full_new t d x (base_shape i p (set_of c t) m) (depths_of c d), ← content_made c t d, add-one)
         );
   }
 
-  pub apply-fork : {t₁ t' : Shapes} {y : ℕ} {n : Node} (v : Spot) (x l r i z : ℕ) → e ≡ Fork v x l r i z → n ≡ t z → t₁ ≡ fork_shapes x l r i n.container t → Hung t₁ o v x t' y → Applied t o u k j (effect_of e) t' y k
-  apply-fork {t₁} {t'} {y} {n} v x l r i z q f h g = record {
+  pub apply_fork : {t₁ t' : Shapes} {y : ℕ} {n : Node} (v : Spot) (x l r i z : ℕ) → e ≡ Fork v x l r i z → n ≡ t z → t₁ ≡ fork_shapes x l r i n.container t → Hung t₁ o v x t' y → Applied t o u k j (effect_of e) t' y k
+  apply_fork {t₁} {t'} {y} {n} v x l r i z q f h g = record {
     stored = λ d z'. rw q (
         g (upd (upd (upd d x (d z)) l (d z)) r (d z)) (x + 3) k j z'
         ∙ rw (h, f) (ap (λ a. hang v x (store a o (x + 3) k j z')) (fork_made t d x l r i z))
         );
   }
 
-  pub apply-commit : {t₁ t' : Shapes} {c : ℕ} {a z : Node} (m x : ℕ) (p : Link) (b : ℕ) (g : Link) (w : ℕ) → e ≡ Commit m x p b g w → a ≡ t m → z ≡ t b → c ≡ union a.container z.container
+  pub apply_commit : {t₁ t' : Shapes} {c : ℕ} {a z : Node} (m x : ℕ) (p : Link) (b : ℕ) (g : Link) (w : ℕ) → e ≡ Commit m x p b g w → a ≡ t m → z ≡ t b → c ≡ union a.container z.container
       → t₁ ≡ upd t x (base_shape Neighbour p c m) → t' ≡ upd t₁ m (committed x b g w (t₁ m)) → Applied t o u k j (effect_of e) t' o k
-  apply-commit {t₁} {t'} {c} {a} {z} m x p b g w q e₁ e₂ e₃ h l = record {
+  apply_commit {t₁} {t'} {c} {a} {z} m x p b g w q e₁ e₂ e₃ h l = record {
     stored = λ d z'.
         let s : ℕ → ℕ = selected (t m).container (d m) (d b) in
         let f : full t₁ (upd d x s) ≡ upd (full t d) x (new_base Neighbour p (merge (full t d m).container (full t d b).container) m) = rw (h, e₃, e₁, e₂) (union_made t d x p m b) in
@@ -156,8 +156,8 @@ module _ (t : Shapes) (o u : ℕ) (k : Stores) (j : ℕ) {e : Write} where
 
 -- ---- a new range base, with the container c of node z
 module _ (t : Shapes) (o u : ℕ) (k : Stores) (j : ℕ) where
-  pub apply-ask : {t₁ t' : Shapes} {y c : ℕ} (v : Spot) (x : ℕ) (p : Link) (z l h i : ℕ) (new : Bool) → c ≡ (t z).container → t₁ ≡ upd t x (range_shape p c l h i) → Hung t₁ o v x t' y → Applied t o u k j (Ask v x p z l h i new) t' y k
-  apply-ask {t₁} {t'} {y} {c} v x p z l h i new f g r = record {
+  pub apply_ask : {t₁ t' : Shapes} {y c : ℕ} (v : Spot) (x : ℕ) (p : Link) (z l h i : ℕ) (new : Bool) → c ≡ (t z).container → t₁ ≡ upd t x (range_shape p c l h i) → Hung t₁ o v x t' y → Applied t o u k j (Ask v x p z l h i new) t' y k
+  apply_ask {t₁} {t'} {y} {c} v x p z l h i new f g r = record {
     stored = λ d z'.
         r (upd d x (d z)) (x + 1) k (cond new (i + 1) j) z'
         ∙ rw (g, f) (ap (λ a. hang v x (store a o (x + 1) k (cond new (i + 1) j) z')) (range_made t d x p z l h i) ∙ rw (add-one x, add-one i));
@@ -169,52 +169,52 @@ shown_fresh new k j n = rw n
 
 -- ---- the depths of a new base: d₁ are those between
 module _ (d : Rows) (x : ℕ) {c : Content} {d' : Rows} where
-  pub lay-same : (y : ℕ) → c ≡ Of y → d' ≡ upd d x (d y) → d' ≡ upd d x (depths_of c d)
-  lay-same y q f = rw q f
+  pub lay_same : (y : ℕ) → c ≡ Of y → d' ≡ upd d x (d y) → d' ≡ upd d x (depths_of c d)
+  lay_same y q f = rw q f
 
-  pub lay-with : {d₁ : Rows} (y s v : ℕ) → c ≡ With y s v → d₁ ≡ upd d x (d y) → d' ≡ upd d₁ x (changed (d₁ x) s v) → d' ≡ upd d x (depths_of c d)
-  lay-with y s v q f g = rw q (g ∙ rw (f, upd_at d x (d y)) (upd_again d x (d y) (changed (d y) s v)))
+  pub lay_with : {d₁ : Rows} (y s v : ℕ) → c ≡ With y s v → d₁ ≡ upd d x (d y) → d' ≡ upd d₁ x (changed (d₁ x) s v) → d' ≡ upd d x (depths_of c d)
+  lay_with y s v q f g = rw q (g ∙ rw (f, upd_at d x (d y)) (upd_again d x (d y) (changed (d y) s v)))
 
-  pub lay-without : (y s : ℕ) → c ≡ Without y s → d' ≡ upd d x (d y) → d' ≡ upd d x (depths_of c d)
-  lay-without y s q f = rw q f
+  pub lay_without : (y s : ℕ) → c ≡ Without y s → d' ≡ upd d x (d y) → d' ≡ upd d x (depths_of c d)
+  lay_without y s q f = rw q f
 
 -- ---- on the depths: d₁ and d₂ are those between, d' those after it
 module _ (t : Shapes) (d : Rows) {e : Write} where
-  pub deepen-quiet : e ≡ Quiet → d ≡ deepened (effect_of e) t d
-  deepen-quiet q = rw q
+  pub deepen_quiet : e ≡ Quiet → d ≡ deepened (effect_of e) t d
+  deepen_quiet q = rw q
 
-  pub deepen-mark : (r : ℕ) (l : Link) → e ≡ Mark r l → d ≡ deepened (effect_of e) t d
-  deepen-mark r l q = rw q
+  pub deepen_mark : (r : ℕ) (l : Link) → e ≡ Mark r l → d ≡ deepened (effect_of e) t d
+  deepen_mark r l q = rw q
 
-  pub deepen-settle : (m : ℕ) (s : Stage) → e ≡ Settle m s → d ≡ deepened (effect_of e) t d
-  deepen-settle m s q = rw q
+  pub deepen_settle : (m : ℕ) (s : Stage) → e ≡ Settle m s → d ≡ deepened (effect_of e) t d
+  deepen_settle m s q = rw q
 
-  pub deepen-invalid : (r : ℕ) → e ≡ Invalid r → d ≡ deepened (effect_of e) t d
-  deepen-invalid r q = rw q
+  pub deepen_invalid : (r : ℕ) → e ≡ Invalid r → d ≡ deepened (effect_of e) t d
+  deepen_invalid r q = rw q
 
-  pub deepen-swing : (v : Spot) (x : ℕ) → e ≡ Swing v x → d ≡ deepened (effect_of e) t d
-  deepen-swing v x q = rw q
+  pub deepen_swing : (v : Spot) (x : ℕ) → e ≡ Swing v x → d ≡ deepened (effect_of e) t d
+  deepen_swing v x q = rw q
 
-  pub deepen-base : {d' : Rows} (v : Spot) (x : ℕ) (k : Kind) (p : Link) (c : Content) (m : ℕ) → e ≡ Base v x k p c m → d' ≡ upd d x (depths_of c d) → d' ≡ deepened (effect_of e) t d
-  deepen-base v x k p c m q f = rw q f
+  pub deepen_base : {d' : Rows} (v : Spot) (x : ℕ) (k : Kind) (p : Link) (c : Content) (m : ℕ) → e ≡ Base v x k p c m → d' ≡ upd d x (depths_of c d) → d' ≡ deepened (effect_of e) t d
+  deepen_base v x k p c m q f = rw q f
 
-  pub deepen-fork : {d₁ d₂ d' : Rows} (v : Spot) (x l r k y : ℕ) → e ≡ Fork v x l r k y → d₁ ≡ upd d x (d y) → d₂ ≡ upd d₁ l (d₁ y) → d' ≡ upd d₂ r (d₂ y) → d' ≡ deepened (effect_of e) t d
-  deepen-fork {d₁} {d₂} {d'} v x l r k y q f₁ f₂ f₃ =
+  pub deepen_fork : {d₁ d₂ d' : Rows} (v : Spot) (x l r k y : ℕ) → e ≡ Fork v x l r k y → d₁ ≡ upd d x (d y) → d₂ ≡ upd d₁ l (d₁ y) → d' ≡ upd d₂ r (d₂ y) → d' ≡ deepened (effect_of e) t d
+  deepen_fork {d₁} {d₂} {d'} v x l r k y q f₁ f₂ f₃ =
       let h₁ : d₁ y ≡ d y = rw f₁ (upd_own d x y) in
       let h₂ : d₂ y ≡ d y = rw f₂ (upd_own d₁ l y ∙ h₁) in
       rw q (f₃ ∙ rw (h₂, f₂, h₁, f₁))
 
-  pub deepen-commit : {d' : Rows} {a : Node} (m x : ℕ) (p : Link) (b : ℕ) (g : Link) (w : ℕ) → e ≡ Commit m x p b g w → a ≡ t m → d' ≡ upd d x (selected a.container (d m) (d b)) → d' ≡ deepened (effect_of e) t d
-  deepen-commit m x p b g w q i f = rw q (f ∙ rw i)
+  pub deepen_commit : {d' : Rows} {a : Node} (m x : ℕ) (p : Link) (b : ℕ) (g : Link) (w : ℕ) → e ≡ Commit m x p b g w → a ≡ t m → d' ≡ upd d x (selected a.container (d m) (d b)) → d' ≡ deepened (effect_of e) t d
+  deepen_commit m x p b g w q i f = rw q (f ∙ rw i)
 
-pub ruleset hang_cases = (hang-root, hang-under)
+pub ruleset hang_cases = (hang_root, hang_under)
 
-pub ruleset set_cases = (set_same, set-with, set-without)
+pub ruleset set_cases = (set_same, set_with, set_without)
 
-pub ruleset used_cases = (used-base, used-fork, used-commit)
+pub ruleset used_cases = (used_base, used_fork, used_commit)
 
-pub ruleset apply_cases = (apply-quiet, apply-mark, apply-settle, apply-invalid, apply-swing, apply-base, apply-fork, apply-commit)
+pub ruleset apply_cases = (apply_quiet, apply_mark, apply_settle, apply_invalid, apply_swing, apply_base, apply_fork, apply_commit)
 
-pub ruleset lay_cases = (lay-same, lay-with, lay-without)
+pub ruleset lay_cases = (lay_same, lay_with, lay_without)
 
-pub ruleset deepen_cases = (deepen-quiet, deepen-mark, deepen-settle, deepen-invalid, deepen-swing, deepen-base, deepen-fork, deepen-commit)
+pub ruleset deepen_cases = (deepen_quiet, deepen_mark, deepen_settle, deepen_invalid, deepen_swing, deepen_base, deepen_fork, deepen_commit)

@@ -43,13 +43,13 @@ module _ (h : ℕ → Frame) (t : ℕ) (a : Action) (l u : ℕ) where
   stays : {d : ℕ} {r : Outcome} {y : Thread → Turn} → ((th : Thread) → th.frames ≡ frames_of h t d → Stands 82 a l u th → told_in r (frames_of h t d) (frames_of h t (d - 1)) th ≡ y th) → Takes h h t d r (Stands 82 a l u) y
   stays q = record { turn = q; others = λ u k l o. refl; same = λ z. refl }
 
-  pub end-bare : (d : ℕ) (k : Shared) → d ≡ 0 → Takes h h t d NodesOut (Stands 82 a l u) (end_turn k)
+  pub end_bare : (d : ℕ) (k : Shared) → d ≡ 0 → Takes h h t d NodesOut (Stands 82 a l u) (end_turn k)
   unfolding end_turn
-  end-bare d k z = stays (λ th o q. sym (ap (λ (x : List Frame). in_frame x (λ f fs. read_out k fs th)) (o ∙ ap (frames_of h t) z)))
+  end_bare d k z = stays (λ th o q. sym (ap (λ (x : List Frame). in_frame x (λ f fs. read_out k fs th)) (o ∙ ap (frames_of h t) z)))
 
-  pub end-unset : (d : ℕ) (k : Shared) → (d ≡ 0 → ⊥) → k ≡ Unset → Takes h h t d NodesOut (Stands 82 a l u) (end_turn k)
-  end-unset zero k z e = absurd (z refl)
-  end-unset (suc d) k z e = stays (λ th o q. ap (λ (x : Shared). read_out x (frames_of h t d) th) (sym e) ∙ ended k th _ _ o)
+  pub end_unset : (d : ℕ) (k : Shared) → (d ≡ 0 → ⊥) → k ≡ Unset → Takes h h t d NodesOut (Stands 82 a l u) (end_turn k)
+  end_unset zero k z e = absurd (z refl)
+  end_unset (suc d) k z e = stays (λ th o q. ap (λ (x : Shared). read_out x (frames_of h t d) th) (sym e) ∙ ended k th _ _ o)
 
   -- the last frame: c is the result
   last : (d c : ℕ) (k : Shared) (x : Turn) (th : Thread) → (d ≡ 0 → ⊥) → d - 1 ≡ 0 → k ≡ Set c → th.frames ≡ frames_of h t d → x ≡ ite (is_query th.action) (Finds (cut c (between th.station th.extra))) (back_in [] Quiet th) → x ≡ end_turn k th
@@ -57,12 +57,12 @@ module _ (h : ℕ → Frame) (t : ℕ) (a : Action) (l u : ℕ) where
   last (suc zero) c k x th z y e o q = q ∙ (ap (λ (y : Shared). read_out y [] th) (sym e) ∙ ended k th _ _ o)
   last (suc (suc d)) c k x th z y e o q = absurd (omega arith)
 
-  pub end-found : {b : Bool} {m x : ℕ} (d c : ℕ) (k : Shared) → (d ≡ 0 → ⊥) → k ≡ Set c → d - 1 ≡ 0 → b ≡ is_query a → b ≡ true → m ≡ between l u → x ≡ cut c m → Takes h h t d (Found x) (Stands 82 a l u) (end_turn k)
-  end-found d c k z e y i w n v = stays (λ th o q. last d c k _ th z y e o
+  pub end_found : {b : Bool} {m x : ℕ} (d c : ℕ) (k : Shared) → (d ≡ 0 → ⊥) → k ≡ Set c → d - 1 ≡ 0 → b ≡ is_query a → b ≡ true → m ≡ between l u → x ≡ cut c m → Takes h h t d (Found x) (Stands 82 a l u) (end_turn k)
+  end_found d c k z e y i w n v = stays (λ th o q. last d c k _ th z y e o
       (ap Finds (v ∙ ap (cut c) (n ∙ sym (ap₂ between q.station q.extra))) ∙ sym (chosen _ _ _ (ap is_query q.action ∙ (sym i ∙ w)))))
 
-  pub end-last : {b : Bool} (d c : ℕ) (k : Shared) → (d ≡ 0 → ⊥) → k ≡ Set c → d - 1 ≡ 0 → b ≡ is_query a → b ≡ false → Takes h h t d (Back 1) (Stands 82 a l u) (end_turn k)
-  end-last d c k z e y i w = stays (λ th o q. last d c k _ th z y e o (ap (λ (x : ℕ). Moves (to_frames 1 (frames_of h t x) th) Quiet) y ∙ sym (other _ _ _ (ap is_query q.action ∙ (sym i ∙ w)))))
+  pub end_last : {b : Bool} (d c : ℕ) (k : Shared) → (d ≡ 0 → ⊥) → k ≡ Set c → d - 1 ≡ 0 → b ≡ is_query a → b ≡ false → Takes h h t d (Back 1) (Stands 82 a l u) (end_turn k)
+  end_last d c k z e y i w = stays (λ th o q. last d c k _ th z y e o (ap (λ (x : ℕ). Moves (to_frames 1 (frames_of h t x) th) Quiet) y ∙ sym (other _ _ _ (ap is_query q.action ∙ (sym i ∙ w)))))
 
   -- a frame waits below it
   pub end_back : {h' : ℕ → Frame} {p : ℕ} (d c : ℕ) (k : Shared) → k ≡ Set c → (d - 1 ≡ 0 → ⊥) → Backs h h' t (d - 1) p → Takes h h' t d (Back p) (Stands 82 a l u) (end_turn k)
@@ -77,4 +77,4 @@ module _ (h : ℕ → Frame) (t : ℕ) (a : Action) (l u : ℕ) where
       n : suc (suc d) - 1 ≡ suc d
       n = omega arith
 
-pub ruleset end_cases = (within_low, within_all, end-bare, end-unset, end-found, end-last, end_back, rules)
+pub ruleset end_cases = (within_low, within_all, end_bare, end_unset, end_found, end_last, end_back, rules)

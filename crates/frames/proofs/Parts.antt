@@ -22,31 +22,31 @@ link_back (To n) = refl
 
 module _ (s b r v : List ℕ) (j : ℕ) (h : j < 16) where
   -- ---- the top: n is the stack's length as read
-  pub top-none : {n : ℕ} → n ≡ get_or v (j * 4 + 1) 0 → n ≡ 0 → 0 ≡ top_of (held s b r v j).stack
+  pub top_none : {n : ℕ} → n ≡ get_or v (j * 4 + 1) 0 → n ≡ 0 → 0 ≡ top_of (held s b r v j).stack
   unfolding held
-  top-none e z = rw (← e, z)
+  top_none e z = rw (← e, z)
 
-  pub top-some : {n : ℕ} → n ≡ get_or v (j * 4 + 1) 0 → (n ≡ 0 → ⊥) → n - 1 < 88 → get_or s (j * 88 + (n - 1)) 0 ≡ top_of (held s b r v j).stack
+  pub top_some : {n : ℕ} → n ≡ get_or v (j * 4 + 1) 0 → (n ≡ 0 → ⊥) → n - 1 < 88 → get_or s (j * 88 + (n - 1)) 0 ≡ top_of (held s b r v j).stack
   unfolding held
-  top-some {n} e z l = rw (← e) (by n z l)
+  top_some {n} e z l = rw (← e) (by n z l)
     where
       by : (n : ℕ) → (n ≡ 0 → ⊥) → n - 1 < 88 → get_or s (j * 88 + (n - 1)) 0 ≡ top_of (pile (span 88 s j) n)
       by zero z l = absurd (z refl)
       by (suc n) z l = rw (lt-ltb n 88 (omega arith)) (ap (λ (m : ℕ). get_or s (j * 88 + m) 0) (omega arith))
 
-  pub top-far : {n : ℕ} → n ≡ get_or v (j * 4 + 1) 0 → (n ≡ 0 → ⊥) → 88 ≤ n - 1 → 0 ≡ top_of (held s b r v j).stack
+  pub top_far : {n : ℕ} → n ≡ get_or v (j * 4 + 1) 0 → (n ≡ 0 → ⊥) → 88 ≤ n - 1 → 0 ≡ top_of (held s b r v j).stack
   unfolding held
-  top-far {n} e z l = rw (← e) (by n z l)
+  top_far {n} e z l = rw (← e) (by n z l)
     where
       by : (n : ℕ) → (n ≡ 0 → ⊥) → 88 ≤ n - 1 → 0 ≡ top_of (pile (span 88 s j) n)
       by zero z l = absurd (z refl)
       by (suc n) z l = rw (le-ltb n 88 (omega arith))
 
   -- ---- the parts; H is the frames before
-  pub pushed-on : (x : ℕ) → length s ≡ 1408 → length v ≡ 64 → stack_length v j < 88
+  pub pushed_on : (x : ℕ) → length s ≡ 1408 → length v ≡ 64 → stack_length v j < 88
       → held (set s (j * 88 + get_or v (j * 4 + 1) 0) x) b r (set v (j * 4 + 1) (get_or v (j * 4 + 1) 0 + 1)) ≡ upd (held s b r v) j (pushed x (held s b r v j).stack (held s b r v j))
   unfolding held
-  pushed-on x ls lv l =
+  pushed_on x ls lv l =
       written (next (same 88 s j) apart88 (get_or v (j * 4 + 1) 0) x (omega arith) l) (same 88 b j) (same 8 r j) (next (same 4 v j) apart4 1 (get_or v (j * 4 + 1) 0 + 1) (omega arith) (omega arith))
       ∙ ap (λ (l : List ℕ). upd (held s b r v) j (with_stack l (held s b r v j))) (pile_more (span 88 s j) (get_or v (j * 4 + 1) 0) x)
 
@@ -66,15 +66,15 @@ module _ (s b r v : List ℕ) (j : ℕ) (h : j < 16) where
   dropped lv l = written (same 88 s j) (same 88 b j) (same 8 r j) (next (same 4 v j) apart4 1 (get_or v (j * 4 + 1) 0 - 1) (omega arith) (omega arith))
       ∙ ap (λ (l : List ℕ). upd (held s b r v) j (with_stack l (held s b r v j))) (pile_tail (span 88 s j) (get_or v (j * 4 + 1) 0))
 
-  pub dropped-none : length v ≡ 64 → stack_length v j ≤ 0 → held s b r (set v (j * 4 + 1) 0) ≡ upd (held s b r v) j (with_stack (tail_of (held s b r v j).stack) (held s b r v j))
+  pub dropped_none : length v ≡ 64 → stack_length v j ≤ 0 → held s b r (set v (j * 4 + 1) 0) ≡ upd (held s b r v) j (with_stack (tail_of (held s b r v j).stack) (held s b r v j))
   unfolding held
-  dropped-none lv l = let z : get_or v (j * 4 + 1) 0 ≡ 0 = omega arith in written (same 88 s j) (same 88 b j) (same 8 r j) (next (same 4 v j) apart4 1 0 (omega arith) (omega arith))
+  dropped_none lv l = let z : get_or v (j * 4 + 1) 0 ≡ 0 = omega arith in written (same 88 s j) (same 88 b j) (same 8 r j) (next (same 4 v j) apart4 1 0 (omega arith) (omega arith))
       ∙ ap (λ (l : List ℕ). upd (held s b r v) j (with_stack l (held s b r v j))) (sym (ap (λ (n : ℕ). tail_of (pile (span 88 s j) n)) z))
 
-  pub popped-off : {x : ℕ} → length v ≡ 64 → length r ≡ 128 → 0 < stack_length v j → x ≡ top_of (held s b r v j).stack
+  pub popped_off : {x : ℕ} → length v ≡ 64 → length r ≡ 128 → 0 < stack_length v j → x ≡ top_of (held s b r v j).stack
       → held s b (set r (j * 8 + 5) x) (set v (j * 4 + 1) (get_or v (j * 4 + 1) 0 - 1)) ≡ upd (held s b r v) j (popping (top_of (held s b r v j).stack) (tail_of (held s b r v j).stack) (held s b r v j))
   unfolding held
-  popped-off {x} lv lr l e = written (same 88 s j) (same 88 b j) (next (same 8 r j) apart8 5 x (omega arith) (omega arith)) (next (same 4 v j) apart4 1 (get_or v (j * 4 + 1) 0 - 1) (omega arith) (omega arith))
+  popped_off {x} lv lr l e = written (same 88 s j) (same 88 b j) (next (same 8 r j) apart8 5 x (omega arith) (omega arith)) (next (same 4 v j) apart4 1 (get_or v (j * 4 + 1) 0 - 1) (omega arith) (omega arith))
       ∙ (ap (λ (l : List ℕ). upd (held s b r v) j (popping x l (held s b r v j))) (pile_tail (span 88 s j) (get_or v (j * 4 + 1) 0))
       ∙ ap (λ (y : ℕ). upd (held s b r v) j (popping y (tail_of (held s b r v j).stack) (held s b r v j))) e)
 
@@ -125,11 +125,11 @@ module _ (s b r v : List ℕ) (j : ℕ) (h : j < 16) where
   unfolding held
   base_read = refl
 
-  pub lower-read : get_or r (j * 8 + 0) 0 ≡ (held s b r v j).lower
+  pub lower_read : get_or r (j * 8 + 0) 0 ≡ (held s b r v j).lower
   unfolding held
-  lower-read = refl
+  lower_read = refl
 
-pub ruleset part_cases = (base_read, lower-read, top-none, top-some, top-far, pushed-on, base_on, cleared, dropped, dropped-none, popped-off, noted, asked, opened, kept, restored, stored, rules)
+pub ruleset part_cases = (base_read, lower_read, top_none, top_some, top_far, pushed_on, base_on, cleared, dropped, dropped_none, popped_off, noted, asked, opened, kept, restored, stored, rules)
 
 pub cap_less : (n : ℕ) → n < 88 → n ≡ capped n
 cap_less n h = rw (lt-ltb n 88 h)

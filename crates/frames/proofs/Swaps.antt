@@ -78,38 +78,38 @@ module _ (s b r v : List ℕ) (j : ℕ) where
   blocked : (fs : List Frame) (th : Thread) → told_in (Blocked (get_or r (j * 8 + 4) 0)) (held s b r v j ∷ fs) fs th ≡ told_in (Blocked (held s b r v j).base) (held s b r v j ∷ fs) fs th
   blocked fs th = ap (λ (x : ℕ). told_in (Blocked x) (held s b r v j ∷ fs) fs th) (sym is_base)
 
-  pub ride-free : {c : Check} → c ≡ Check.Replaceable → Acts (held s b r v) (held s b r v) j (Onward 64 Quiet) (ride_turn c)
+  pub ride_free : {c : Check} → c ≡ Check.Replaceable → Acts (held s b r v) (held s b r v) j (Onward 64 Quiet) (ride_turn c)
   unfolding ride_turn
-  ride-free e = kept (λ fs th. ridden fs th e)
+  ride_free e = kept (λ fs th. ridden fs th e)
 
-  pub ride-preparing : {c : Check} {m : ℕ} → c ≡ Check.Preparing m → Acts (held s b r v) (held s b r v) j (Blocked (get_or r (j * 8 + 4) 0)) (ride_turn c)
+  pub ride_preparing : {c : Check} {m : ℕ} → c ≡ Check.Preparing m → Acts (held s b r v) (held s b r v) j (Blocked (get_or r (j * 8 + 4) 0)) (ride_turn c)
   unfolding ride_turn
-  ride-preparing e = kept (λ fs th. blocked fs th ∙ ridden fs th e)
+  ride_preparing e = kept (λ fs th. blocked fs th ∙ ridden fs th e)
 
-  pub ride-completing : {c : Check} {m : ℕ} → c ≡ Check.Completing m → Acts (held s b r v) (held s b r v) j (Blocked (get_or r (j * 8 + 4) 0)) (ride_turn c)
+  pub ride_completing : {c : Check} {m : ℕ} → c ≡ Check.Completing m → Acts (held s b r v) (held s b r v) j (Blocked (get_or r (j * 8 + 4) 0)) (ride_turn c)
   unfolding ride_turn
-  ride-completing e = kept (λ fs th. blocked fs th ∙ ridden fs th e)
+  ride_completing e = kept (λ fs th. blocked fs th ∙ ridden fs th e)
 
-  pub ride-stale : {c : Check} → c ≡ Check.Stale → Acts (held s b r v) (held s b r v) j (Blocked (get_or r (j * 8 + 4) 0)) (ride_turn c)
+  pub ride_stale : {c : Check} → c ≡ Check.Stale → Acts (held s b r v) (held s b r v) j (Blocked (get_or r (j * 8 + 4) 0)) (ride_turn c)
   unfolding ride_turn
-  ride-stale e = kept (λ fs th. blocked fs th ∙ ridden fs th e)
+  ride_stale e = kept (λ fs th. blocked fs th ∙ ridden fs th e)
 
-  pub ride-take : {c : Check} {l u k : ℕ} {h' : ℕ → Frame} → c ≡ Check.Unset l u k → get_or r (j * 8 + 1) 0 ≤ u → h' ≡ upd (held s b r v) j (asks l u k (held s b r v j)) → Acts (held s b r v) h' j (Onward 60 Quiet) (ride_turn c)
+  pub ride_take : {c : Check} {l u k : ℕ} {h' : ℕ → Frame} → c ≡ Check.Unset l u k → get_or r (j * 8 + 1) 0 ≤ u → h' ≡ upd (held s b r v) j (asks l u k (held s b r v j)) → Acts (held s b r v) h' j (Onward 60 Quiet) (ride_turn c)
   unfolding ride_turn
-  ride-take {c} {l} {u} e z q = acted _ q (λ fs th. sym (chosen _ _ _ (ap (λ (x : ℕ). leb x u) is_upper ∙ le-leb _ _ z)) ∙ ridden fs th e)
+  ride_take {c} {l} {u} e z q = acted _ q (λ fs th. sym (chosen _ _ _ (ap (λ (x : ℕ). leb x u) is_upper ∙ le-leb _ _ z)) ∙ ridden fs th e)
 
-  pub ride-short : {c : Check} {l u k : ℕ} → c ≡ Check.Unset l u k → u < get_or r (j * 8 + 1) 0 → Acts (held s b r v) (held s b r v) j (Blocked (get_or r (j * 8 + 4) 0)) (ride_turn c)
+  pub ride_short : {c : Check} {l u k : ℕ} → c ≡ Check.Unset l u k → u < get_or r (j * 8 + 1) 0 → Acts (held s b r v) (held s b r v) j (Blocked (get_or r (j * 8 + 4) 0)) (ride_turn c)
   unfolding ride_turn
-  ride-short {c} {l} {u} e z = kept (λ fs th. blocked fs th ∙ (sym (other _ _ _ (ap (λ (x : ℕ). leb x u) is_upper ∙ lt-leb _ _ z)) ∙ ridden fs th e))
+  ride_short {c} {l} {u} e z = kept (λ fs th. blocked fs th ∙ (sym (other _ _ _ (ap (λ (x : ℕ). leb x u) is_upper ∙ lt-leb _ _ z)) ∙ ridden fs th e))
 
   -- ---- 76
-  pub pass-free : {f : Bool} → f ≡ true → Acts (held s b r v) (held s b r v) j (Onward 77 Quiet) (pass_turn f)
+  pub pass_free : {f : Bool} → f ≡ true → Acts (held s b r v) (held s b r v) j (Onward 77 Quiet) (pass_turn f)
   unfolding pass_turn
-  pass-free e = kept (λ fs th. sym (chosen _ _ _ e))
+  pass_free e = kept (λ fs th. sym (chosen _ _ _ e))
 
-  pub pass-blocked : {f : Bool} → f ≡ false → Acts (held s b r v) (held s b r v) j (Blocked (get_or r (j * 8 + 4) 0)) (pass_turn f)
+  pub pass_blocked : {f : Bool} → f ≡ false → Acts (held s b r v) (held s b r v) j (Blocked (get_or r (j * 8 + 4) 0)) (pass_turn f)
   unfolding pass_turn
-  pass-blocked e = kept (λ fs th. ap (λ (x : ℕ). told_in (Blocked x) (held s b r v j ∷ fs) fs th) (sym is_base) ∙ sym (other _ _ _ e))
+  pass_blocked e = kept (λ fs th. ap (λ (x : ℕ). told_in (Blocked x) (held s b r v j ∷ fs) fs th) (sym is_base) ∙ sym (other _ _ _ e))
 
   -- ---- 64 to 67
   opened : {w a : Probe} (l : Link) (c u k : ℕ) (fs : List Frame) (th : Thread) → w ≡ a → opened_by a (base_with Normal l c 0) (counts u k) (held s b r v j) fs (having (held s b r v j) fs th) ≡ open_turn w l c u k (held s b r v j) fs th
@@ -122,10 +122,10 @@ module _ (s b r v : List ℕ) (j : ℕ) where
   pub open_none : {w : Probe} {x : Spot} (l : Link) (c u k : ℕ) → w ≡ Hit x → u ≤ 255 → 63 < k → Acts (held s b r v) (held s b r v) j StoresOut (open_turn w l c u k)
   open_none l c u k e h m = kept (λ fs th. no_store k _ (omega arith) ∙ (has_room 1 u _ (omega arith) ∙ opened l c u k fs th e))
 
-  pub open-hit : {h' : ℕ → Frame} {w : Probe} {x : Spot} {p : ℕ} (l : Link) (c u k : ℕ) → w ≡ Hit x → u ≤ 255 → k ≤ 63 → Leads (held s b r v) h' j p (begin_turn u k c)
+  pub open_hit : {h' : ℕ → Frame} {w : Probe} {x : Spot} {p : ℕ} (l : Link) (c u k : ℕ) → w ≡ Hit x → u ≤ 255 → k ≤ 63 → Leads (held s b r v) h' j p (begin_turn u k c)
       → Acts (held s b r v) h' j (Onward p (Ask x u l (get_or r (j * 8 + 4) 0) (get_or r (j * 8 + 0) 0) (get_or r (j * 8 + 1) 0) k true)) (open_turn w l c u k)
   unfolding begin_turn add_turn held open_turn
-  open-hit {h'} {w} {x} {p} l c u k e h m q = leads_on _ q (λ fs th. by fs th ∙ (has_store k _ (omega arith) ∙ (has_room 1 u _ (omega arith) ∙ opened l c u k fs th e)))
+  open_hit {h'} {w} {x} {p} l c u k e h m q = leads_on _ q (λ fs th. by fs th ∙ (has_store k _ (omega arith) ∙ (has_room 1 u _ (omega arith) ∙ opened l c u k fs th e)))
     where
       by : (fs : List Frame) (th : Thread) → begin_turn u k c (Ask x u l (held s b r v j).base (held s b r v j).lower (held s b r v j).upper k true) (held s b r v j) fs th
           ≡ adding (Ask x u l (held s b r v j).base (held s b r v j).lower (held s b r v j).upper k true) c (asks (held s b r v j).lower (held s b r v j).upper k (in_hand u (tail_of (held s b r v j).stack) (held s b r v j))) fs (having (held s b r v j) fs th)
@@ -134,34 +134,34 @@ module _ (s b r v : List ℕ) (j : ℕ) where
   pub open_next : {w : Probe} {q : Quarter} {p : ℕ} (l : Link) (c u k : ℕ) → w ≡ Next q → p ≡ 64 + quarter_number q → Acts (held s b r v) (held s b r v) j (Onward p Quiet) (open_turn w l c u k)
   open_next l c u k e d = kept (λ fs th. ap (λ (x : ℕ). Moves (to_frames x (held s b r v j ∷ fs) th) Quiet) d ∙ opened l c u k fs th e)
 
-  pub open-miss : {w : Probe} (l : Link) (c u k : ℕ) → w ≡ Miss → Acts (held s b r v) (held s b r v) j (Onward 60 Quiet) (open_turn w l c u k)
-  open-miss l c u k e = kept (λ fs th. opened l c u k fs th e)
+  pub open_miss : {w : Probe} (l : Link) (c u k : ℕ) → w ≡ Miss → Acts (held s b r v) (held s b r v) j (Onward 60 Quiet) (open_turn w l c u k)
+  open_miss l c u k e = kept (λ fs th. opened l c u k fs th e)
 
   -- ---- 77 to 80
   extended : {w a : Probe} (l : Link) (c u : ℕ) (fs : List Frame) (th : Thread) → w ≡ a → extended_by a (base_with Normal l c 0) (counts u 0) (held s b r v j) fs (having (held s b r v j) fs th) ≡ go_on_turn w l c u (held s b r v j) fs th
   unfolding go_on_turn
   extended l c u fs th e = ap (λ (x : Probe). extended_by x (base_with Normal l c 0) (counts u 0) (held s b r v j) fs (having (held s b r v j) fs th)) (sym e)
 
-  pub on-full : {w : Probe} {x : Spot} (l : Link) (c u : ℕ) → w ≡ Hit x → 255 < u → Acts (held s b r v) (held s b r v) j NodesOut (go_on_turn w l c u)
-  on-full l c u e h = kept (λ fs th. no_room 1 u _ (omega arith) ∙ extended l c u fs th e)
+  pub on_full : {w : Probe} {x : Spot} (l : Link) (c u : ℕ) → w ≡ Hit x → 255 < u → Acts (held s b r v) (held s b r v) j NodesOut (go_on_turn w l c u)
+  on_full l c u e h = kept (λ fs th. no_room 1 u _ (omega arith) ∙ extended l c u fs th e)
 
-  pub on-hit : {h' : ℕ → Frame} {w : Probe} {x : Spot} {p k : ℕ} (l : Link) (c u : ℕ) → w ≡ Hit x → u ≤ 255 → k ≡ store_of (held s b r v j).store → Leads (held s b r v) h' j p (extend_turn u c)
+  pub on_hit : {h' : ℕ → Frame} {w : Probe} {x : Spot} {p k : ℕ} (l : Link) (c u : ℕ) → w ≡ Hit x → u ≤ 255 → k ≡ store_of (held s b r v j).store → Leads (held s b r v) h' j p (extend_turn u c)
       → Acts (held s b r v) h' j (Onward p (Ask x u l (get_or r (j * 8 + 4) 0) (get_or r (j * 8 + 0) 0) (get_or r (j * 8 + 1) 0) k false)) (go_on_turn w l c u)
   unfolding extend_turn add_turn held go_on_turn
-  on-hit {h'} {w} {x} {p} {k} l c u e h d q = rw d (leads_on _ q (λ fs th. by fs th ∙ (has_room 1 u _ (omega arith) ∙ extended l c u fs th e)))
+  on_hit {h'} {w} {x} {p} {k} l c u e h d q = rw d (leads_on _ q (λ fs th. by fs th ∙ (has_room 1 u _ (omega arith) ∙ extended l c u fs th e)))
     where
       by : (fs : List Frame) (th : Thread) → extend_turn u c (Ask x u l (held s b r v j).base (held s b r v j).lower (held s b r v j).upper (store_of (held s b r v j).store) false) (held s b r v j) fs th
           ≡ adding (Ask x u l (held s b r v j).base (held s b r v j).lower (held s b r v j).upper (store_of (held s b r v j).store) false) c (in_hand u (tail_of (held s b r v j).stack) (held s b r v j)) fs (having (held s b r v j) fs th)
       by fs th = add_alike _ c _ fs _ _ th
 
-  pub on-next : {w : Probe} {q : Quarter} {p : ℕ} (l : Link) (c u : ℕ) → w ≡ Next q → p ≡ 77 + quarter_number q → Acts (held s b r v) (held s b r v) j (Onward p Quiet) (go_on_turn w l c u)
-  on-next l c u e d = kept (λ fs th. ap (λ (x : ℕ). Moves (to_frames x (held s b r v j ∷ fs) th) Quiet) d ∙ extended l c u fs th e)
+  pub on_next : {w : Probe} {q : Quarter} {p : ℕ} (l : Link) (c u : ℕ) → w ≡ Next q → p ≡ 77 + quarter_number q → Acts (held s b r v) (held s b r v) j (Onward p Quiet) (go_on_turn w l c u)
+  on_next l c u e d = kept (λ fs th. ap (λ (x : ℕ). Moves (to_frames x (held s b r v j ∷ fs) th) Quiet) d ∙ extended l c u fs th e)
 
   back_alike : (f : Frame) (fs : List Frame) (th : Thread) → back_in (f ∷ fs) Quiet th ≡ back Quiet (having f fs th)
   unfolding back
   back_alike f fs th = ap (λ (x : Turn). ite f.begun x (Moves (to_frames 60 (f ∷ fs) th) Quiet)) (next_alike Quiet f.backup f fs (f ∷ fs) th.place th)
 
-  pub on-miss : {h' : ℕ → Frame} {w : Probe} {p : ℕ} (l : Link) (c u : ℕ) → w ≡ Miss → Leads (held s b r v) h' j p (λ e f fs th. back_in (f ∷ fs) e th) → Acts (held s b r v) h' j (Onward p Quiet) (go_on_turn w l c u)
-  on-miss l c u e q = leads_on Quiet q (λ fs th. back_alike (held s b r v j) fs th ∙ extended l c u fs th e)
+  pub on_miss : {h' : ℕ → Frame} {w : Probe} {p : ℕ} (l : Link) (c u : ℕ) → w ≡ Miss → Leads (held s b r v) h' j p (λ e f fs th. back_in (f ∷ fs) e th) → Acts (held s b r v) h' j (Onward p Quiet) (go_on_turn w l c u)
+  on_miss l c u e q = leads_on Quiet q (λ fs th. back_alike (held s b r v j) fs th ∙ extended l c u fs th e)
 
-pub ruleset swap_cases = (quarter_place, ride-free, ride-preparing, ride-completing, ride-stale, ride-take, ride-short, pass-free, pass-blocked, open_full, open_none, open-hit, open_next, open-miss, on-full, on-hit, on-next, on-miss, rules)
+pub ruleset swap_cases = (quarter_place, ride_free, ride_preparing, ride_completing, ride_stale, ride_take, ride_short, pass_free, pass_blocked, open_full, open_none, open_hit, open_next, open_miss, on_full, on_hit, on_next, on_miss, rules)

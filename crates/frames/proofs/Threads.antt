@@ -77,9 +77,9 @@ module _ (h h' : ℕ → Frame) (t p : ℕ) (s : Sight) (a : Action) (l u : ℕ)
       n : suc d - 1 ≡ d
       n = omega arith
 
-  pub takes-top : {r : Outcome} (d : ℕ) → (d ≡ 0 → ⊥) → d ≤ 4 → Acts h h' (t * 4 + (d - 1)) r (step_at p s) → Takes h h' t d r (Stands p a l u) (step (place_of p) s)
-  takes-top zero z m k = absurd (z refl)
-  takes-top {r} (suc d) z m k = top_acts d (omega arith) (let n : suc d - 1 ≡ d = omega arith in rw n at k)
+  pub takes_top : {r : Outcome} (d : ℕ) → (d ≡ 0 → ⊥) → d ≤ 4 → Acts h h' (t * 4 + (d - 1)) r (step_at p s) → Takes h h' t d r (Stands p a l u) (step (place_of p) s)
+  takes_top zero z m k = absurd (z refl)
+  takes_top {r} (suc d) z m k = top_acts d (omega arith) (let n : suc d - 1 ≡ d = omega arith in rw n at k)
 
 -- ---- room on the stack of the frame on top
 length_pile : (r : ℕ → ℕ) (n : ℕ) → length (pile r n) ≡ n

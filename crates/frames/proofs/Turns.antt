@@ -114,8 +114,8 @@ module _ (e : Effect) (f : Frame) (fs : List Frame) (th : Thread) where
   next_any l r (suc (suc n)) q z = rw q
 
 module _ (s b r v : List ℕ) (j : ℕ) where
-  pub next-none : get_or v (j * 4 + 1) 0 ≡ 0 → Leads (held s b r v) (held s b r v) j 81 (λ e f fs th. next_from f.stack e f fs th)
-  next-none z = led (held s b r v j) (upd_same (held s b r v) j) (λ e fs th. rw (is_pile s b r v j, z))
+  pub next_none : get_or v (j * 4 + 1) 0 ≡ 0 → Leads (held s b r v) (held s b r v) j 81 (λ e f fs th. next_from f.stack e f fs th)
+  next_none z = led (held s b r v j) (upd_same (held s b r v) j) (λ e fs th. rw (is_pile s b r v j, z))
 
   pub next_last : {h' : ℕ → Frame} → h' ≡ upd (held s b r v) j (popping (top_of (held s b r v j).stack) (tail_of (held s b r v j).stack) (held s b r v j)) → get_or v (j * 4 + 1) 0 ≡ 1
       → Leads (held s b r v) h' j 81 (λ e f fs th. next_from f.stack e f fs th)
@@ -126,29 +126,29 @@ module _ (s b r v : List ℕ) (j : ℕ) where
   next_more q z y = led _ q (λ e fs th. next_on e (held s b r v j) fs th (held s b r v j).stack (span 88 s j) (get_or v (j * 4 + 1) 0) (is_pile s b r v j) z y)
 
   -- ---- add: c is the container, t whether it is the last
-  pub add-last : {h' : ℕ → Frame} {t : Bool} (c : ℕ) → t ≡ reaches c (get_or r (j * 8 + 1) 0) → h' ≡ upd (held s b r v) j (adds c (held s b r v j)) → t ≡ true
+  pub add_last : {h' : ℕ → Frame} {t : Bool} (c : ℕ) → t ≡ reaches c (get_or r (j * 8 + 1) 0) → h' ≡ upd (held s b r v) j (adds c (held s b r v j)) → t ≡ true
       → Leads (held s b r v) h' j 81 (add_turn c)
   unfolding add_turn adding ite
-  add-last c k q z = led _ q (λ e fs th. rw (is_upper s b r v j, ← k, z))
+  add_last c k q z = led _ q (λ e fs th. rw (is_upper s b r v j, ← k, z))
 
-  pub add-next : {h₁ h' : ℕ → Frame} {t : Bool} {p : ℕ} (c : ℕ) → t ≡ reaches c (get_or r (j * 8 + 1) 0) → h₁ ≡ upd (held s b r v) j (adds c (held s b r v j)) → t ≡ false
+  pub add_next : {h₁ h' : ℕ → Frame} {t : Bool} {p : ℕ} (c : ℕ) → t ≡ reaches c (get_or r (j * 8 + 1) 0) → h₁ ≡ upd (held s b r v) j (adds c (held s b r v j)) → t ≡ false
       → Leads h₁ h' j p (λ e f fs th. next_from f.stack e f fs th) → Leads (held s b r v) h' j p (add_turn c)
   unfolding add_turn adding ite
-  add-next c k q z l = then _ q l (λ e fs th. rw (is_upper s b r v j, ← k, z))
+  add_next c k q z l = then _ q l (λ e fs th. rw (is_upper s b r v j, ← k, z))
 
   -- ---- back
-  pub back-first : get_or r (j * 8 + 7) 0 ≡ 0 → Leads (held s b r v) (held s b r v) j 60 (λ e f fs th. back_in (f ∷ fs) e th)
+  pub back_first : get_or r (j * 8 + 7) 0 ≡ 0 → Leads (held s b r v) (held s b r v) j 60 (λ e f fs th. back_in (f ∷ fs) e th)
   unfolding ite
-  back-first z = led (held s b r v j) (upd_same (held s b r v) j) (λ e fs th. rw (is_begun s b r v j, z))
+  back_first z = led (held s b r v j) (upd_same (held s b r v) j) (λ e fs th. rw (is_begun s b r v j, z))
 
   pub back_none : (get_or r (j * 8 + 7) 0 ≡ 0 → ⊥) → get_or v (j * 4 + 2) 0 ≡ 0 → Leads (held s b r v) (held s b r v) j 81 (λ e f fs th. back_in (f ∷ fs) e th)
   unfolding ite
   back_none y z = led (held s b r v j) (upd_same (held s b r v) j) (λ e fs th. rw (is_begun s b r v j, ne_eqb (get_or r (j * 8 + 7) 0) 0 y, is_kept s b r v j, z))
 
-  pub back-next : {h₁ h' : ℕ → Frame} {p : ℕ} → (get_or r (j * 8 + 7) 0 ≡ 0 → ⊥) → (get_or v (j * 4 + 2) 0 ≡ 0 → ⊥) → h₁ ≡ upd (held s b r v) j (with_stack (held s b r v j).backup (held s b r v j))
+  pub back_next : {h₁ h' : ℕ → Frame} {p : ℕ} → (get_or r (j * 8 + 7) 0 ≡ 0 → ⊥) → (get_or v (j * 4 + 2) 0 ≡ 0 → ⊥) → h₁ ≡ upd (held s b r v) j (with_stack (held s b r v j).backup (held s b r v j))
       → Leads h₁ h' j p (λ e f fs th. next_from f.stack e f fs th) → Leads (held s b r v) h' j p (λ e f fs th. back_in (f ∷ fs) e th)
   unfolding ite
-  back-next y z q l = then _ q l (λ e fs th. next_any e (held s b r v j) fs th (held s b r v j).backup (span 88 b j) (get_or v (j * 4 + 2) 0) (is_kept s b r v j) z ∙ sym (chosen (held s b r v j).begun _ _ (is_begun s b r v j ∙ ap not (ne_eqb (get_or r (j * 8 + 7) 0) 0 y))))
+  back_next y z q l = then _ q l (λ e fs th. next_any e (held s b r v j) fs th (held s b r v j).backup (span 88 b j) (get_or v (j * 4 + 2) 0) (is_kept s b r v j) z ∙ sym (chosen (held s b r v j).begun _ _ (is_begun s b r v j ∙ ap not (ne_eqb (get_or r (j * 8 + 7) 0) 0 y))))
 
   -- ---- where a swap succeeds
   pub extends : {h₁ h' : ℕ → Frame} {p : ℕ} (x c : ℕ) → h₁ ≡ upd (held s b r v) j (in_hand x (tail_of (held s b r v j).stack) (held s b r v j)) → Leads h₁ h' j p (add_turn c) → Leads (held s b r v) h' j p (extend_turn x c)
@@ -160,11 +160,11 @@ module _ (s b r v : List ℕ) (j : ℕ) where
   begins x k c q l = then _ q l (λ e fs th. refl)
 
   -- ---- the frame's store
-  pub store-none : get_or r (j * 8 + 2) 0 ≡ 0 → 0 ≡ store_of (held s b r v j).store
-  store-none e = rw (is_store s b r v j, e)
+  pub store_none : get_or r (j * 8 + 2) 0 ≡ 0 → 0 ≡ store_of (held s b r v j).store
+  store_none e = rw (is_store s b r v j, e)
 
-  pub store-some : (get_or r (j * 8 + 2) 0 ≡ 0 → ⊥) → get_or r (j * 8 + 3) 0 ≡ store_of (held s b r v j).store
-  store-some e = rw (is_store s b r v j, link_some (get_or r (j * 8 + 2) 0) (get_or r (j * 8 + 3) 0) e)
+  pub store_some : (get_or r (j * 8 + 2) 0 ≡ 0 → ⊥) → get_or r (j * 8 + 3) 0 ≡ store_of (held s b r v j).store
+  store_some e = rw (is_store s b r v j, link_some (get_or r (j * 8 + 2) 0) (get_or r (j * 8 + 3) 0) e)
 
   -- ---- found first: t, k and c are kind, store and container of the base in hand
   found : (l : Link) (t : Kind) (k c : ℕ) → (held s b r v j).store ≡ l → (fs : List Frame) (th : Thread) → found_first l (base_with t Nil c k) (held s b r v j) fs th ≡ found_turn t k c (held s b r v j) fs th
@@ -177,12 +177,12 @@ module _ (s b r v : List ℕ) (j : ℕ) where
   pub found_none : (t : Kind) (k c : ℕ) → get_or r (j * 8 + 2) 0 ≡ 0 → Goes (held s b r v) (held s b r v) j 62 (found_turn t k c)
   found_none t k c o = stays (found Nil t k c (is_store s b r v j ∙ ap (λ (y : ℕ). link_of y (get_or r (j * 8 + 3) 0)) o))
 
-  pub found-other : {u : Bool} (t : Kind) (k c : ℕ) → (get_or r (j * 8 + 2) 0 ≡ 0 → ⊥) → u ≡ cond (is_range t) (eqb k (get_or r (j * 8 + 3) 0)) false → u ≡ false
+  pub found_other : {u : Bool} (t : Kind) (k c : ℕ) → (get_or r (j * 8 + 2) 0 ≡ 0 → ⊥) → u ≡ cond (is_range t) (eqb k (get_or r (j * 8 + 3) 0)) false → u ≡ false
       → Goes (held s b r v) (held s b r v) j 82 (found_turn t k c)
-  found-other t k c o i y = stays (λ fs th. sym (other _ _ _ (sym i ∙ y)) ∙ found (To (get_or r (j * 8 + 3) 0)) t k c (is_some o) fs th)
+  found_other t k c o i y = stays (λ fs th. sym (other _ _ _ (sym i ∙ y)) ∙ found (To (get_or r (j * 8 + 3) 0)) t k c (is_some o) fs th)
 
-  pub found-mine : {u : Bool} {h' : ℕ → Frame} {p : ℕ} (t : Kind) (k c : ℕ) → (get_or r (j * 8 + 2) 0 ≡ 0 → ⊥) → u ≡ cond (is_range t) (eqb k (get_or r (j * 8 + 3) 0)) false → u ≡ true
+  pub found_mine : {u : Bool} {h' : ℕ → Frame} {p : ℕ} (t : Kind) (k c : ℕ) → (get_or r (j * 8 + 2) 0 ≡ 0 → ⊥) → u ≡ cond (is_range t) (eqb k (get_or r (j * 8 + 3) 0)) false → u ≡ true
       → Leads (held s b r v) h' j p (add_turn c) → Goes (held s b r v) h' j p (found_turn t k c)
-  found-mine t k c o i y l = after (held s b r v j) (upd_same (held s b r v) j) l (λ fs th. as_adding c (held s b r v j) fs th ∙ (sym (chosen _ _ _ (sym i ∙ y)) ∙ found (To (get_or r (j * 8 + 3) 0)) t k c (is_some o) fs th))
+  found_mine t k c o i y l = after (held s b r v j) (upd_same (held s b r v) j) l (λ fs th. as_adding c (held s b r v j) fs th ∙ (sym (chosen _ _ _ (sym i ∙ y)) ∙ found (To (get_or r (j * 8 + 3) 0)) t k c (is_some o) fs th))
 
-pub ruleset turn_cases = (reaches_by, of_range, of_none, extends, begins, next-none, next_last, next_more, add-last, add-next, back-first, back_none, back-next, store-none, store-some, found_none, found-other, found-mine, rules)
+pub ruleset turn_cases = (reaches_by, of_range, of_none, extends, begins, next_none, next_last, next_more, add_last, add_next, back_first, back_none, back_next, store_none, store_some, found_none, found_other, found_mine, rules)

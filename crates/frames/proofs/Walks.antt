@@ -56,9 +56,9 @@ module _ (s b r v : List ℕ) (j : ℕ) where
 
 module _ (s b r v : List ℕ) (j : ℕ) where
   -- ---- 70: l and k are the left child and the key of the top route
-  pub left-same : (l k : ℕ) → l ≡ get_or r (j * 8 + 5) 0 → Goes (held s b r v) (held s b r v) j 71 (left_turn l k)
+  pub left_same : (l k : ℕ) → l ≡ get_or r (j * 8 + 5) 0 → Goes (held s b r v) (held s b r v) j 71 (left_turn l k)
   unfolding left_turn
-  left-same l k e = stays (λ fs th. sym (chosen _ _ _ (ap (eqb l) (is_popped s b r v j) ∙ eq-eqb l (get_or r (j * 8 + 5) 0) e)))
+  left_same l k e = stays (λ fs th. sym (chosen _ _ _ (ap (eqb l) (is_popped s b r v j) ∙ eq-eqb l (get_or r (j * 8 + 5) 0) e)))
 
   pub left_other : {h' : ℕ → Frame} (l k : ℕ) → (l ≡ get_or r (j * 8 + 5) 0 → ⊥) → h' ≡ upd (held s b r v) j (noting k (held s b r v j)) → Goes (held s b r v) h' j 72 (left_turn l k)
   unfolding left_turn
@@ -74,8 +74,8 @@ module _ (s b r v : List ℕ) (j : ℕ) where
   unfolding up_turn
   up_on y m k z q t = went _ q (λ fs th. t fs th ∙ sym (other _ _ _ (ap (λ (x : ℕ). cond y (ltb x m) false) (is_key s b r v j) ∙ (sym k ∙ z))))
 
-  pub up-last : {h' : ℕ → Frame} {t : Bool} (y : Bool) (m : ℕ) → t ≡ cond y (ltb (get_or r (j * 8 + 6) 0) m) false → t ≡ false → h' ≡ upd (held s b r v) j (with_stack (tail_of (held s b r v j).stack) (held s b r v j)) → get_or v (j * 4 + 1) 0 < 2 → Goes (held s b r v) h' j 81 (up_turn y m)
-  up-last y m k z q l = up_on y m k z q (λ fs th. by (held s b r v j) (held s b r v j).stack (get_or v (j * 4 + 1) 0) l (is_pile s b r v j) fs th)
+  pub up_last : {h' : ℕ → Frame} {t : Bool} (y : Bool) (m : ℕ) → t ≡ cond y (ltb (get_or r (j * 8 + 6) 0) m) false → t ≡ false → h' ≡ upd (held s b r v) j (with_stack (tail_of (held s b r v j).stack) (held s b r v j)) → get_or v (j * 4 + 1) 0 < 2 → Goes (held s b r v) h' j 81 (up_turn y m)
+  up_last y m k z q l = up_on y m k z q (λ fs th. by (held s b r v j) (held s b r v j).stack (get_or v (j * 4 + 1) 0) l (is_pile s b r v j) fs th)
     where
       by : (f : Frame) (l : List ℕ) (m : ℕ) → m < 2 → l ≡ pile (span 88 s j) m → (fs : List Frame) (th : Thread) → Moves (to_frames 81 (with_stack (tail_of l) f ∷ fs) th) Quiet ≡ pop_on (tail_of l) f fs (having f fs th)
       by f l zero h e fs th = rw e
@@ -91,23 +91,23 @@ module _ (s b r v : List ℕ) (j : ℕ) where
       by f l (suc (suc m)) h e fs th = rw e
 
   -- ---- 74: k is the result of the frame's store, n, i and c are kind, store and container of the base in hand
-  pub meet-set : {z : ℕ} (k : Shared) (n : Kind) (i c : ℕ) → k ≡ Set z → Goes (held s b r v) (held s b r v) j 82 (meet_turn k n i c)
+  pub meet_set : {z : ℕ} (k : Shared) (n : Kind) (i c : ℕ) → k ≡ Set z → Goes (held s b r v) (held s b r v) j 82 (meet_turn k n i c)
   unfolding meet_turn
-  meet-set k n i c e = stays (λ fs th. rw e)
+  meet_set k n i c e = stays (λ fs th. rw e)
 
-  pub meet-of : {h' : ℕ → Frame} {t : Bool} {m p : ℕ} (k : Shared) (n : Kind) (i c : ℕ) → k ≡ Unset → m ≡ store_of (held s b r v j).store → t ≡ cond (is_range n) (eqb i m) false → t ≡ true → Leads (held s b r v) h' j p (add_turn c) → Goes (held s b r v) h' j p (meet_turn k n i c)
+  pub meet_of : {h' : ℕ → Frame} {t : Bool} {m p : ℕ} (k : Shared) (n : Kind) (i c : ℕ) → k ≡ Unset → m ≡ store_of (held s b r v j).store → t ≡ cond (is_range n) (eqb i m) false → t ≡ true → Leads (held s b r v) h' j p (add_turn c) → Goes (held s b r v) h' j p (meet_turn k n i c)
   unfolding meet_turn
-  meet-of k n i c e q o z l = after (held s b r v j) (upd_same (held s b r v) j) l (λ fs th. add_alike Quiet c (held s b r v j) fs _ _ th ∙ (sym (chosen _ _ _ (ap (λ (x : ℕ). cond (is_range n) (eqb i x) false) (sym q) ∙ (sym o ∙ z))) ∙ ap (λ (x : Shared). met_by x (base_with n Nil c i) (held s b r v j) fs (having (held s b r v j) fs th)) (sym e)))
+  meet_of k n i c e q o z l = after (held s b r v j) (upd_same (held s b r v) j) l (λ fs th. add_alike Quiet c (held s b r v j) fs _ _ th ∙ (sym (chosen _ _ _ (ap (λ (x : ℕ). cond (is_range n) (eqb i x) false) (sym q) ∙ (sym o ∙ z))) ∙ ap (λ (x : Shared). met_by x (base_with n Nil c i) (held s b r v j) fs (having (held s b r v j) fs th)) (sym e)))
 
-  pub meet-not : {t : Bool} {m : ℕ} (k : Shared) (n : Kind) (i c : ℕ) → k ≡ Unset → m ≡ store_of (held s b r v j).store → t ≡ cond (is_range n) (eqb i m) false → t ≡ false → Goes (held s b r v) (held s b r v) j 76 (meet_turn k n i c)
+  pub meet_not : {t : Bool} {m : ℕ} (k : Shared) (n : Kind) (i c : ℕ) → k ≡ Unset → m ≡ store_of (held s b r v j).store → t ≡ cond (is_range n) (eqb i m) false → t ≡ false → Goes (held s b r v) (held s b r v) j 76 (meet_turn k n i c)
   unfolding meet_turn
-  meet-not k n i c e q o z = stays (λ fs th. sym (other _ _ _ (ap (λ (x : ℕ). cond (is_range n) (eqb i x) false) (sym q) ∙ (sym o ∙ z))) ∙ ap (λ (x : Shared). met_by x (base_with n Nil c i) (held s b r v j) fs (having (held s b r v j) fs th)) (sym e))
+  meet_not k n i c e q o z = stays (λ fs th. sym (other _ _ _ (ap (λ (x : ℕ). cond (is_range n) (eqb i x) false) (sym q) ∙ (sym o ∙ z))) ∙ ap (λ (x : Shared). met_by x (base_with n Nil c i) (held s b r v j) fs (having (held s b r v j) fs th)) (sym e))
 
   -- ---- 81
   pub fill_set : {z : ℕ} (k : Shared) → k ≡ Set z → Quiet ≡ fill_effect k (held s b r v j)
   fill_set k e = rw e
 
-  pub fill-unset : {m : ℕ} (k : Shared) → k ≡ Unset → m ≡ store_of (held s b r v j).store → Fill m (get_or v (j * 4 + 0) 0) ≡ fill_effect k (held s b r v j)
-  fill-unset k e q = rw (e, q, is_done_lem s b r v j)
+  pub fill_unset : {m : ℕ} (k : Shared) → k ≡ Unset → m ≡ store_of (held s b r v j).store → Fill m (get_or v (j * 4 + 0) 0) ≡ fill_effect k (held s b r v j)
+  fill_unset k e q = rw (e, q, is_done_lem s b r v j)
 
-pub ruleset walk_cases = (above_valid, above_none, left-same, left_other, up_right, up-last, up_more, meet-set, meet-of, meet-not, fill_set, fill-unset, rules)
+pub ruleset walk_cases = (above_valid, above_none, left_same, left_other, up_right, up_last, up_more, meet_set, meet_of, meet_not, fill_set, fill_unset, rules)

@@ -13,8 +13,8 @@ use Rattle.definitions.specs.Schedule.{count_of}
 use Rattle.definitions.specs.Merge.{first_byte, fault}
 use Rattle.definitions.specs.Written.{written_refusal}
 use Rattle.history.specs.Ahead.{start_number, starts_to, ahead}
-use Rattle.history.proofs.Outlook.{ahead_own, ahead-other, ahead_none}
-use Rattle.run.proofs.Room.{by-file, by_room, by-none}
+use Rattle.history.proofs.Outlook.{ahead_own, ahead_other, ahead_none}
+use Rattle.run.proofs.Room.{by_file, by_room, by_none}
 
 -- ---- the header
 pub header_put : (p : Page) (x y : ℕ) {q r : Page} → q ≡ put p 1 → r ≡ put_all q (x ∷ y ∷ []) → r ≡ put_all p (1 ∷ x ∷ y ∷ [])
@@ -49,23 +49,23 @@ module _ (file : List ℕ) (first done k t : ℕ) (h : k < done) (e : ahead file
   one : done - k ≡ suc (done - suc k)
   one = omega arith
 
-  pub ahead-hit : first_byte file k / 16 ≡ t → eqb (first_byte file k % 16) 0 ≡ ahead file first (done - first) t
-  ahead-hit q = sym (e ∙ ap (λ j. ahead file k j t) one ∙ ahead_own file k (done - suc k) t q)
+  pub ahead_hit : first_byte file k / 16 ≡ t → eqb (first_byte file k % 16) 0 ≡ ahead file first (done - first) t
+  ahead_hit q = sym (e ∙ ap (λ j. ahead file k j t) one ∙ ahead_own file k (done - suc k) t q)
 
-  pub ahead-miss : (first_byte file k / 16 ≡ t → ⊥) → ahead file first (done - first) t ≡ ahead file (k + 1) (done - (k + 1)) t
-  ahead-miss q = e ∙ ap (λ j. ahead file k j t) one ∙ ahead-other file k (done - suc k) t q ∙ rw (add-one k)
+  pub ahead_miss : (first_byte file k / 16 ≡ t → ⊥) → ahead file first (done - first) t ≡ ahead file (k + 1) (done - (k + 1)) t
+  ahead_miss q = e ∙ ap (λ j. ahead file k j t) one ∙ ahead_other file k (done - suc k) t q ∙ rw (add-one k)
 
 -- ---- the refusal of a file and a buffer
 module _ (file : List ℕ) (room : ℕ) {bad : ℕ} (e : bad ≡ fault file) where
-  pub refusal-file : (bad ≡ 0 → ⊥) → bad ≡ written_refusal file room
+  pub refusal_file : (bad ≡ 0 → ⊥) → bad ≡ written_refusal file room
   unfolding written_refusal
-  refusal-file z = by-file room _ 5 e z
+  refusal_file z = by_file room _ 5 e z
 
   module _ {count need : ℕ} (z : bad ≡ 0) (d : count ≡ count_of file) (m : need ≡ 3 + 4 * count) where
-    pub refusal-room : room < need → 5 ≡ written_refusal file room
+    pub refusal_room : room < need → 5 ≡ written_refusal file room
     unfolding written_refusal
-    refusal-room l = by_room room _ 5 e z (rw (m, d) at l)
+    refusal_room l = by_room room _ 5 e z (rw (m, d) at l)
 
     pub refusal_none : need ≤ room → 0 ≡ written_refusal file room
     unfolding written_refusal
-    refusal_none l = by-none room _ 5 e z (rw (m, d) at l)
+    refusal_none l = by_none room _ 5 e z (rw (m, d) at l)

@@ -96,42 +96,42 @@ module _ (file : List ℕ) (d f : ℕ) (rows : List ℕ) (told : Told file d f r
       by (goes e _ _ _) = e
       by (ends _ _ _ _ e _ _) = absurd (h e)
 
-  pub start-finished : first_byte file k % 16 ≢ 0 → (after file (suc k)).finished ≡ (after file k).finished
-  start-finished h = finished_on no_row (start_row h) ∙ (let q : 0 + (after file k).finished ≡ (after file k).finished = omega arith in q)
+  pub start_finished : first_byte file k % 16 ≢ 0 → (after file (suc k)).finished ≡ (after file k).finished
+  start_finished h = finished_on no_row (start_row h) ∙ (let q : 0 + (after file k).finished ≡ (after file k).finished = omega arith in q)
 
-  pub start-events : first_byte file k % 16 ≢ 0 → events_to file (suc k) ≡ events_to file k ++ record { thread = t; action = first_byte file k % 16; station = second_byte file k; mark = 0 } ∷ []
-  start-events h = events_on file told.version k z ∙ ap (λ l. events_to file k ++ l) (start_event_lem (first_byte file k % 16) (after file k).bench (rec file k) z.added h)
+  pub start_events : first_byte file k % 16 ≢ 0 → events_to file (suc k) ≡ events_to file k ++ record { thread = t; action = first_byte file k % 16; station = second_byte file k; mark = 0 } ∷ []
+  start_events h = events_on file told.version k z ∙ ap (λ l. events_to file k ++ l) (start_event_lem (first_byte file k % 16) (after file k).bench (rec file k) z.added h)
 
   -- a step that goes on
   module _ (step : first_byte file k % 16 ≡ 0) where
-    quiet-events : z.added ≡ no_row → events_to file (suc k) ≡ events_to file k
-    quiet-events e = events_on file told.version k z ∙ ap (λ l. events_to file k ++ l) (ap (λ v. event_of v (after file k).bench (rec file k) z.added) step ∙ ap (λ w. event_of 0 (after file k).bench (rec file k) w) e) ∙ append-nil (events_to file k)
+    quiet_events : z.added ≡ no_row → events_to file (suc k) ≡ events_to file k
+    quiet_events e = events_on file told.version k z ∙ ap (λ l. events_to file k ++ l) (ap (λ v. event_of v (after file k).bench (rec file k) z.added) step ∙ ap (λ w. event_of 0 (after file k).bench (rec file k) w) e) ∙ append-nil (events_to file k)
 
     pub record Quiet : Type 0 where
       pub events : events_to file (suc k) ≡ events_to file k
       pub finished : (after file (suc k)).finished ≡ (after file k).finished
 
     quiet : z.added ≡ no_row → Quiet
-    quiet e = record { events = quiet-events e; finished = finished_on no_row e ∙ (let q : 0 + (after file k).finished ≡ (after file k).finished = omega arith in q) }
+    quiet e = record { events = quiet_events e; finished = finished_on no_row e ∙ (let q : 0 + (after file k).finished ≡ (after file k).finished = omega arith in q) }
 
-    pub quiet-past : f ≤ (after file k).finished → Quiet
-    quiet-past h = by deed
+    pub quiet_past : f ≤ (after file k).finished → Quiet
+    quiet_past h = by deed
       where
         by : Deed file k z.added → Quiet
         by (starts e _ _) = quiet e
         by (goes e _ _ _) = quiet e
         by (ends a i c e _ _ _) = absurd (omega (arith, row_counts a i c e))
 
-    pub quiet-other : (after file k).finished < f → get_or rows (4 * (after file k).finished) 0 ≢ t → Quiet
-    quiet-other l h = by deed
+    pub quiet_other : (after file k).finished < f → get_or rows (4 * (after file k).finished) 0 ≢ t → Quiet
+    quiet_other l h = by deed
       where
         by : Deed file k z.added → Quiet
         by (starts e _ _) = quiet e
         by (goes e _ _ _) = quiet e
         by (ends a i c e _ _ _) = absurd (h (told.rows (4 * (after file k).finished) (omega arith) ∙ (row_here a i c e).thread))
 
-    pub quiet-ahead : ahead file (suc k) (d - suc k) t ≡ true → Quiet
-    quiet-ahead h = by deed
+    pub quiet_ahead : ahead file (suc k) (d - suc k) t ≡ true → Quiet
+    quiet_ahead h = by deed
       where
         by : Deed file k z.added → Quiet
         by (starts e _ _) = quiet e
@@ -149,27 +149,27 @@ module _ (file : List ℕ) (d f : ℕ) (rows : List ℕ) (told : Told file d f r
         mark = get_or rows (4 * (after file k).finished + 3) 0 + 1;
       } ∷ []
 
-    pub ends-here : (after file k).finished < f → get_or rows (4 * (after file k).finished) 0 ≡ t → ahead file (suc k) (d - suc k) t ≡ false → Ends
-    ends-here l h a = by deed
+    pub ends_here : (after file k).finished < f → get_or rows (4 * (after file k).finished) 0 ≡ t → ahead file (suc k) (d - suc k) t ≡ false → Ends
+    ends_here l h a = by deed
       where
         m : ℕ
         m = (after file k).finished
 
-        from-run : (j : ℕ) → 1 + j ≤ 4 * f → get_or rows j 0 ≡ get_or (after file n).rows j 0
-        from-run = told.rows
+        from_run : (j : ℕ) → 1 + j ≤ 4 * f → get_or rows j 0 ≡ get_or (after file n).rows j 0
+        from_run = told.rows
 
         none : z.added ≡ no_row → is_idle ((after file (suc k)).bench.threads t) ≡ false → ⊥
-        none e b = (outlook file told.version n t (d - suc k) (suc k) rest).off a b (after file k).finished (omega (arith, (quiet e).finished)) (omega (arith, told.finished)) (sym (from-run (4 * (after file k).finished) (omega arith)) ∙ h)
+        none e b = (outlook file told.version n t (d - suc k) (suc k) rest).off a b (after file k).finished (omega (arith, (quiet e).finished)) (omega (arith, told.finished)) (sym (from_run (4 * (after file k).finished) (omega arith)) ∙ h)
 
         by : Deed file k z.added → Ends
         by (starts _ e _) = absurd (e step)
         by (goes e _ _ b) = absurd (none e b)
         by (ends y i c e _ _ _) =
             let r = row_here y i c e in
-            let r0 = from-run (4 * (after file k).finished) (omega arith) ∙ r.thread in
-            let r1 = from-run (4 * (after file k).finished + 1) (omega arith) ∙ r.action in
-            let r2 = from-run (4 * (after file k).finished + 2) (omega arith) ∙ r.station in
-            let r3 = from-run (4 * (after file k).finished + 3) (omega arith) ∙ r.answer in
+            let r0 = from_run (4 * (after file k).finished) (omega arith) ∙ r.thread in
+            let r1 = from_run (4 * (after file k).finished + 1) (omega arith) ∙ r.action in
+            let r2 = from_run (4 * (after file k).finished + 2) (omega arith) ∙ r.station in
+            let r3 = from_run (4 * (after file k).finished + 3) (omega arith) ∙ r.answer in
             record {
               low = omega (arith, r3, answer_low y);
               finished = omega (arith, finished_on (row y i c) e);
@@ -228,35 +228,35 @@ not_off true e = refl
 not_off false e = absurd (true≢false e)
 
 module _ (file : List ℕ) (d f : ℕ) (rows : List ℕ) (told : Told file d f rows) (k : ℕ) (in-run : k < d) {m : ℕ} {p q : Page} (h : Holds file k m p q) where
-  pub on-start : {r : Page} → (first_byte file k % 16 ≡ 0 → ⊥) → r ≡ put_all q (first_byte file k / 16 ∷ first_byte file k % 16 ∷ second_byte file k ∷ 0 ∷ []) → Holds file (k + 1) m p r
-  on-start s e = record { rows = h.rows ∙ sym (start-finished file d f rows told k in-run s) ∙ rw (add-one k); page = page_more file k p _ (start-events file d f rows told k in-run s) h.page e }
+  pub on_start : {r : Page} → (first_byte file k % 16 ≡ 0 → ⊥) → r ≡ put_all q (first_byte file k / 16 ∷ first_byte file k % 16 ∷ second_byte file k ∷ 0 ∷ []) → Holds file (k + 1) m p r
+  on_start s e = record { rows = h.rows ∙ sym (start_finished file d f rows told k in-run s) ∙ rw (add-one k); page = page_more file k p _ (start_events file d f rows told k in-run s) h.page e }
 
   module _ (step : first_byte file k % 16 ≡ 0) where
     still : Quiet file d f rows told k in-run step → Holds file (k + 1) m p q
     still z = record { rows = h.rows ∙ sym z.finished ∙ rw (add-one k); page = page_same file k p z.events h.page }
 
-    pub on-past : f ≤ m → Holds file (k + 1) m p q
-    on-past l = still (quiet-past file d f rows told k in-run step (omega (arith, h.rows)))
+    pub on_past : f ≤ m → Holds file (k + 1) m p q
+    on_past l = still (quiet_past file d f rows told k in-run step (omega (arith, h.rows)))
 
-    pub on-other : m < f → (get_or rows (4 * m) 0 ≡ first_byte file k / 16 → ⊥) → Holds file (k + 1) m p q
-    on-other l n = still (quiet-other file d f rows told k in-run step (omega (arith, h.rows)) (λ z. n (ap (λ i. get_or rows (4 * i) 0) h.rows ∙ z)))
+    pub on_other : m < f → (get_or rows (4 * m) 0 ≡ first_byte file k / 16 → ⊥) → Holds file (k + 1) m p q
+    on_other l n = still (quiet_other file d f rows told k in-run step (omega (arith, h.rows)) (λ z. n (ap (λ i. get_or rows (4 * i) 0) h.rows ∙ z)))
 
     module _ {v : Bool} (a : v ≡ ahead file (k + 1) (d - (k + 1)) (first_byte file k / 16)) where
       there : ahead file (suc k) (d - suc k) (first_byte file k / 16) ≡ v
       there = rw (← add-one k) (sym a)
 
-      pub on-ahead : not v ≡ false → Holds file (k + 1) m p q
-      on-ahead e = still (quiet-ahead file d f rows told k in-run step (there ∙ not_off v e))
+      pub on_ahead : not v ≡ false → Holds file (k + 1) m p q
+      on_ahead e = still (quiet_ahead file d f rows told k in-run step (there ∙ not_off v e))
 
       module _ (l : m < f) (t : get_or rows (4 * m) 0 ≡ first_byte file k / 16) (e : not v ≡ true) where
         here : Ends file d f rows told k in-run step
-        here = ends-here file d f rows told k in-run step (omega (arith, h.rows)) (ap (λ i. get_or rows (4 * i) 0) (sym h.rows) ∙ t) (there ∙ not_on v e)
+        here = ends_here file d f rows told k in-run step (omega (arith, h.rows)) (ap (λ i. get_or rows (4 * i) 0) (sym h.rows) ∙ t) (there ∙ not_on v e)
 
         pub end_low : get_or rows (4 * m + 3) 0 < 255
         end_low = omega (arith, here.low, ap (λ i. get_or rows (4 * i + 3) 0) h.rows)
 
-        pub on-end : {r : Page} → r ≡ put_all q (get_or rows (4 * m) 0 ∷ get_or rows (4 * m + 1) 0 ∷ get_or rows (4 * m + 2) 0 ∷ (get_or rows (4 * m + 3) 0 + 1) ∷ []) → Holds file (k + 1) (m + 1) p r
-        on-end g = record {
+        pub on_end : {r : Page} → r ≡ put_all q (get_or rows (4 * m) 0 ∷ get_or rows (4 * m + 1) 0 ∷ get_or rows (4 * m + 2) 0 ∷ (get_or rows (4 * m + 3) 0 + 1) ∷ []) → Holds file (k + 1) (m + 1) p r
+        on_end g = record {
           rows = ap (λ i. i + 1) h.rows ∙ sym here.finished ∙ rw (add-one k);
           page = page_more file k p _ here.events h.page (rw h.rows at g);
         }

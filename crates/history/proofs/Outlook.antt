@@ -31,9 +31,9 @@ module _ (file : List ℕ) (k j t : ℕ) where
   unfolding ahead ite
   ahead_own e = rw (eq-eqb (first_byte file k / 16) t e)
 
-  pub ahead-other : first_byte file k / 16 ≢ t → ahead file k (suc j) t ≡ ahead file (suc k) j t
+  pub ahead_other : first_byte file k / 16 ≢ t → ahead file k (suc j) t ≡ ahead file (suc k) j t
   unfolding ahead ite
-  ahead-other e = rw (ne_eqb (first_byte file k / 16) t e)
+  ahead_other e = rw (ne_eqb (first_byte file k / 16) t e)
 
 pub ahead_none : (file : List ℕ) (k t : ℕ) → ahead file k 0 t ≡ false
 unfolding ahead
@@ -140,8 +140,8 @@ module _ (file : List ℕ) (one : version file ≡ 1) (n t j k : ℕ) (before : 
   one_back = elim (ℕ_discrete (first_byte file k / 16) t) [
     | yes q ↦ own q d.deed
     | no q ↦ record {
-      on = λ a. sym (d.others t q) ∙ later.on (sym (ahead-other file k j t q) ∙ a);
-      off = λ a b m lo hi. past q z.added z.next m lo hi (later.off (sym (ahead-other file k j t q) ∙ a) (d.others t q ∙ b) m);
+      on = λ a. sym (d.others t q) ∙ later.on (sym (ahead_other file k j t q) ∙ a);
+      off = λ a b m lo hi. past q z.added z.next m lo hi (later.off (sym (ahead_other file k j t q) ∙ a) (d.others t q ∙ b) m);
     }
   ]
 

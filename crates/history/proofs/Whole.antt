@@ -11,7 +11,7 @@ use Rattle.container.specs.Choice.{ite}
 use Rattle.buffer.specs.Page.{Page, page, put_all}
 use Rattle.buffer.proofs.Laws.{joined, put_fits}
 use Rattle.schedule.specs.Proper.{Plain}
-use Rattle.schedule.proofs.Laws.{plain, fault-file}
+use Rattle.schedule.proofs.Laws.{plain, fault_file}
 use Rattle.definitions.specs.Schedule.{count_of, file_refusal}
 use Rattle.definitions.specs.Versions.{row_room}
 use Rattle.definitions.specs.Merge.{fault}
@@ -19,7 +19,7 @@ use Rattle.definitions.specs.Run.{ended, overlay, run_refusal, report_of, run_re
 use Rattle.definitions.specs.Written.{bytes_of, run_events, written, written_refusal, written_report, written_buffer}
 use Rattle.definitions.specs.declared.Report.{Report}
 use Rattle.passing.proofs.RunPasses.{room_enough}
-use Rattle.run.proofs.Room.{has_room, by-none}
+use Rattle.run.proofs.Room.{has_room, by_none}
 use Rattle.history.specs.Ahead.{starts_to, Told}
 use Rattle.history.proofs.Turned.{rows_four}
 use Rattle.history.proofs.Loop.{count_all}
@@ -39,7 +39,7 @@ module _ (file : List ℕ) (room : ℕ) (z : written_refusal file room ≡ 0) wh
   no_fault = sound_file (fault file) room (3 + 4 * count_of file) 5 (λ e. omega arith) z
 
   file_sound : file_refusal file ≡ 0
-  file_sound = let p = plain file no_fault in fault-file file (omega (arith, p.whole)) p.version refl ∙ no_fault
+  file_sound = let p = plain file no_fault in fault_file file (omega (arith, p.whole)) p.version refl ∙ no_fault
 
   room_for : 3 + 4 * count_of file ≤ room
   unfolding written_refusal
@@ -48,7 +48,7 @@ module _ (file : List ℕ) (room : ℕ) (z : written_refusal file room ≡ 0) wh
   -- Run does not refuse the file with a row buffer of 8,192 bytes
   run_sound : (n : ℕ) → 2 * count_of file ≤ n → run_refusal file n ≡ 0
   unfolding run_refusal ite
-  run_sound n h = sym (by-none n (row_room file (count_of file)) 5 (sym file_sound) refl (rw (eq-eqb _ _ (plain file no_fault).version) h))
+  run_sound n h = sym (by_none n (row_room file (count_of file)) 5 (sym file_sound) refl (rw (eq-eqb _ _ (plain file no_fault).version) h))
 
 -- ---- what Run hands back
 module _ (file blank : List ℕ) (fine : run_refusal file (length blank) ≡ 0) where
@@ -84,33 +84,33 @@ module _ (file blank : List ℕ) (room : ℕ) {bad : ℕ} (e : bad ≡ written_r
 
 -- ---- the answer
 module _ (file first : List ℕ) {bad : ℕ} (e : bad ≡ written_refusal file (length first)) where
-  pub refused-report : (bad ≡ 0 → ⊥) → record { refusal = bad; length = 0 } ≡ written_report file (length first)
+  pub refused_report_lem : (bad ≡ 0 → ⊥) → record { refusal = bad; length = 0 } ≡ written_report file (length first)
   unfolding written_report ite
-  refused-report z = rw (← e, ne_eqb _ _ z)
+  refused_report_lem z = rw (← e, ne_eqb _ _ z)
 
-  pub refused-buffer : (bad ≡ 0 → ⊥) → first ≡ written_buffer file first
+  pub refused_buffer : (bad ≡ 0 → ⊥) → first ≡ written_buffer file first
   unfolding written_buffer ite
-  refused-buffer z = rw (← e, ne_eqb _ _ z)
+  refused_buffer z = rw (← e, ne_eqb _ _ z)
 
   module _ (z : bad ≡ 0) {d f : ℕ} {rows : List ℕ} (t : Told file d f rows) {s : ℕ} (c : s ≡ starts_to file d) {q r : Page}
       (h : q ≡ put_all (page first 0) (1 ∷ (s + f) / 256 ∷ (s + f) % 256 ∷ [])) (g : r ≡ put_all q (bytes_of (run_events file))) where
-    events-count : s + f ≡ length (run_events file)
-    events-count = sym (count_all file t.version (count_of file) ∙ rw (← t.done, ← t.finished, c))
+    events_count : s + f ≡ length (run_events file)
+    events_count = sym (count_all file t.version (count_of file) ∙ rw (← t.done, ← t.finished, c))
 
-    all-put : r ≡ put_all (page first 0) (written file)
+    all_put : r ≡ put_all (page first 0) (written file)
     unfolding written
-    all-put = joined (page first 0) (1 ∷ (s + f) / 256 ∷ (s + f) % 256 ∷ []) (bytes_of (run_events file)) h g ∙ rw events-count
+    all_put = joined (page first 0) (1 ∷ (s + f) / 256 ∷ (s + f) % 256 ∷ []) (bytes_of (run_events file)) h g ∙ rw events_count
 
     fits : length (written file) ≤ length first
     fits = omega (arith, room_enough (count_of file) file refl, room_for file (length first) (sym e ∙ z))
 
     stands : r ≡ page (overlay (written file) first) (length (written file))
-    stands = all-put ∙ put_fits (written file) first fits
+    stands = all_put ∙ put_fits (written file) first fits
 
-    pub ended-report : {k : ℕ} → k ≡ (ended file).refusal → record { refusal = k; length = r.at } ≡ written_report file (length first)
+    pub ended_report : {k : ℕ} → k ≡ (ended file).refusal → record { refusal = k; length = r.at } ≡ written_report file (length first)
     unfolding written_report ite
-    ended-report p = rw (← e, eq-eqb _ _ z, p, ap (λ (x : Page). x.at) stands)
+    ended_report p = rw (← e, eq-eqb _ _ z, p, ap (λ (x : Page). x.at) stands)
 
-    pub ended-buffer : r.bytes ≡ written_buffer file first
+    pub ended_buffer : r.bytes ≡ written_buffer file first
     unfolding written_buffer ite
-    ended-buffer = rw (← e, eq-eqb _ _ z) (ap (λ (x : Page). x.bytes) stands)
+    ended_buffer = rw (← e, eq-eqb _ _ z) (ap (λ (x : Page). x.bytes) stands)

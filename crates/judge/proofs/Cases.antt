@@ -17,8 +17,8 @@ use Rattle.judge.proofs.Tools.{Test, on, off, test, ◌==?◌, clash}
 
 -- ---- turn
 module _ (set s : ℕ) {r : ℕ} {v : Bool} where
-  pub turn-out : v ≡ has set s → v ≡ true → r ≡ remove set s → (x : ℕ) → has r x ≡ flip (eqb x s) (has set x)
-  turn-out e q h x = rw h (elim (x ==? s) [ yes p ↦ rw (p, eq-eqb s s refl, remove_same set s, sym e ∙ q) | no p ↦ rw (ne_eqb x s p, remove_other set s x p) ])
+  pub turn_out : v ≡ has set s → v ≡ true → r ≡ remove set s → (x : ℕ) → has r x ≡ flip (eqb x s) (has set x)
+  turn_out e q h x = rw h (elim (x ==? s) [ yes p ↦ rw (p, eq-eqb s s refl, remove_same set s, sym e ∙ q) | no p ↦ rw (ne_eqb x s p, remove_other set s x p) ])
 
   pub turn_in : s < 64 → v ≡ has set s → v ≡ false → r ≡ insert set s → (x : ℕ) → has r x ≡ flip (eqb x s) (has set x)
   turn_in l e q h x = rw h (elim (x ==? s) [ yes p ↦ rw (p, eq-eqb s s refl, insert_same set s l, sym e ∙ q) | no p ↦ rw (ne_eqb x s p, insert_other set s x p) ])
@@ -55,34 +55,34 @@ plain (suc (suc zero)) st h S = absurd (h refl)
 plain (suc (suc (suc a))) st h S = refl
 
 module _ (set a st : ℕ) (y : Bool) {v : Bool} where
-  pub so-insert-in : v ≡ has set st → a ≡ 2 → v ≡ true → Says set a st y (not y)
-  so-insert-in e i q S h = rw i (differ y (not (S st)) (ap not (sym h ∙ sym e ∙ q)))
+  pub so_insert_in : v ≡ has set st → a ≡ 2 → v ≡ true → Says set a st y (not y)
+  so_insert_in e i q S h = rw i (differ y (not (S st)) (ap not (sym h ∙ sym e ∙ q)))
 
-  pub so-insert-out : v ≡ has set st → a ≡ 2 → v ≡ false → Says set a st y y
-  so-insert-out e i q S h = rw i (agree y (not (S st)) (ap not (sym h ∙ sym e ∙ q)))
+  pub so_insert_out : v ≡ has set st → a ≡ 2 → v ≡ false → Says set a st y y
+  so_insert_out e i q S h = rw i (agree y (not (S st)) (ap not (sym h ∙ sym e ∙ q)))
 
-  pub so-in : v ≡ has set st → a ≢ 2 → v ≡ true → Says set a st y y
-  so-in e i q S h = rw (plain a st i S) (agree y (S st) (sym h ∙ sym e ∙ q))
+  pub so_in : v ≡ has set st → a ≢ 2 → v ≡ true → Says set a st y y
+  so_in e i q S h = rw (plain a st i S) (agree y (S st) (sym h ∙ sym e ∙ q))
 
-  pub so-out : v ≡ has set st → a ≢ 2 → v ≡ false → Says set a st y (not y)
-  so-out e i q S h = rw (plain a st i S) (differ y (S st) (sym h ∙ sym e ∙ q))
+  pub so_out : v ≡ has set st → a ≢ 2 → v ≡ false → Says set a st y (not y)
+  so_out e i q S h = rw (plain a st i S) (differ y (S st) (sym h ∙ sym e ∙ q))
 
 -- ---- state_of
 module _ (w : Work) (mask : ℕ) where
-  pub state-start : (x : ℕ) → has 0 x ≡ state_to (held w) mask 0 x
+  pub state_start : (x : ℕ) → has 0 x ≡ state_to (held w) mask 0 x
   unfolding state_to
-  state-start x = has_none x
+  state_start x = has_none x
 
   module _ (i set : ℕ) (so : (x : ℕ) → has set x ≡ state_to (held w) mask i x) {v : Bool} (e : v ≡ has mask i) where
-    pub state-skip : v ≡ false → (x : ℕ) → has set x ≡ state_to (held w) mask (i + 1) x
+    pub state_skip : v ≡ false → (x : ℕ) → has set x ≡ state_to (held w) mask (i + 1) x
     unfolding state_to
-    state-skip q x = rw (add-one i, sym e ∙ q) (so x)
+    state_skip q x = rw (add-one i, sym e ∙ q) (so x)
 
     module _ {u : Bool} (f : u ≡ changes (action_of (get_or w.actions i 0)) (eqb (get_or w.answers i 0) 1)) where
-      pub state-keep : v ≡ true → u ≡ false → (x : ℕ) → has set x ≡ state_to (held w) mask (i + 1) x
+      pub state_keep : v ≡ true → u ≡ false → (x : ℕ) → has set x ≡ state_to (held w) mask (i + 1) x
       unfolding state_to
-      state-keep q p x = rw (add-one i, sym e ∙ q, sym f ∙ p) (so x)
+      state_keep q p x = rw (add-one i, sym e ∙ q, sym f ∙ p) (so x)
 
-      pub state-turn : (r : ℕ) → v ≡ true → u ≡ true → ((x : ℕ) → has r x ≡ flip (eqb x (get_or w.stations i 0)) (has set x)) → (x : ℕ) → has r x ≡ state_to (held w) mask (i + 1) x
+      pub state_turn : (r : ℕ) → v ≡ true → u ≡ true → ((x : ℕ) → has r x ≡ flip (eqb x (get_or w.stations i 0)) (has set x)) → (x : ℕ) → has r x ≡ state_to (held w) mask (i + 1) x
       unfolding state_to
-      state-turn r q p h x = rw (add-one i, sym e ∙ q, sym f ∙ p) (h x ∙ ap (flip (eqb x (get_or w.stations i 0))) (so x))
+      state_turn r q p h x = rw (add-one i, sym e ∙ q, sym f ∙ p) (h x ∙ ap (flip (eqb x (get_or w.stations i 0))) (so x))

@@ -20,8 +20,8 @@ use Rattle.judge.specs.Search.{state, Fitting, Before, Rest, Best, Sound, Entry,
 use Rattle.judge.specs.Standing.{Proper}
 use Rattle.definitions.specs.declared.Judged.{Judged}
 use Rattle.judge.proofs.Tools.{Test, on, off, test, ◌==?◌, clash, and_both}
-use Rattle.judge.proofs.Rest.{head-fits, head-before, tail-rest, best-cons, first_order, no_order}
-use Rattle.judge.proofs.Table.{insert_below, insert_above, Goes, Lower, Left, choose-here, lower-none, lower-done, lower-stuck, left-none, left-done, left-some, entry-dead, entry-full}
+use Rattle.judge.proofs.Rest.{head_fits, head_before, tail_rest, best_cons, first_order, no_order}
+use Rattle.judge.proofs.Table.{insert_below, insert_above, Goes, Lower, Left, choose_here, lower_none, lower_done, lower_stuck, left_none, left_done, left_some, entry_dead, entry_full}
 use Rattle.judge.proofs.Noting.{proper_begun, proper_ended}
 use Rattle.judge.proofs.Whole.{unread_proper}
 
@@ -61,9 +61,9 @@ every f (suc n) = elim (every f n) [
 
 module _ (R : Operations) (sound : Sound R) where
   Before_or : (M i : ℕ) → i < R.count → Before R M i ⊎ (Before R M i → ⊥)
-  Before_or M i h = elim (every (λ j. not ((R.operation i).finishedBefore j) || has M j) R.count) [
-    | inl all ↦ inl (λ j e. pass ((R.operation i).finishedBefore j) (has M j) e (all j (sound.lower i j h e).0))
-    | inr x ↦ inr (λ b. fail ((R.operation i).finishedBefore x.0) (has M x.0) (b x.0) x.2)
+  Before_or M i h = elim (every (λ j. not ((R.operation i).finished_before j) || has M j) R.count) [
+    | inl all ↦ inl (λ j e. pass ((R.operation i).finished_before j) (has M j) e (all j (sound.lower i j h e).0))
+    | inr x ↦ inr (λ b. fail ((R.operation i).finished_before x.0) (has M x.0) (b x.0) x.2)
   ]
     where
       pass : (a c : Bool) → a ≡ true → not a || c ≡ true → c ≡ true
@@ -79,36 +79,36 @@ module _ (R : Operations) (sound : Sound R) where
 
   goes : (M i : ℕ) → i < R.count → has M i ≡ false → Has (insert M i) → (r : Bool) × Goes R M i r
   goes M i h out (v, e) = elim (Before_or M i h) [
-    | inr n ↦ (false, (λ q. absurd (true≢false (sym q)), λ _ l r. n (head-before R sound M i l r)))
+    | inr n ↦ (false, (λ q. absurd (true≢false (sym q)), λ _ l r. n (head_before R sound M i l r)))
     | inl b ↦ elim (Bool-discrete (R.operation i).yes (reply (action_of (R.operation i).action) (R.operation i).station (state R M))) [
-      | no n ↦ (false, (λ q. absurd (true≢false (sym q)), λ _ l r. n (head-fits R sound M i l r)))
+      | no n ↦ (false, (λ q. absurd (true≢false (sym q)), λ _ l r. n (head_fits R sound M i l r)))
       | yes f ↦ by b f e
     ]
   ]
     where
       by : Before R M i → Fitting R M i → Entry R (insert M i) v → (r : Bool) × Goes R M i r
-      by b f (dead none _) = (false, (λ q. absurd (true≢false (sym q)), λ _ l r. none l (tail-rest R sound M i l r)))
+      by b f (dead none _) = (false, (λ q. absurd (true≢false (sym q)), λ _ l r. none l (tail_rest R sound M i l r)))
       by b f (alive l best _) = (true, (λ _. (f, (b, (l, best))), λ q. absurd (true≢false q)))
 
   scan : (M : ℕ) → ((i : ℕ) → i < R.count → has M i ≡ false → Has (insert M i)) → (d i : ℕ) (left : Bool) → R.count ≤ i + d → Lower R M i → Left R M i left → Has M
-  scan M more zero i true h low lf = (0, entry-dead R M sound i true (omega arith) low lf refl)
-  scan M more zero i false h low lf = (13, entry-full R M sound i false (omega arith) lf refl)
+  scan M more zero i true h low lf = (0, entry_dead R M sound i true (omega arith) low lf refl)
+  scan M more zero i false h low lf = (13, entry_full R M sound i false (omega arith) lf refl)
   scan M more (suc d) i left h low lf = elim (dec_lt i R.count) [
     | no n ↦ scan M more d i left (omega arith) low lf
     | yes here ↦ elim (test (has M i)) [
-      | on q ↦ scan M more d (i + 1) left (omega arith) (lower-done R M sound i low refl q) (left-done R M sound i left lf refl q)
+      | on q ↦ scan M more d (i + 1) left (omega arith) (lower_done R M sound i low refl q) (left_done R M sound i left lf refl q)
       | off q ↦ next here q (goes M i here q (more i here q)) (scan M more d (i + 1) true (omega arith))
     ]
   ]
     where
       next : i < R.count → has M i ≡ false → (r : Bool) × Goes R M i r → (Lower R M (i + 1) → Left R M (i + 1) true → Has M) → Has M
-      next here q (true, g) go = (i + 1, choose-here R M sound i here q low g refl)
-      next here q (false, g) go = go (lower-stuck R M sound i low g refl) (left-some R M sound i here q)
+      next here q (true, g) go = (i + 1, choose_here R M sound i here q low g refl)
+      next here q (false, g) go = go (lower_stuck R M sound i low g refl) (left_some R M sound i here q)
 
   entry_all : (d M : ℕ) → M < 2 ^ R.count → 2 ^ R.count ≤ M + d → Has M
   entry_all zero M h l = absurd (omega arith)
   entry_all (suc d) M h l = scan M (λ i here out. entry_all d (insert M i) (insert_below M i R.count here sound.few h) (omega (arith, insert_above M i (omega (arith, sound.few, here)) out)))
-      R.count 0 false (omega arith) (lower-none R M sound) (left-none R M sound)
+      R.count 0 false (omega arith) (lower_none R M sound) (left_none R M sound)
 
 -- ---- the report
 sound_of : (R : Reading) → Proper R → R.all.count ≤ 12 → Sound R.all

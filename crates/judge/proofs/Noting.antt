@@ -38,16 +38,16 @@ module _ (w : Work) (a s done : ℕ) (tw : Twelve w) where
         | no e ↦ rw (ne_eqb i w.count e, get_or-set_other w.actions w.count i a 0 e, get_or-set_other w.stations w.count i s 0 e, get_or-set_other w.answers w.count i 0 0 e, get_or-set_other w.befores w.count i done 0 e)
       ]
 
-  pub begin-past : 12 ≤ w.count → Begins w a s done (record { count = w.count + 1; actions = w.actions; stations = w.stations; answers = w.answers; befores = w.befores })
-  begin-past h = (refl, (record { actions = tw.actions; stations = tw.stations; answers = tw.answers; befores = tw.befores }, λ i l. rw (ne_eqb i w.count (λ e. omega arith))))
+  pub begin_past : 12 ≤ w.count → Begins w a s done (record { count = w.count + 1; actions = w.actions; stations = w.stations; answers = w.answers; befores = w.befores })
+  begin_past h = (refl, (record { actions = tw.actions; stations = tw.stations; answers = tw.answers; befores = tw.befores }, λ i l. rw (ne_eqb i w.count (λ e. omega arith))))
 
 -- ---- end_op
 abbrev pub Ends : Work → ℕ → Bool → Work → Type 0
 Ends w i y r = (r.count ≡ w.count) × (Twelve r × ((j : ℕ) → j < 12 → held_op r j ≡ upd (held_op w) i (answered (held_op w i) y) j))
 
 module _ (w : Work) (i : ℕ) (y : Bool) (tw : Twelve w) where
-  pub end-in : (v : ℕ) → i < 12 → eqb v 1 ≡ y → Ends w i y (record { count = w.count; actions = w.actions; stations = w.stations; answers = set w.answers i v; befores = w.befores })
-  end-in v h q = (refl, (record { actions = tw.actions; stations = tw.stations; answers = simp length-set tw.answers; befores = tw.befores }, go))
+  pub end_in : (v : ℕ) → i < 12 → eqb v 1 ≡ y → Ends w i y (record { count = w.count; actions = w.actions; stations = w.stations; answers = set w.answers i v; befores = w.befores })
+  end_in v h q = (refl, (record { actions = tw.actions; stations = tw.stations; answers = simp length-set tw.answers; befores = tw.befores }, go))
     where
       go : (j : ℕ) → j < 12 → held_op (record { count = w.count; actions = w.actions; stations = w.stations; answers = set w.answers i v; befores = w.befores }) j ≡ upd (held_op w) i (answered (held_op w i) y) j
       go j l = elim (j ==? i) [
@@ -55,19 +55,19 @@ module _ (w : Work) (i : ℕ) (y : Bool) (tw : Twelve w) where
         | no e ↦ rw (ne_eqb j i e, get_or-set_other w.answers i j v 0 e)
       ]
 
-  pub end-past : 12 ≤ i → Ends w i y w
-  end-past h = (refl, (tw, λ j l. rw (ne_eqb j i (λ e. omega arith))))
+  pub end_past : 12 ≤ i → Ends w i y w
+  end_past h = (refl, (tw, λ j l. rw (ne_eqb j i (λ e. omega arith))))
 
 -- ---- mark_done
 module _ (done i : ℕ) (f : ℕ → Bool) (so : (j : ℕ) → has done j ≡ ltb j 12 && f j) (j : ℕ) where
-  pub mark-in : {r : ℕ} → i < 12 → r ≡ insert done i → has r j ≡ ltb j 12 && upd f i true j
-  mark-in h e = rw e (elim (j ==? i) [
+  pub mark_in : {r : ℕ} → i < 12 → r ≡ insert done i → has r j ≡ ltb j 12 && upd f i true j
+  mark_in h e = rw e (elim (j ==? i) [
     | yes q ↦ rw (q, eq-eqb i i refl, lt-ltb i 12 h) (insert_same done i (omega arith))
     | no q ↦ rw (ne_eqb j i q) (insert_other done i j q ∙ so j)
   ])
 
-  pub mark-past : 12 ≤ i → has done j ≡ ltb j 12 && upd f i true j
-  mark-past h = elim (j ==? i) [ yes q ↦ so j ∙ rw (le-ltb j 12 (omega arith)) | no q ↦ rw (ne_eqb j i q) (so j) ]
+  pub mark_past : 12 ≤ i → has done j ≡ ltb j 12 && upd f i true j
+  mark_past h = elim (j ==? i) [ yes q ↦ so j ∙ rw (le-ltb j 12 (omega arith)) | no q ↦ rw (ne_eqb j i q) (so j) ]
 
 -- ---- in_place
 start_slot : (f : ℕ → Operation) (k : Link) (a s i : ℕ) → SlotOf f k a s i → eqb a 0 ≡ not (is_open k)
@@ -83,25 +83,25 @@ module _ (t a s m : ℕ) (R : Reading) where
   other_slot Nil b st i e q = refl
   other_slot (To k) b st i (e, _) q = rw (ne_eqb a (R.all.operation k).action (λ p. q (p ∙ sym e)))
 
-  pub place-thread : 3 < t → false ≡ in_place (event t a s m) R
+  pub place_thread : 3 < t → false ≡ in_place (event t a s m) R
   unfolding in_place
-  place-thread h = rw (le-ltb t 4 (omega arith))
+  place_thread h = rw (le-ltb t 4 (omega arith))
 
   pub place_none : t ≤ 3 → a ≡ 0 → false ≡ in_place (event t a s m) R
   unfolding in_place
   place_none h e = rw (lt-ltb t 4 (omega arith), le-ltb 0 a (omega arith))
 
-  pub place-action : t ≤ 3 → a ≢ 0 → 3 < a → false ≡ in_place (event t a s m) R
+  pub place_action : t ≤ 3 → a ≢ 0 → 3 < a → false ≡ in_place (event t a s m) R
   unfolding in_place
-  place-action h e k = rw (lt-ltb t 4 (omega arith), lt-ltb 0 a (omega arith), le-ltb a 4 (omega arith))
+  place_action h e k = rw (lt-ltb t 4 (omega arith), lt-ltb 0 a (omega arith), le-ltb a 4 (omega arith))
 
-  pub place-station : t ≤ 3 → a ≢ 0 → a ≤ 3 → 63 < s → false ≡ in_place (event t a s m) R
+  pub place_station : t ≤ 3 → a ≢ 0 → a ≤ 3 → 63 < s → false ≡ in_place (event t a s m) R
   unfolding in_place
-  place-station h e k l = rw (lt-ltb t 4 (omega arith), lt-ltb 0 a (omega arith), lt-ltb a 4 (omega arith), le-ltb s 64 (omega arith))
+  place_station h e k l = rw (lt-ltb t 4 (omega arith), lt-ltb 0 a (omega arith), lt-ltb a 4 (omega arith), le-ltb s 64 (omega arith))
 
-  pub place-mark : t ≤ 3 → a ≢ 0 → a ≤ 3 → s ≤ 63 → 2 < m → false ≡ in_place (event t a s m) R
+  pub place_mark : t ≤ 3 → a ≢ 0 → a ≤ 3 → s ≤ 63 → 2 < m → false ≡ in_place (event t a s m) R
   unfolding in_place
-  place-mark h e k l p = rw (lt-ltb t 4 (omega arith), lt-ltb 0 a (omega arith), lt-ltb a 4 (omega arith), lt-ltb s 64 (omega arith), le-ltb m 3 (omega arith))
+  place_mark h e k l p = rw (lt-ltb t 4 (omega arith), lt-ltb 0 a (omega arith), lt-ltb a 4 (omega arith), lt-ltb s 64 (omega arith), le-ltb m 3 (omega arith))
 
   module _ (slots : Slots) (so : SlotsOf slots R) (h : t ≤ 3) (e : a ≢ 0) (k : a ≤ 3) (l : s ≤ 63) (p : m ≤ 2) where
     ranged : in_range (event t a s m) ≡ true
@@ -145,10 +145,10 @@ slot_frame f g (To j) a s i h (e, (d, r)) = (e ∙ (h j refl).0, (d ∙ (h j ref
 
 -- ---- start
 module _ (n : Noted) (t a s : ℕ) (R : Reading) (e : Event) (et : e.thread ≡ t) (ea : e.action ≡ a) (es : e.station ≡ s) (ls : s < 64) (la : 0 < a) (st : Stands n R) (small : t < 4) where
-  abbrev startSlots : Slots
-  startSlots = record { actions = set n.slots.actions t a; stations = set n.slots.stations t s; numbers = set n.slots.numbers t n.work.count }
+  abbrev start_slots_lem : Slots
+  start_slots_lem = record { actions = set n.slots.actions t a; stations = set n.slots.stations t s; numbers = set n.slots.numbers t n.work.count }
 
-  start_slots : SlotsOf startSlots (begun e R)
+  start_slots : SlotsOf start_slots_lem (begun e R)
   start_slots v l = rw et (elim (v ==? t) [
     | yes q ↦ rw (q, eq-eqb t t refl, eq-eqb R.all.count R.all.count refl, get_or-set_same n.slots.actions t a 0 (omega (arith, st.four.actions)), get_or-set_same n.slots.stations t s 0 (omega (arith, st.four.stations)), get_or-set_same n.slots.numbers t n.work.count 0 (omega (arith, st.four.numbers)))
         (sym ea, (sym es, (st.count, la)))
@@ -169,8 +169,8 @@ module _ (n : Noted) (t a s : ℕ) (R : Reading) (e : Event) (et : e.thread ≡ 
     | no q ↦ rw (ne_eqb i R.all.count q) (st.held i l)
   ])
 
-  pub start-stands : (work : Work) → Begins n.work a s n.done work → Stands (record { slots = startSlots; done = n.done; work = work }) (begun e R)
-  start-stands work (c, (tw, h)) = record {
+  pub start_stands : (work : Work) → Begins n.work a s n.done work → Stands (record { slots = start_slots_lem; done = n.done; work = work }) (begun e R)
+  start_stands work (c, (tw, h)) = record {
     proper = proper_begun R e (rw es ls) st.proper;
     twelve = tw;
     four = record { actions = simp length-set st.four.actions; stations = simp length-set st.four.stations; numbers = simp length-set st.four.numbers };
@@ -185,13 +185,13 @@ module _ (n : Noted) (t m : ℕ) (R : Reading) (e : Event) (k : ℕ) (et : e.thr
   pub number_is : get_or n.slots.numbers t 0 ≡ k
   number_is = let w : SlotOf R.all.operation (To k) (get_or n.slots.actions t 0) (get_or n.slots.stations t 0) (get_or n.slots.numbers t 0) = subst (λ x. SlotOf R.all.operation x (get_or n.slots.actions t 0) (get_or n.slots.stations t 0) (get_or n.slots.numbers t 0)) doing (st.slots t small) in w.1.1.0
 
-  abbrev finishSlots : Slots
-  finishSlots = record { actions = set n.slots.actions t 0; stations = n.slots.stations; numbers = n.slots.numbers }
+  abbrev finish_slots_lem : Slots
+  finish_slots_lem = record { actions = set n.slots.actions t 0; stations = n.slots.stations; numbers = n.slots.numbers }
 
   keeps_asked : (j : ℕ) → ((R.all.operation j).action ≡ ((ended_by (To k) e R).all.operation j).action) × ((R.all.operation j).station ≡ ((ended_by (To k) e R).all.operation j).station)
   keeps_asked j = elim (j ==? k) [ yes q ↦ rw (q, eq-eqb k k refl) (refl, refl) | no q ↦ rw (ne_eqb j k q) (refl, refl) ]
 
-  finish_slots : SlotsOf finishSlots (ended_by (To k) e R)
+  finish_slots : SlotsOf finish_slots_lem (ended_by (To k) e R)
   finish_slots v l = rw et (elim (v ==? t) [
     | yes q ↦ rw (q, eq-eqb t t refl) (get_or-set_same n.slots.actions t 0 0 (omega (arith, st.four.actions)))
     | no q ↦ rw (ne_eqb v t q, get_or-set_other n.slots.actions t v 0 0 q) (slot_frame R.all.operation (ended_by (To k) e R).all.operation (R.busy v) _ _ _ (λ j z. keeps_asked j) (st.slots v l))
@@ -203,10 +203,10 @@ module _ (n : Noted) (t m : ℕ) (R : Reading) (e : Event) (k : ℕ) (et : e.thr
     | no q ↦ rw (ne_eqb j k q) (st.held j l)
   ]
 
-  pub finish-stands : (work : Work) (done : ℕ) → Ends n.work (get_or n.slots.numbers t 0) (eqb m 2) work
+  pub finish_stands : (work : Work) (done : ℕ) → Ends n.work (get_or n.slots.numbers t 0) (eqb m 2) work
       → ((f : ℕ → Bool) → ((j : ℕ) → has n.done j ≡ ltb j 12 && f j) → (j : ℕ) → has done j ≡ ltb j 12 && upd f (get_or n.slots.numbers t 0) true j)
-      → Stands (record { slots = finishSlots; done = done; work = work }) (ended_by (To k) e R)
-  finish-stands work done (c, (tw, h)) d = record {
+      → Stands (record { slots = finish_slots_lem; done = done; work = work }) (ended_by (To k) e R)
+  finish_stands work done (c, (tw, h)) d = record {
     proper = proper_ended R e k (st.proper.busy t k doing) st.proper;
     twelve = tw;
     four = record { actions = simp length-set st.four.actions; stations = st.four.stations; numbers = st.four.numbers };
@@ -227,13 +227,13 @@ module _ (n : Noted) (t a s m : ℕ) (R : Reading) (r : Noted) where
       let q3 = (and_both (ltb a 4) _ q2.1).1 in
       (ltb-true s 64 (and_both (ltb s 64) (ltb m 3) q3).0, ltb-true 0 a q2.0)
 
-  pub note-start : m ≡ 0 → in_place (event t a s m) R ≡ true → (s < 64 → 0 < a → Stands r (begun (event t a s m) R)) → Stands r (noted (event t a s m) R)
+  pub note_start : m ≡ 0 → in_place (event t a s m) R ≡ true → (s < 64 → 0 < a → Stands r (begun (event t a s m) R)) → Stands r (noted (event t a s m) R)
   unfolding ite
-  note-start z p f = rw (eq-eqb m 0 z) (f (range_of p).0 (range_of p).1)
+  note_start z p f = rw (eq-eqb m 0 z) (f (range_of p).0 (range_of p).1)
 
-  pub note-finish : m ≢ 0 → in_place (event t a s m) R ≡ true → ((k : ℕ) → R.busy t ≡ To k → Stands r (ended_by (To k) (event t a s m) R)) → Stands r (noted (event t a s m) R)
+  pub note_finish : m ≢ 0 → in_place (event t a s m) R ≡ true → ((k : ℕ) → R.busy t ≡ To k → Stands r (ended_by (To k) (event t a s m) R)) → Stands r (noted (event t a s m) R)
   unfolding in_place ite
-  note-finish z p f = rw (ne_eqb m 0 z) (go (R.busy t) refl (rw (ne_eqb m 0 z) at (and_both (in_range (event t a s m)) _ p).1))
+  note_finish z p f = rw (ne_eqb m 0 z) (go (R.busy t) refl (rw (ne_eqb m 0 z) at (and_both (in_range (event t a s m)) _ p).1))
     where
       go : (k : Link) → R.busy t ≡ k → closes k (event t a s m) R ≡ true → Stands r (ended_by k (event t a s m) R)
       go Nil e q = absurd (true≢false (sym q))

@@ -61,8 +61,8 @@ module _ (R : Operations) (M i : ℕ) (small : i < 64) (out : has M i ≡ false)
   ]
 
   -- one operation more
-  pub state-more : i < R.count → Fitting R M i → settled (action_of (R.operation i).action) (R.operation i).station (state R M) ≡ state R (insert M i)
-  state-more h fit = fun_ext (λ s. turned (action_of (R.operation i).action) (R.operation i).yes (R.operation i).station (state R M) fit s ∙ sym (state_over R.count s h))
+  pub state_more : i < R.count → Fitting R M i → settled (action_of (R.operation i).action) (R.operation i).station (state R M) ≡ state R (insert M i)
+  state_more h fit = fun_ext (λ s. turned (action_of (R.operation i).action) (R.operation i).yes (R.operation i).station (state R M) fit s ∙ sym (state_over R.count s h))
 
 pub state_none : (R : Operations) → state R 0 ≡ (λ _. false)
 unfolding state_to
@@ -87,8 +87,8 @@ module _ (R : Operations) (sound : Sound R) (M : ℕ) where
   is_undone i h e = rw (lt-ltb i R.count h, e)
 
   -- ---- no operation is left
-  pub rest-nil : ((i : ℕ) → i < R.count → has M i ≡ true) → Best R M []
-  rest-nil all = record { rest = record { each = none; keeps = tt; answers = tt }; first = λ _ _. tt }
+  pub rest_nil : ((i : ℕ) → i < R.count → has M i ≡ true) → Best R M []
+  rest_nil all = record { rest = record { each = none; keeps = tt; answers = tt }; first = λ _ _. tt }
     where
       none : (i : ℕ) → 0 ≡ once (undone R M i)
       none i = elim (dec_lt i R.count) [ yes h ↦ rw (lt-ltb i R.count h, all i h) | no h ↦ rw (le-ltb i R.count (omega arith)) ]
@@ -98,36 +98,36 @@ module _ (R : Operations) (sound : Sound R) (M : ℕ) where
     at_head : (undone R M i ≡ true) × (times i l ≡ 0)
     at_head = one_of (undone R M i) (times i l) (rw (eq-eqb i i refl) at (rest.each i))
 
-    pub head-undone : (i < R.count) × (has M i ≡ false)
-    head-undone = let p = and_both (ltb i R.count) (not (has M i)) at_head.0 in (ltb-true i R.count p.0, not_is (has M i) p.1)
+    pub head_undone : (i < R.count) × (has M i ≡ false)
+    head_undone = let p = and_both (ltb i R.count) (not (has M i)) at_head.0 in (ltb-true i R.count p.0, not_is (has M i) p.1)
       where
         not_is : (b : Bool) → not b ≡ true → b ≡ false
         not_is true e = absurd (clash (cc))
         not_is false e = refl
 
     small : i < 64
-    small = omega (arith, head-undone.0, sound.few)
+    small = omega (arith, head_undone.0, sound.few)
 
     others : (j : ℕ) → j ≢ i → times j l ≡ once (undone R M j)
     others j h = rw (ne_eqb j i h) at (rest.each j)
 
-    pub head-fits : Fitting R M i
-    head-fits = rest.answers.0
+    pub head_fits : Fitting R M i
+    head_fits = rest.answers.0
 
-    pub head-before : Before R M i
-    head-before j e = elim (test (has M j)) [ on q ↦ q | off q ↦ absurd (true≢false (sym e ∙ rest.keeps.0 j (λ z. one z q))) ]
+    pub head_before : Before R M i
+    head_before j e = elim (test (has M j)) [ on q ↦ q | off q ↦ absurd (true≢false (sym e ∙ rest.keeps.0 j (λ z. one z q))) ]
       where
         lo : (j < R.count) × (j ≢ i)
-        lo = sound.lower i j head-undone.0 e
+        lo = sound.lower i j head_undone.0 e
 
         one : times j l ≡ 0 → has M j ≡ false → ⊥
         one z q = let w : times j l ≡ 1 = others j lo.1 ∙ rw (is_undone j lo.0 q) in omega arith
 
-    pub tail-rest : Rest R (insert M i) l
-    tail-rest = record { each = tail-each; keeps = rest.keeps.1; answers = subst (λ S. Answers R S l) (state-more R M i small head-undone.1 head-undone.0 head-fits) rest.answers.1 }
+    pub tail_rest : Rest R (insert M i) l
+    tail_rest = record { each = tail_each; keeps = rest.keeps.1; answers = subst (λ S. Answers R S l) (state_more R M i small head_undone.1 head_undone.0 head_fits) rest.answers.1 }
       where
-        tail-each : (j : ℕ) → times j l ≡ once (undone R (insert M i) j)
-        tail-each j = elim (j ==? i) [
+        tail_each : (j : ℕ) → times j l ≡ once (undone R (insert M i) j)
+        tail_each j = elim (j ==? i) [
           | yes e ↦ rw (e, insert_same M i small) (at_head.1 ∙ sym (gone (ltb i R.count)))
           | no e ↦ rw (insert_other M i j e) (others j e)
         ]
@@ -138,15 +138,15 @@ module _ (R : Operations) (sound : Sound R) (M : ℕ) where
 
   -- ---- an operation in front of a rest
   module _ (i : ℕ) (l : List ℕ) (here : i < R.count) (out : has M i ≡ false) (fit : Fitting R M i) (before : Before R M i) where
-    cons-small : i < 64
-    cons-small = omega (arith, here, sound.few)
+    cons_small : i < 64
+    cons_small = omega (arith, here, sound.few)
 
-    pub rest-cons : Rest R (insert M i) l → Rest R M (i ∷ l)
-    rest-cons rest = record { each = cons-each; keeps = (cons-keeps, rest.keeps); answers = (fit, subst (λ S. Answers R S l) (sym (state-more R M i cons-small out here fit)) rest.answers) }
+    pub rest_cons : Rest R (insert M i) l → Rest R M (i ∷ l)
+    rest_cons rest = record { each = cons_each; keeps = (cons_keeps, rest.keeps); answers = (fit, subst (λ S. Answers R S l) (sym (state_more R M i cons_small out here fit)) rest.answers) }
       where
-        cons-each : (j : ℕ) → times j (i ∷ l) ≡ once (undone R M j)
-        cons-each j = elim (j ==? i) [
-          | yes e ↦ rw (e, eq-eqb i i refl, is_undone i here out, rest.each i, insert_same M i cons-small) (gone (ltb i R.count))
+        cons_each : (j : ℕ) → times j (i ∷ l) ≡ once (undone R M j)
+        cons_each j = elim (j ==? i) [
+          | yes e ↦ rw (e, eq-eqb i i refl, is_undone i here out, rest.each i, insert_same M i cons_small) (gone (ltb i R.count))
           | no e ↦ rw (ne_eqb j i e, rest.each j, insert_other M i j e)
         ]
           where
@@ -154,38 +154,38 @@ module _ (R : Operations) (sound : Sound R) (M : ℕ) where
             gone true = refl
             gone false = refl
 
-        cons-keeps : (j : ℕ) → times j l ≢ 0 → (R.operation i).finishedBefore j ≡ false
-        cons-keeps j h = elim (test ((R.operation i).finishedBefore j)) [ on e ↦ absurd (bad e) | off e ↦ e ]
+        cons_keeps : (j : ℕ) → times j l ≢ 0 → (R.operation i).finished_before j ≡ false
+        cons_keeps j h = elim (test ((R.operation i).finished_before j)) [ on e ↦ absurd (bad e) | off e ↦ e ]
           where
             left : undone R (insert M i) j ≡ true
             left = some_of (undone R (insert M i) j) (λ z. h (rest.each j ∙ z))
 
-            bad : (R.operation i).finishedBefore j ≡ true → ⊥
+            bad : (R.operation i).finished_before j ≡ true → ⊥
             bad e = let q = (sound.lower i j here e).1 in
                 true≢false (sym (and_both (ltb j R.count) (not (has (insert M i) j)) left).1 ∙ ap not (insert_other M i j q ∙ before j e))
 
-    pub best-cons : ((k : ℕ) → k < i → (m : List ℕ) → Rest R M (k ∷ m) → ⊥) → Best R (insert M i) l → Best R M (i ∷ l)
-    best-cons lower best = record { rest = rest-cons best.rest; first = go }
+    pub best_cons : ((k : ℕ) → k < i → (m : List ℕ) → Rest R M (k ∷ m) → ⊥) → Best R (insert M i) l → Best R M (i ∷ l)
+    best_cons lower best = record { rest = rest_cons best.rest; first = go }
       where
         go : (m : List ℕ) → Rest R M m → First (i ∷ l) m
         go [] r = let w : ◌≡◌ {A = ℕ} 0 1 = r.each i ∙ rw (is_undone i here out) in clash w
         go (k ∷ m) r = elim (dec_lt k i) [
           | yes h ↦ absurd (lower k h m r)
-          | no h ↦ elim (k ==? i) [ yes e ↦ inr (sym e, best.first m (subst (λ x. Rest R (insert M x) m) e (tail-rest k m r))) | no e ↦ inl (omega arith) ]
+          | no h ↦ elim (k ==? i) [ yes e ↦ inr (sym e, best.first m (subst (λ x. Rest R (insert M x) m) e (tail_rest k m r))) | no e ↦ inl (omega arith) ]
         ]
 
   -- the rest of a best rest
-  pub best-tail : (i : ℕ) (l : List ℕ) → Best R M (i ∷ l) → Best R (insert M i) l
-  best-tail i l best = record { rest = tail-rest i l best.rest; first = go }
+  pub best_tail : (i : ℕ) (l : List ℕ) → Best R M (i ∷ l) → Best R (insert M i) l
+  best_tail i l best = record { rest = tail_rest i l best.rest; first = go }
     where
       go : (m : List ℕ) → Rest R (insert M i) m → First l m
-      go m r = let u = head-undone i l best.rest in
-          elim (best.first (i ∷ m) (rest-cons i m u.0 u.1 (head-fits i l best.rest) (head-before i l best.rest) r)) [ inl h ↦ absurd (omega arith) | inr p ↦ p.1 ]
+      go m r = let u = head_undone i l best.rest in
+          elim (best.first (i ∷ m) (rest_cons i m u.0 u.1 (head_fits i l best.rest) (head_before i l best.rest) r)) [ inl h ↦ absurd (omega arith) | inr p ↦ p.1 ]
 
   -- no operation can come next
-  pub rest-stuck : (i : ℕ) → i < R.count → has M i ≡ false → ((k : ℕ) → k < R.count → (m : List ℕ) → Rest R M (k ∷ m) → ⊥) → (l : List ℕ) → Rest R M l → ⊥
-  rest-stuck i here out none [] r = let w : ◌≡◌ {A = ℕ} 0 1 = r.each i ∙ rw (is_undone i here out) in clash w
-  rest-stuck i here out none (k ∷ l) r = none k (head-undone k l r).0 l r
+  pub rest_stuck : (i : ℕ) → i < R.count → has M i ≡ false → ((k : ℕ) → k < R.count → (m : List ℕ) → Rest R M (k ∷ m) → ⊥) → (l : List ℕ) → Rest R M l → ⊥
+  rest_stuck i here out none [] r = let w : ◌≡◌ {A = ℕ} 0 1 = r.each i ∙ rw (is_undone i here out) in clash w
+  rest_stuck i here out none (k ∷ l) r = none k (head_undone k l r).0 l r
 
 -- ---- the whole order
 

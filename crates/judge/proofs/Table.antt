@@ -23,7 +23,7 @@ use Rattle.definitions.specs.Judgement.{action_of, reply}
 use Rattle.judge.specs.Search.{state, Fitting, Before, Rest, Best, Sound, Down, Entry, dead, alive, next_mark, Filled, held, held_op}
 use Rattle.judge.specs.declared.Work.{Work}
 use Rattle.judge.proofs.Tools.{Test, on, off, test, ◌==?◌, clash}
-use Rattle.judge.proofs.Rest.{rest-nil, head-undone, head-fits, head-before, tail-rest, best-cons, best-tail, rest-stuck, best_one}
+use Rattle.judge.proofs.Rest.{rest_nil, head_undone, head_fits, head_before, tail_rest, best_cons, best_tail, rest_stuck, best_one}
 
 -- ---- a mask with one operation more
 
@@ -53,7 +53,7 @@ pub down_more : (R : Operations) (M i : ℕ) → i < 64 → Down R M → Before 
 down_more R M i s down before j h e k q = has_more M i k s (by (j ==? i))
   where
     by : Dec (j ≡ i) → has M k ≡ true
-    by (yes w) = before k (subst (λ x. (R.operation x).finishedBefore k ≡ true) w q)
+    by (yes w) = before k (subst (λ x. (R.operation x).finished_before k ≡ true) w q)
     by (no w) = down j h (sym (insert_other M i j w) ∙ e) k q
 
 -- ---- can_go
@@ -68,9 +68,9 @@ or_under false b h = refl
 abbrev pub Goes : Operations → ℕ → ℕ → Bool → Type 0
 Goes R M i r = (r ≡ true → Fitting R M i × (Before R M i × ((l : List ℕ) × Best R (insert M i) l))) × (r ≡ false → (l : List ℕ) → Rest R M (i ∷ l) → ⊥)
 
-module _ (R : Operations) (M i b : ℕ) (table : List ℕ) (sound : Sound R) (here : i < R.count) (out : has M i ≡ false) (low : M < 2 ^ R.count) (down : Down R M) (filled : Filled R table (suc M)) (is : (j : ℕ) → (R.operation i).finishedBefore j ≡ has b j) {u : ℕ} (e : u ≡ union b M) where
-  pub goes-late : (u ≡ M → ⊥) → Goes R M i false
-  goes-late h = (λ q. absurd (true≢false (sym q)), λ _ l r. h (e ∙ ext_all (union b M) M (λ s. has_union b M s ∙ or_under (has b s) (has M s) (λ q. head-before R sound M i l r s (is s ∙ q)))))
+module _ (R : Operations) (M i b : ℕ) (table : List ℕ) (sound : Sound R) (here : i < R.count) (out : has M i ≡ false) (low : M < 2 ^ R.count) (down : Down R M) (filled : Filled R table (suc M)) (is : (j : ℕ) → (R.operation i).finished_before j ≡ has b j) {u : ℕ} (e : u ≡ union b M) where
+  pub goes_late : (u ≡ M → ⊥) → Goes R M i false
+  goes_late h = (λ q. absurd (true≢false (sym q)), λ _ l r. h (e ∙ ext_all (union b M) M (λ s. has_union b M s ∙ or_under (has b s) (has M s) (λ q. head_before R sound M i l r s (is s ∙ q)))))
 
   before_of : u ≡ M → Before R M i
   before_of q j p = sym (ap (λ x. has x j) (sym e ∙ q)) ∙ has_union b M j ∙ or_true (has b j) (has M j) (sym (is j) ∙ p)
@@ -78,17 +78,17 @@ module _ (R : Operations) (M i b : ℕ) (table : List ℕ) (sound : Sound R) (he
   entry_of : u ≡ M → (t : ℕ) → t ≡ insert M i → Entry R (insert M i) (get_or table t 0)
   entry_of p t q = rw q (filled (insert M i) (insert_above M i (omega (arith, sound.few, here)) out) (insert_below M i R.count here sound.few low) (down_more R M i (omega (arith, sound.few, here)) down (before_of p)))
 
-  pub goes-dead : (t : ℕ) → u ≡ M → t ≡ insert M i → get_or table t 0 ≡ 0 → Goes R M i false
-  goes-dead t b' q z = (λ p. absurd (true≢false (sym p)), λ _ l r. go (entry_of b' t q) (tail-rest R sound M i l r))
+  pub goes_dead : (t : ℕ) → u ≡ M → t ≡ insert M i → get_or table t 0 ≡ 0 → Goes R M i false
+  goes_dead t b' q z = (λ p. absurd (true≢false (sym p)), λ _ l r. go (entry_of b' t q) (tail_rest R sound M i l r))
     where
       go : Entry R (insert M i) (get_or table t 0) → {l : List ℕ} → Rest R (insert M i) l → ⊥
       go (dead h _) {l} r = h l r
       go (alive [] _ v) r = let w : ◌≡◌ {A = ℕ} 0 13 = sym z ∙ v in omega arith
       go (alive (k ∷ l) _ v) r = let w : 0 ≡ suc k = sym z ∙ v in omega arith
 
-  pub goes-asked : (t : ℕ) (r : Bool) → u ≡ M → t ≡ insert M i → (get_or table t 0 ≡ 0 → ⊥)
+  pub goes_asked : (t : ℕ) (r : Bool) → u ≡ M → t ≡ insert M i → (get_or table t 0 ≡ 0 → ⊥)
       → (r ≡ true → Fitting R M i) × (r ≡ false → Fitting R M i → ⊥) → Goes R M i r
-  goes-asked t r p q z f = (λ y. (f.0 y, (before_of p, go (entry_of p t q))), λ n l s. f.1 n (head-fits R sound M i l s))
+  goes_asked t r p q z f = (λ y. (f.0 y, (before_of p, go (entry_of p t q))), λ n l s. f.1 n (head_fits R sound M i l s))
     where
       go : Entry R (insert M i) (get_or table t 0) → (l : List ℕ) × Best R (insert M i) l
       go (dead _ v) = absurd (z v)
@@ -103,32 +103,32 @@ abbrev pub Left : Operations → ℕ → ℕ → Bool → Type 0
 Left R M i left = (left ≡ true → (k : ℕ) × (k < R.count) × (has M k ≡ false)) × (left ≡ false → (k : ℕ) → k < i → has M k ≡ true)
 
 module _ (R : Operations) (M : ℕ) (sound : Sound R) where
-  pub choose-here : (i : ℕ) → i < R.count → has M i ≡ false → Lower R M i → {r : Bool} → Goes R M i r → r ≡ true → Entry R M (i + 1)
-  choose-here i here out lower g e = let (f, (b, (l, best))) = g.0 e in alive (i ∷ l) (best-cons R sound M i l here out f b lower best) (add-one i)
+  pub choose_here : (i : ℕ) → i < R.count → has M i ≡ false → Lower R M i → {r : Bool} → Goes R M i r → r ≡ true → Entry R M (i + 1)
+  choose_here i here out lower g e = let (f, (b, (l, best))) = g.0 e in alive (i ∷ l) (best_cons R sound M i l here out f b lower best) (add-one i)
 
-  pub lower-none : Lower R M 0
-  lower-none k h = absurd (omega arith)
+  pub lower_none : Lower R M 0
+  lower_none k h = absurd (omega arith)
 
-  pub lower-done : (i : ℕ) → Lower R M i → {v : Bool} → v ≡ has M i → v ≡ true → Lower R M (i + 1)
-  lower-done i lower e q k h m r = elim (k ==? i) [ yes p ↦ true≢false (sym q ∙ e ∙ ap (has M) (sym p) ∙ (head-undone R sound M k m r).1) | no p ↦ lower k (omega arith) m r ]
+  pub lower_done : (i : ℕ) → Lower R M i → {v : Bool} → v ≡ has M i → v ≡ true → Lower R M (i + 1)
+  lower_done i lower e q k h m r = elim (k ==? i) [ yes p ↦ true≢false (sym q ∙ e ∙ ap (has M) (sym p) ∙ (head_undone R sound M k m r).1) | no p ↦ lower k (omega arith) m r ]
 
-  pub lower-stuck : (i : ℕ) → Lower R M i → {r : Bool} → Goes R M i r → r ≡ false → Lower R M (i + 1)
-  lower-stuck i lower g q k h m r = elim (k ==? i) [ yes p ↦ g.1 q m (subst (λ x. Rest R M (x ∷ m)) p r) | no p ↦ lower k (omega arith) m r ]
+  pub lower_stuck : (i : ℕ) → Lower R M i → {r : Bool} → Goes R M i r → r ≡ false → Lower R M (i + 1)
+  lower_stuck i lower g q k h m r = elim (k ==? i) [ yes p ↦ g.1 q m (subst (λ x. Rest R M (x ∷ m)) p r) | no p ↦ lower k (omega arith) m r ]
 
-  pub left-none : Left R M 0 false
-  left-none = (λ q. absurd (true≢false (sym q)), λ _ k h. absurd (omega arith))
+  pub left_none : Left R M 0 false
+  left_none = (λ q. absurd (true≢false (sym q)), λ _ k h. absurd (omega arith))
 
-  pub left-done : (i : ℕ) (left : Bool) → Left R M i left → {v : Bool} → v ≡ has M i → v ≡ true → Left R M (i + 1) left
-  left-done i left l e q = (l.0, λ z k h. elim (k ==? i) [ yes p ↦ rw p (sym e ∙ q) | no p ↦ l.1 z k (omega arith) ])
+  pub left_done : (i : ℕ) (left : Bool) → Left R M i left → {v : Bool} → v ≡ has M i → v ≡ true → Left R M (i + 1) left
+  left_done i left l e q = (l.0, λ z k h. elim (k ==? i) [ yes p ↦ rw p (sym e ∙ q) | no p ↦ l.1 z k (omega arith) ])
 
-  pub left-some : (i : ℕ) → i < R.count → has M i ≡ false → Left R M (i + 1) true
-  left-some i here out = (λ _. (i, here, out), λ z. absurd (true≢false z))
+  pub left_some : (i : ℕ) → i < R.count → has M i ≡ false → Left R M (i + 1) true
+  left_some i here out = (λ _. (i, here, out), λ z. absurd (true≢false z))
 
-  pub entry-dead : (i : ℕ) (left : Bool) → R.count ≤ i → Lower R M i → Left R M i left → left ≡ true → Entry R M 0
-  entry-dead i left all lower l q = let (k, here, out) = l.0 q in dead (rest-stuck R sound M k here out (λ j h. lower j (omega arith))) refl
+  pub entry_dead : (i : ℕ) (left : Bool) → R.count ≤ i → Lower R M i → Left R M i left → left ≡ true → Entry R M 0
+  entry_dead i left all lower l q = let (k, here, out) = l.0 q in dead (rest_stuck R sound M k here out (λ j h. lower j (omega arith))) refl
 
-  pub entry-full : (i : ℕ) (left : Bool) → R.count ≤ i → Left R M i left → left ≡ false → Entry R M 13
-  entry-full i left all l q = alive [] (rest-nil R sound M (λ k h. l.1 q k (omega arith))) refl
+  pub entry_full : (i : ℕ) (left : Bool) → R.count ≤ i → Left R M i left → left ≡ false → Entry R M 13
+  entry_full i left all l q = alive [] (rest_nil R sound M (λ k h. l.1 q k (omega arith))) refl
 
 -- ---- fill
 pub fill_start : (R : Operations) (table : List ℕ) (n : ℕ) → n ≡ R.count → n ≤ 12 → ((1 * 2 ^ n) % 2 ^ 64 ≤ 2 ^ n) × Filled R table ((1 * 2 ^ n) % 2 ^ 64)
@@ -146,13 +146,13 @@ fill_skip R table m n q f M a b d = elim (M ==? m) [ yes p ↦ absurd (n q (subs
 abbrev pub DownFrom : Operations → ℕ → ℕ → Type 0
 DownFrom R M i = (j : ℕ) → i ≤ j → j < R.count → has M j ≡ true → Before R M j
 
-module _ (R : Operations) (M i b : ℕ) (is : (j : ℕ) → (R.operation i).finishedBefore j ≡ has b j) {v : Bool} (e : v ≡ has M i) where
-  pub down-skip : v ≡ false → DownFrom R M (i + 1) → DownFrom R M i
-  down-skip q d j a b h = elim (j ==? i) [ yes p ↦ absurd (true≢false (sym h ∙ ap (has M) p ∙ sym e ∙ q)) | no p ↦ d j (omega arith) b h ]
+module _ (R : Operations) (M i b : ℕ) (is : (j : ℕ) → (R.operation i).finished_before j ≡ has b j) {v : Bool} (e : v ≡ has M i) where
+  pub down_skip : v ≡ false → DownFrom R M (i + 1) → DownFrom R M i
+  down_skip q d j a b h = elim (j ==? i) [ yes p ↦ absurd (true≢false (sym h ∙ ap (has M) p ∙ sym e ∙ q)) | no p ↦ d j (omega arith) b h ]
 
   module _ {u : ℕ} (g : u ≡ union b M) where
-    pub down-keep : u ≡ M → DownFrom R M (i + 1) → DownFrom R M i
-    down-keep p d j a c h = by (j ==? i)
+    pub down_keep : u ≡ M → DownFrom R M (i + 1) → DownFrom R M i
+    down_keep p d j a c h = by (j ==? i)
       where
         mine : Before R M i
         mine k w = sym (ap (λ x. has x k) (sym g ∙ p)) ∙ has_union b M k ∙ or_true (has b k) (has M k) (sym (is k) ∙ w)
@@ -161,5 +161,5 @@ module _ (R : Operations) (M i b : ℕ) (is : (j : ℕ) → (R.operation i).fini
         by (yes w) = subst (λ x. Before R M x) (sym w) mine
         by (no w) = d j (omega arith) c h
 
-    pub down-broken : (u ≡ M → ⊥) → v ≡ true → i < R.count → Down R M → ⊥
-    down-broken n q h d = n (g ∙ ext_all (union b M) M (λ s. has_union b M s ∙ or_under (has b s) (has M s) (λ w. d i h (sym e ∙ q) s (is s ∙ w))))
+    pub down_broken : (u ≡ M → ⊥) → v ≡ true → i < R.count → Down R M → ⊥
+    down_broken n q h d = n (g ∙ ext_all (union b M) M (λ s. has_union b M s ∙ or_under (has b s) (has M s) (λ w. d i h (sym e ∙ q) s (is s ∙ w))))

@@ -11,7 +11,7 @@ use Rattle.definitions.specs.History.{Operations}
 use Rattle.definitions.specs.Judgement.{padded}
 use Rattle.judge.specs.Search.{Rest, Best, Sound, Down, Entry, dead, alive, next_mark, Filled}
 use Rattle.judge.proofs.Tools.{clash}
-use Rattle.judge.proofs.Rest.{head-undone, head-before, best-tail, best_one, to_order}
+use Rattle.judge.proofs.Rest.{head_undone, head_before, best_tail, best_one, to_order}
 use Rattle.judge.proofs.Lengths.{each_length}
 use Rattle.judge.proofs.Table.{insert_below, down_none, down_more}
 
@@ -28,8 +28,8 @@ pub record Traced (R : Operations) (M p : ℕ) (order : List ℕ) : Type 0 where
   pub total : p + length rest ≡ R.count
 
 module _ (R : Operations) (sound : Sound R) where
-  pub trace-start : (l : List ℕ) → Best R 0 l → Traced R 0 0 (replicate 12 0)
-  trace-start l b = record {
+  pub trace_start : (l : List ℕ) → Best R 0 l → Traced R 0 0 (replicate 12 0)
+  trace_start l b = record {
     done = [];
     rest = l;
     best = b;
@@ -57,17 +57,17 @@ module _ (R : Operations) (sound : Sound R) where
     now : Said M (get_or table M 0) t.rest
     now = said M (get_or table M 0) t.rest (omega (arith, t.total)) t.best (filled M (omega arith) t.low t.down)
 
-    best-now : Best R M (now.next ∷ now.then)
-    best-now = subst (λ l. Best R M l) now.is t.best
+    best_now : Best R M (now.next ∷ now.then)
+    best_now = subst (λ l. Best R M l) now.is t.best
 
-    pub trace-some : 1 ≤ get_or table M 0
-    trace-some = omega (arith, now.mark)
+    pub trace_some : 1 ≤ get_or table M 0
+    trace_some = omega (arith, now.mark)
 
-    pub trace-low : get_or table M 0 - 1 < R.count
-    trace-low = omega (arith, now.mark, (head-undone R sound M now.next now.then best-now.rest).0)
+    pub trace_low : get_or table M 0 - 1 < R.count
+    trace_low = omega (arith, now.mark, (head_undone R sound M now.next now.then best_now.rest).0)
 
-    is-next : get_or table M 0 - 1 ≡ now.next
-    is-next = omega (arith, now.mark)
+    is_next : get_or table M 0 - 1 ≡ now.next
+    is_next = omega (arith, now.mark)
 
     room : 12 - p ≡ suc (12 - (p + 1))
     room = omega (arith, sound.few)
@@ -75,21 +75,21 @@ module _ (R : Operations) (sound : Sound R) where
     cell : order ≡ t.done ++ 0 ∷ replicate (12 - (p + 1)) 0
     cell = t.holds ∙ rw room
 
-    pub trace-step : (N : ℕ) → N ≡ insert M (get_or table M 0 - 1) → Traced R N (p + 1) (set order p (get_or table M 0 - 1))
-    trace-step N e = rw (e, is-next) (record {
+    pub trace_step : (N : ℕ) → N ≡ insert M (get_or table M 0 - 1) → Traced R N (p + 1) (set order p (get_or table M 0 - 1))
+    trace_step N e = rw (e, is_next) (record {
       done = t.done ++ now.next ∷ [];
       rest = now.then;
-      best = best-tail R sound M now.next now.then best-now;
-      low = insert_below M now.next R.count (head-undone R sound M now.next now.then best-now.rest).0 sound.few t.low;
-      down = down_more R M now.next (omega (arith, sound.few, (head-undone R sound M now.next now.then best-now.rest).0)) t.down (head-before R sound M now.next now.then best-now.rest);
+      best = best_tail R sound M now.next now.then best_now;
+      low = insert_below M now.next R.count (head_undone R sound M now.next now.then best_now.rest).0 sound.few t.low;
+      down = down_more R M now.next (omega (arith, sound.few, (head_undone R sound M now.next now.then best_now.rest).0)) t.down (head_before R sound M now.next now.then best_now.rest);
       placed = length-append t.done (now.next ∷ []) ∙ (omega (arith, t.placed));
       holds = ap (λ l. set l p now.next) cell ∙ set_at t.done 0 (replicate (12 - (p + 1)) 0) now.next p t.placed ∙ sym (append_assoc t.done (now.next ∷ []) (replicate (12 - (p + 1)) 0));
       whole = λ l b. t.whole l b ∙ ap (λ m. t.done ++ m) now.is ∙ sym (append_assoc t.done (now.next ∷ []) now.then);
       total = omega (arith, t.total, ap length now.is);
     })
 
-  pub trace-end : (M p : ℕ) (order : List ℕ) → Traced R M p order → R.count ≤ p → (l : List ℕ) → Best R 0 l → order ≡ padded l
-  trace-end M p order t h l b = t.holds ∙ go t.rest (omega (arith, t.total)) (t.whole l b)
+  pub trace_end : (M p : ℕ) (order : List ℕ) → Traced R M p order → R.count ≤ p → (l : List ℕ) → Best R 0 l → order ≡ padded l
+  trace_end M p order t h l b = t.holds ∙ go t.rest (omega (arith, t.total)) (t.whole l b)
     where
       go : (rest : List ℕ) → length rest ≡ 0 → l ≡ t.done ++ rest → t.done ++ replicate (12 - p) 0 ≡ padded l
       go [] _ e = let q : l ≡ t.done = e ∙ append-nil t.done in rw (q, t.placed)

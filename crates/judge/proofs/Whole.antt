@@ -45,7 +45,7 @@ zeros (suc n) zero = refl
 zeros (suc n) (suc i) = zeros n i
 
 blank_op : (i : ℕ) → held_op (record { count = 0; actions = replicate 12 0; stations = replicate 12 0; answers = replicate 12 0; befores = replicate 12 0 }) i ≡ no_operation
-blank_op i = rw (zeros 12 i) (ap (λ f. record { action = 0; station = 0; yes = false; finishedBefore = f }) (fun_ext (λ j. has_none j)))
+blank_op i = rw (zeros 12 i) (ap (λ f. record { action = 0; station = 0; yes = false; finished_before = f }) (fun_ext (λ j. has_none j)))
 
 pub unread_stands : Stands (record { slots = record { actions = replicate 4 0; stations = replicate 4 0; numbers = replicate 4 0 }; done = 0; work = record { count = 0; actions = replicate 12 0; stations = replicate 12 0; answers = replicate 12 0; befores = replicate 12 0 } }) unread
 unread_stands = record {
@@ -110,37 +110,37 @@ module _ (slots : Slots) (R : Reading) (so : SlotsOf slots R) where
   no_at : (t : ℕ) → t < 4 → get_or slots.actions t 0 ≡ 0 → is_open (R.busy t) ≡ false
   no_at t h e = open_is t h ∙ rw (eq-eqb (get_or slots.actions t 0) 0 e)
 
-  pub open-first : get_or slots.actions 0 0 ≢ 0 → true ≡ unfinished R
+  pub open_first : get_or slots.actions 0 0 ≢ 0 → true ≡ unfinished R
   unfolding unfinished
-  open-first a = rw (yes_at 0 (omega arith) a)
+  open_first a = rw (yes_at 0 (omega arith) a)
 
   module _ (a : get_or slots.actions 0 0 ≡ 0) where
-    pub open-second : get_or slots.actions 1 0 ≢ 0 → true ≡ unfinished R
+    pub open_second : get_or slots.actions 1 0 ≢ 0 → true ≡ unfinished R
     unfolding unfinished
-    open-second b = rw (no_at 0 (omega arith) a, yes_at 1 (omega arith) b)
+    open_second b = rw (no_at 0 (omega arith) a, yes_at 1 (omega arith) b)
 
     module _ (b : get_or slots.actions 1 0 ≡ 0) where
-      pub open-third : get_or slots.actions 2 0 ≢ 0 → true ≡ unfinished R
+      pub open_third : get_or slots.actions 2 0 ≢ 0 → true ≡ unfinished R
       unfolding unfinished
-      open-third d = rw (no_at 0 (omega arith) a, no_at 1 (omega arith) b, yes_at 2 (omega arith) d)
+      open_third d = rw (no_at 0 (omega arith) a, no_at 1 (omega arith) b, yes_at 2 (omega arith) d)
 
-      pub open-last : get_or slots.actions 2 0 ≡ 0 → not (eqb (get_or slots.actions 3 0) 0) ≡ unfinished R
+      pub open_last : get_or slots.actions 2 0 ≡ 0 → not (eqb (get_or slots.actions 3 0) 0) ≡ unfinished R
       unfolding unfinished
-      open-last d = rw (no_at 0 (omega arith) a, no_at 1 (omega arith) b, no_at 2 (omega arith) d) (sym (open_is 3 (omega arith)))
+      open_last d = rw (no_at 0 (omega arith) a, no_at 1 (omega arith) b, no_at 2 (omega arith) d) (sym (open_is 3 (omega arith)))
 
 -- ---- the form
 module _ (file : List ℕ) where
-  pub form-short : length file < 3 → 1 ≡ form_refusal file
+  pub form_short : length file < 3 → 1 ≡ form_refusal file
   unfolding form_refusal ite
-  form-short h = simp (lt-ltb _ _ h)
+  form_short h = simp (lt-ltb _ _ h)
 
-  pub form-version : 3 ≤ length file → get_or file 0 0 ≢ 1 → 2 ≡ form_refusal file
+  pub form_version : 3 ≤ length file → get_or file 0 0 ≢ 1 → 2 ≡ form_refusal file
   unfolding form_refusal ite
-  form-version h k = simp (le-ltb _ _ h, ne_eqb _ _ k)
+  form_version h k = simp (le-ltb _ _ h, ne_eqb _ _ k)
 
-  pub form-length : 3 ≤ length file → get_or file 0 0 ≡ 1 → (length file ≡ 3 + 4 * count_of file → ⊥) → 4 ≡ form_refusal file
+  pub form_length : 3 ≤ length file → get_or file 0 0 ≡ 1 → (length file ≡ 3 + 4 * count_of file → ⊥) → 4 ≡ form_refusal file
   unfolding form_refusal ite
-  form-length h k m = simp (le-ltb _ _ h, eq-eqb _ _ k, ne_eqb _ _ m)
+  form_length h k m = simp (le-ltb _ _ h, eq-eqb _ _ k, ne_eqb _ _ m)
 
   pub form_right : 3 ≤ length file → get_or file 0 0 ≡ 1 → length file ≡ 3 + 4 * count_of file → 0 ≡ form_refusal file
   unfolding form_refusal ite
@@ -151,16 +151,16 @@ module _ (R : Operations) (table : List ℕ) (filled : Filled R table 0) where
   entry : Entry R 0 (get_or table 0 0)
   entry = filled 0 (omega arith) (pow_pos R.count) (down_none R)
 
-  pub decide-no : get_or table 0 0 ≡ 0 → (l : List ℕ) → Order R l → ⊥
-  decide-no z = no_order R (go entry)
+  pub decide_no : get_or table 0 0 ≡ 0 → (l : List ℕ) → Order R l → ⊥
+  decide_no z = no_order R (go entry)
     where
       go : Entry R 0 (get_or table 0 0) → (l : List ℕ) → Rest R 0 l → ⊥
       go (dead h _) = h
       go (alive [] _ v) = let w : ◌≡◌ {A = ℕ} 0 13 = sym z ∙ v in absurd (omega arith)
       go (alive (k ∷ l) _ v) = let w : 0 ≡ suc k = sym z ∙ v in absurd (omega arith)
 
-  pub decide-yes : get_or table 0 0 ≢ 0 → (l : List ℕ) × Best R 0 l
-  decide-yes z = go entry
+  pub decide_yes : get_or table 0 0 ≢ 0 → (l : List ℕ) × Best R 0 l
+  decide_yes z = go entry
     where
       go : Entry R 0 (get_or table 0 0) → (l : List ℕ) × Best R 0 l
       go (dead _ v) = absurd (z v)
@@ -172,17 +172,17 @@ module _ (n : Noted) (R : Reading) (st : Stands n R) (few : R.all.count ≤ 12) 
   same_op i = elim (dec_lt i 12) [
     | yes h ↦ st.held i h
     | no h ↦ rw (get_or-eq_default n.work.actions 0 {n = i} (omega (arith, st.twelve.actions)), get_or-eq_default n.work.stations 0 {n = i} (omega (arith, st.twelve.stations)), get_or-eq_default n.work.answers 0 {n = i} (omega (arith, st.twelve.answers)), get_or-eq_default n.work.befores 0 {n = i} (omega (arith, st.twelve.befores)))
-        (ap (λ f. record { action = 0; station = 0; yes = false; finishedBefore = f }) (fun_ext (λ j. has_none j)) ∙ sym (st.proper.blank i (omega arith)))
+        (ap (λ f. record { action = 0; station = 0; yes = false; finished_before = f }) (fun_ext (λ j. has_none j)) ∙ sym (st.proper.blank i (omega arith)))
   ]
 
-  pub same-ops : held n.work ≡ R.all
-  same-ops = ap (λ f. operations n.work.count f) (fun_ext same_op) ∙ ap (λ c. operations c R.all.operation) st.count
+  pub same_ops : held n.work ≡ R.all
+  same_ops = ap (λ f. operations n.work.count f) (fun_ext same_op) ∙ ap (λ c. operations c R.all.operation) st.count
 
   pub all_sound : Sound (held n.work)
-  all_sound = subst (λ x. Sound x) (sym same-ops) (record { few = few; lower = λ i j h q. (omega (arith, st.proper.lower i j q), λ e. omega (arith, st.proper.lower i j q)) })
+  all_sound = subst (λ x. Sound x) (sym same_ops) (record { few = few; lower = λ i j h q. (omega (arith, st.proper.lower i j q), λ e. omega (arith, st.proper.lower i j q)) })
 
-  pub all-stations : Stations (held n.work)
-  all-stations = subst (λ x. Stations x) (sym same-ops) (λ i h. st.proper.stations i)
+  pub all_stations : Stations (held n.work)
+  all_stations = subst (λ x. Stations x) (sym same_ops) (λ i h. st.proper.stations i)
 
 -- ---- the report
 refused_by_lem : (k : ℕ) (file : List ℕ) (r : Judged) → k ≢ 0 → Refused k r → JudgementBy k file r
@@ -190,25 +190,25 @@ refused_by_lem zero file r h x = absurd (h refl)
 refused_by_lem (suc k) file r h x = x
 
 module _ (file : List ℕ) (r : Judged) where
-  pub report-form : {k : ℕ} → k ≡ form_refusal file → k ≢ 0 → Refused k r → Judgement file r
+  pub report_form : {k : ℕ} → k ≡ form_refusal file → k ≢ 0 → Refused k r → Judgement file r
   unfolding history_refusal ite
-  report-form e h x = rw (ne_eqb (form_refusal file) 0 (λ z. h (e ∙ z))) (subst (λ k. JudgementBy k file r) e (refused_by_lem _ file r h x))
+  report_form e h x = rw (ne_eqb (form_refusal file) 0 (λ z. h (e ∙ z))) (subst (λ k. JudgementBy k file r) e (refused_by_lem _ file r h x))
 
   module _ {k n : ℕ} (e : k ≡ form_refusal file) (z : k ≡ 0) (c : n ≡ count_of file) where
-    pub report-place : {v : Bool} → v ≡ all_in_place (events_of file) n → v ≡ false → Refused 21 r → Judgement file r
+    pub report_place : {v : Bool} → v ≡ all_in_place (events_of file) n → v ≡ false → Refused 21 r → Judgement file r
     unfolding history_refusal events_refusal ite
-    report-place p q x = rw (eq-eqb (form_refusal file) 0 (sym e ∙ z), ← c, sym p ∙ q) x
+    report_place p q x = rw (eq-eqb (form_refusal file) 0 (sym e ∙ z), ← c, sym p ∙ q) x
 
     module _ {v : Bool} (p : v ≡ all_in_place (events_of file) n) (q : v ≡ true) where
-      pub report-many : 12 < (reading (events_of file) n).all.count → Refused 22 r → Judgement file r
+      pub report_many : 12 < (reading (events_of file) n).all.count → Refused 22 r → Judgement file r
       unfolding history_refusal events_refusal ite
-      report-many h x = rw (eq-eqb (form_refusal file) 0 (sym e ∙ z), ← c, sym p ∙ q, lt-ltb 12 (reading (events_of file) n).all.count h) x
+      report_many h x = rw (eq-eqb (form_refusal file) 0 (sym e ∙ z), ← c, sym p ∙ q, lt-ltb 12 (reading (events_of file) n).all.count h) x
 
       module _ (few : (reading (events_of file) n).all.count ≤ 12) {u : Bool} (o : u ≡ unfinished (reading (events_of file) n)) where
-        pub report-open : u ≡ true → Refused 23 r → Judgement file r
+        pub report_open : u ≡ true → Refused 23 r → Judgement file r
         unfolding history_refusal events_refusal ite
-        report-open t x = rw (eq-eqb (form_refusal file) 0 (sym e ∙ z), ← c, sym p ∙ q, le-ltb 12 (reading (events_of file) n).all.count few, sym o ∙ t) x
+        report_open t x = rw (eq-eqb (form_refusal file) 0 (sym e ∙ z), ← c, sym p ∙ q, le-ltb 12 (reading (events_of file) n).all.count few, sym o ∙ t) x
 
-        pub report-decided : u ≡ false → Decided (reading (events_of file) n).all r → Judgement file r
+        pub report_decided : u ≡ false → Decided (reading (events_of file) n).all r → Judgement file r
         unfolding history_refusal events_refusal ite
-        report-decided t x = rw (eq-eqb (form_refusal file) 0 (sym e ∙ z), ← c, sym p ∙ q, le-ltb 12 (reading (events_of file) n).all.count few, sym o ∙ t) (subst (λ j. Decided (reading (events_of file) j).all r) c x)
+        report_decided t x = rw (eq-eqb (form_refusal file) 0 (sym e ∙ z), ← c, sym p ∙ q, le-ltb 12 (reading (events_of file) n).all.count few, sym o ∙ t) (subst (λ j. Decided (reading (events_of file) j).all r) c x)

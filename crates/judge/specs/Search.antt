@@ -41,7 +41,7 @@ Fitting R M i = (R.operation i).yes ≡ reply (action_of (R.operation i).action)
 
 -- all that had finished when i started is done
 abbrev pub Before : Operations → ℕ → ℕ → Type 0
-Before R M i = (j : ℕ) → (R.operation i).finishedBefore j ≡ true → has M j ≡ true
+Before R M i = (j : ℕ) → (R.operation i).finished_before j ≡ true → has M j ≡ true
 
 abbrev pub undone : Operations → ℕ → ℕ → Bool
 undone R M i = ltb i R.count && not (has M i)
@@ -58,7 +58,7 @@ pub record Best (R : Operations) (M : ℕ) (l : List ℕ) : Type 0 where
 -- at most twelve operations, each started after those that finished before it
 pub record Sound (R : Operations) : Type 0 where
   pub few : R.count ≤ 12
-  pub lower : (i j : ℕ) → i < R.count → (R.operation i).finishedBefore j ≡ true → (j < R.count) × (j ≢ i)
+  pub lower : (i j : ℕ) → i < R.count → (R.operation i).finished_before j ≡ true → (j < R.count) × (j ≢ i)
 
 -- ---- the table: for each mask the next operation and 1, 13 where none is left, 0 where there is no rest
 
@@ -85,7 +85,7 @@ held_op w i = record {
   action = get_or w.actions i 0;
   station = get_or w.stations i 0;
   yes = eqb (get_or w.answers i 0) 1;
-  finishedBefore = has (get_or w.befores i 0);
+  finished_before = has (get_or w.befores i 0);
 }
 
 abbrev pub held : Work → Operations
@@ -97,4 +97,4 @@ Stations R = (i : ℕ) → i < R.count → (R.operation i).station < 64
 
 -- an operation that has just started; done: a mask of those finished
 abbrev pub asking : ℕ → ℕ → ℕ → Operation
-asking a s done = record { action = a; station = s; yes = false; finishedBefore = has done }
+asking a s done = record { action = a; station = s; yes = false; finished_before = has done }

@@ -36,7 +36,7 @@ SlotsOf s R = (t : ℕ) → t < 4 → SlotOf R.all.operation (R.busy t) (get_or 
 pub record Proper (R : Reading) : Type 0 where
   pub blank : (i : ℕ) → R.all.count ≤ i → R.all.operation i ≡ no_operation
   pub begun : (j : ℕ) → R.finished j ≡ true → j < R.all.count
-  pub lower : (i j : ℕ) → (R.all.operation i).finishedBefore j ≡ true → j < i
+  pub lower : (i j : ℕ) → (R.all.operation i).finished_before j ≡ true → j < i
   pub stations : (i : ℕ) → (R.all.operation i).station < 64
   pub busy : (t k : ℕ) → R.busy t ≡ To k → k < R.all.count
 

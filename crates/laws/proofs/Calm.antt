@@ -28,8 +28,8 @@ use Rattle.definitions.specs.Plain.{Plain, empty}
 use Rattle.answers.specs.Reachable.{Reached}
 use Rattle.answers.proofs.Tools.{clash}
 use Rattle.answers.proofs.Memory.{World, Hist, Live, lives, kind_of, IsBase, Mem, Phase, before, swung, cut, alive, Pending}
-use Rattle.answers.proofs.Descent.{reached-depth}
-use Rattle.answers.proofs.ReadPlaces.{know-now}
+use Rattle.answers.proofs.Descent.{reached_depth}
+use Rattle.answers.proofs.ReadPlaces.{know_now}
 use Rattle.answers.proofs.Owners.{Bears}
 use Rattle.laws.specs.Jobs.{Reachable, begins, past, AllIdle}
 use Rattle.laws.specs.Laws.{RunsReach, NoneWaits}
@@ -148,15 +148,15 @@ module _ {w : World} {hist : Hist} (mem : Mem w hist) (none : (x : ℕ) → Need
     below : (r : ℕ) (f : Bool) → w.up x ≡ To r → kid_of f (shape (w.nodes r)) ≡ x → Above x
 
   above : (d x lo hi : ℕ) → Reached w.nodes w.root d x lo hi → Live w x × Above x
-  above d x lo hi (Reached.top p q i j) = (rw q mem.shape.root_live, top (ap (λ v. w.up v) q ∙ mem.shape.root-up) (sym q))
+  above d x lo hi (Reached.top p q i j) = (rw q mem.shape.root_live, top (ap (λ v. w.up v) q ∙ mem.shape.root_up) (sym q))
   above d x lo hi (Reached.step e r l h f c k p q i j) = let a = (above e r l h c).0 in
-      (rw q (mem.routes.live-kid r f k a), below r f (ap (λ v. w.up v) q ∙ mem.routes.live_up r f k a) (sym q))
+      (rw q (mem.routes.live_kid r f k a), below r f (ap (λ v. w.up v) q ∙ mem.routes.live_up r f k a) (sym q))
 
 -- the world of a bench
 calm_of : (s : Store) (w : World) (hist : Hist) → w.nodes ≡ s.nodes → w.root ≡ s.root → w.stores ≡ s.stores → Mem w hist → ((x : ℕ) → Needs w.nodes x → ⊥)
     → ((S : ℕ) → S < w.shown → w.stores S ≡ Unset → ⊥) → Calm s
 calm_of s w hist e i o mem none set = record {
-  depth = λ d x lo hi c. reached-depth mem d x lo hi (rw (e, i) c);
+  depth = λ d x lo hi c. reached_depth mem d x lo hi (rw (e, i) c);
   free = λ d x lo hi c h. rw (← e, ← o) (live_free mem none set x (λ z. h (ap (λ v. (v x).kind) (sym e) ∙ z)) (above mem none set d x lo hi (rw (e, i) c)).0);
   hangs = λ d x lo hi c h. let a = above mem none set d x lo hi (rw (e, i) c) in go x (live_up mem none set x (λ z. h (ap (λ v. (v x).kind) (sym e) ∙ z)) a.0) a.1;
 }
@@ -172,7 +172,7 @@ idle_place b s h t = elim (s.low t) [ inl l ↦ eqb-true _ _ (h t l) | inr e ↦
 
 -- an idle thread has no frames
 idle_frames : (b : Bench) (P : Plain) (k : Kept b P) (t : ℕ) → (b.threads t).place ≡ 0 → (b.threads t).frames ≡ []
-idle_frames b P k t e = (know-now (kept_inv k) t nowhere (ap place_of e)).1
+idle_frames b P k t e = (know_now (kept_inv k) t nowhere (ap place_of e)).1
 
 -- an unset store has a query that owns it
 all_set : (b : Bench) → Known b → AllIdle b → (S : ℕ) → S < b.store.shown → b.store.stores S ≡ Unset → ⊥

@@ -138,13 +138,13 @@ module _ (s : Store) (calm : Calm s) (th : Thread) (upd : Updating th.action) (f
   reads_left n (To p) e (first i j) h = absurd (clash (cc))
   reads_left n (To p) e (under r f i j) h = go (eqb (s.nodes p).left th.base) refl
     where
-      on-right : (f : Bool) → (s.nodes p).left ≢ th.base → kid_of f (shape (s.nodes p)) ≡ th.base → (s.nodes p).right ≡ th.base
-      on-right true o k = absurd (o k)
-      on-right false o k = k
+      on_right : (f : Bool) → (s.nodes p).left ≢ th.base → kid_of f (shape (s.nodes p)) ≡ th.base → (s.nodes p).right ≡ th.base
+      on_right true o k = absurd (o k)
+      on_right false o k = k
 
       go : (c : Bool) → eqb (s.nodes p).left th.base ≡ c → SoloTurn s n (own_by (ite c (Next SwapLeft) (Next ReadRight)) ((sight_of s).nodes th.base) s.used th)
       go true c = (s.stop.count, refl, upd, at11 p refl (sym e) (eqb-true _ _ c) (omega arith))
-      go false c = (s.stop.count, refl, upd, at12 p refl (sym e) (on-right f (eqb-false _ _ c) (ap (λ v. kid_of f (shape (s.nodes v))) (same_link _ e i) ∙ j)) h)
+      go false c = (s.stop.count, refl, upd, at12 p refl (sym e) (on_right f (eqb-false _ _ c) (ap (λ v. kid_of f (shape (s.nodes v))) (same_link _ e i) ∙ j)) h)
 
   swaps_left : (n p : ℕ) (l : Link) → l ≡ To p → (s.nodes p).left ≡ th.base
       → SoloTurn s n (own_by (probe SwapLeft l (sight_of s).nodes s.root th.base) ((sight_of s).nodes th.base) s.used th)
@@ -196,12 +196,12 @@ module _ (s : Store) (calm : Calm s) (th : Thread) (upd : Updating th.action) (f
   unfolding followed
   counted n d lo hi o c k f l false e = absurd (false≢true (sym e ∙ o))
   counted n d lo hi o c k f l true e = let (a, h, z) = deeper d lo hi c k in let r = reads_is o in
-      either n _ _ _ (λ i. absurd (under-8 th'.read reads th.read r (omega (arith, ltb-true th'.read 8 i)) f (few_read th.read)))
-      (λ i. either n _ _ _ (λ j. absurd (under-8 th'.read reads th.read r (omega (arith, eqb-true th'.read 8 j)) f (few_read th.read)))
+      either n _ _ _ (λ i. absurd (under_8 th'.read reads th.read r (omega (arith, ltb-true th'.read 8 i)) f (few_read th.read)))
+      (λ i. either n _ _ _ (λ j. absurd (under_8 th'.read reads th.read r (omega (arith, eqb-true th'.read 8 j)) f (few_read th.read)))
       (λ _. passes n Quiet s.stop.count (suc d) child a h refl o z (omega arith) (omega (arith, calm.depth _ _ _ _ z)) s.stop.on reads (omega (arith, ltb-false th'.read 8 i))))
     where
-      under-8 : (m k q : ℕ) → m ≡ k → m ≤ 8 → 7 < q → (k ≤ 8 → q ≤ 7) → ⊥
-      under-8 m k q a b d g = let h = g (omega (arith, a, b)) in omega (arith, h, d)
+      under_8 : (m k q : ℕ) → m ≡ k → m ≤ 8 → 7 < q → (k ≤ 8 → q ≤ 7) → ⊥
+      under_8 m k q a b d g = let h = g (omega (arith, a, b)) in omega (arith, h, d)
 
   -- ---- every place
 

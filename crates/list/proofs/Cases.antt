@@ -25,7 +25,7 @@ use Rattle.listing.specs.Texts.{headed}
 use Rattle.listing.proofs.Texts.{written}
 use Rattle.run.specs.Standing.{Carried}
 use Rattle.run.specs.declared.Standing.{Standing}
-use Rattle.run.proofs.Room.{by-file, by_room, by-none, has_room}
+use Rattle.run.proofs.Room.{by_file, by_room, by_none, has_room}
 
 -- ---- the room that version v asks for
 
@@ -39,18 +39,18 @@ room_wide v e = rw (ne_eqb _ _ e)
 
 -- ---- the refusal of a file and a text buffer
 module _ (file : List ℕ) (room : ℕ) {bad : ℕ} (e : bad ≡ file_refusal file) where
-  pub refusal-file : (bad ≡ 0 → ⊥) → bad ≡ list_refusal file room
+  pub refusal_file : (bad ≡ 0 → ⊥) → bad ≡ list_refusal file room
   unfolding list_refusal
-  refusal-file z = by-file room _ 6 e z
+  refusal_file z = by_file room _ 6 e z
 
   module _ {needed : ℕ} (z : bad ≡ 0) (q : needed ≡ text_room file) where
-    pub refusal-room : room < needed → 6 ≡ list_refusal file room
+    pub refusal_room : room < needed → 6 ≡ list_refusal file room
     unfolding list_refusal
-    refusal-room l = by_room room _ 6 e z (rw q at l)
+    refusal_room l = by_room room _ 6 e z (rw q at l)
 
     pub refusal_none : needed ≤ room → 0 ≡ list_refusal file room
     unfolding list_refusal
-    refusal_none l = by-none room _ 6 e z (rw q at l)
+    refusal_none l = by_none room _ 6 e z (rw q at l)
 
 -- a buffer that is not refused has 4,096 bytes, which hold every text (answers/proofs/Reach.antt); version 2 asks for more than it needs
 pub has_text_room : (file : List ℕ) (room : ℕ) {bad : ℕ} → bad ≡ list_refusal file room → bad ≡ 0 → 4096 ≤ room
@@ -71,26 +71,26 @@ module _ (file text : List ℕ) {t : Shapes} {l : List ℕ} {k : Stores} {s : St
       let root = ap (λ (b : Bench). b.store.root) h.bench in
       w ∙ rw (written file v t (rows l) h.deep s.root (ended file).bench i (λ n. h.depths (whole n)) nodes root) (put_fits _ text (omega (arith, reach_fits file (count_of file))))
 
-  pub ended-report : record { refusal = s.refusal; length = at } ≡ listed_at file (ended file)
-  ended-report = rw (h.refusal, ap (λ (p : Page). p.at) text_at)
+  pub ended_report : record { refusal = s.refusal; length = at } ≡ listed_at file (ended file)
+  ended_report = rw (h.refusal, ap (λ (p : Page). p.at) text_at)
 
-  pub ended-text : text' ≡ overlay (listing file (ended file).bench) text
-  ended-text = ap (λ (p : Page). p.bytes) text_at
+  pub ended_text : text' ≡ overlay (listing file (ended file).bench) text
+  ended_text = ap (λ (p : Page). p.bytes) text_at
 
 -- ---- the answer
 module _ (file text : List ℕ) {bad : ℕ} (e : bad ≡ list_refusal file (length text)) where
-  pub refused-report : (bad ≡ 0 → ⊥) → record { refusal = bad; length = 0 } ≡ list_report file (length text)
+  pub refused_report_lem : (bad ≡ 0 → ⊥) → record { refusal = bad; length = 0 } ≡ list_report file (length text)
   unfolding list_report ite
-  refused-report z = rw (← e, ne_eqb _ _ z)
+  refused_report_lem z = rw (← e, ne_eqb _ _ z)
 
-  pub refused-buffer : (bad ≡ 0 → ⊥) → text ≡ list_buffer file text
+  pub refused_buffer : (bad ≡ 0 → ⊥) → text ≡ list_buffer file text
   unfolding list_buffer ite
-  refused-buffer z = rw (← e, ne_eqb _ _ z)
+  refused_buffer z = rw (← e, ne_eqb _ _ z)
 
-  pub listed-report : {r : Listed} → bad ≡ 0 → r ≡ listed_at file (ended file) → r ≡ list_report file (length text)
+  pub listed_report : {r : Listed} → bad ≡ 0 → r ≡ listed_at file (ended file) → r ≡ list_report file (length text)
   unfolding list_report ite
-  listed-report z q = q ∙ rw (← e, eq-eqb _ _ z)
+  listed_report z q = q ∙ rw (← e, eq-eqb _ _ z)
 
-  pub listed-buffer : {text' : List ℕ} → bad ≡ 0 → text' ≡ overlay (listing file (ended file).bench) text → text' ≡ list_buffer file text
+  pub listed_buffer : {text' : List ℕ} → bad ≡ 0 → text' ≡ overlay (listing file (ended file).bench) text → text' ≡ list_buffer file text
   unfolding list_buffer ite
-  listed-buffer z q = q ∙ rw (← e, eq-eqb _ _ z)
+  listed_buffer z q = q ∙ rw (← e, eq-eqb _ _ z)

@@ -56,9 +56,9 @@ module _ (f g : List ℕ) (e : version f ≡ version g) where
   unfolding set_line
   version_set c = rw (version_text c)
 
-  pub version-listing : (b : Bench) → listing f b ≡ listing g b
+  pub version_listing : (b : Bench) → listing f b ≡ listing g b
   unfolding listing
-  version-listing b = ap₂ (λ (a b : List ℕ). a ++ b) (version_subtree 63 b.store.nodes b.store.root) (version_set (tree_held b))
+  version_listing b = ap₂ (λ (a b : List ℕ). a ++ b) (version_subtree 63 b.store.nodes b.store.root) (version_set (tree_held b))
 
 -- ---- a file of version 1 shows no depths
 
@@ -73,14 +73,14 @@ module _ (file : List ℕ) (e : version file ≡ 1) where
   plain_text a b h = rw (plain_to 64 a b h, h)
 
   module _ (t : Shapes) (c d : Rows) where
-    plain-subtree : (k x : ℕ) → subtree_text file k (full t c) x ≡ subtree_text file k (full t d) x
+    plain_subtree : (k x : ℕ) → subtree_text file k (full t c) x ≡ subtree_text file k (full t d) x
     unfolding subtree_text base_line route_line
-    plain-subtree zero x = rw (plain_text (full t c x).container (full t d x).container refl)
-    plain-subtree (suc k) x = rw (plain_text (full t c x).container (full t d x).container refl, plain-subtree k (t x).left, plain-subtree k (t x).right)
+    plain_subtree zero x = rw (plain_text (full t c x).container (full t d x).container refl)
+    plain_subtree (suc k) x = rw (plain_text (full t c x).container (full t d x).container refl, plain_subtree k (t x).left, plain_subtree k (t x).right)
 
-    plain-set : (x : ℕ) → set_line file (held_below 63 (full t c) x all) ≡ set_line file (held_below 63 (full t d) x all)
+    plain_set : (x : ℕ) → set_line file (held_below 63 (full t c) x all) ≡ set_line file (held_below 63 (full t d) x all)
     unfolding set_line
-    plain-set x = rw (plain_text (held_below 63 (full t c) x all) (held_below 63 (full t d) x all) (held_set 63 (full t c) x all ∙ sym (held_set 63 (full t d) x all)))
+    plain_set x = rw (plain_text (held_below 63 (full t c) x all) (held_below 63 (full t d) x all) (held_set 63 (full t c) x all ∙ sym (held_set 63 (full t d) x all)))
 
 -- ---- what `write_tree` has written is the listing of the bench whose table it read; version 1 may be lent other depths than the bench's
 
@@ -89,11 +89,11 @@ text_of file t d x = subtree_text file 63 (full t d) x ++ set_line file (held_be
 
 same_depths : (file : List ℕ) (t : Shapes) (c d : Rows) (x : ℕ) → ((version file ≡ 1 → ⊥) → c ≡ d) → text_of file t c x ≡ text_of file t d x
 same_depths file t c d x h = elim (test (eqb (version file) 1)) [
-  | on e ↦ (let one : version file ≡ 1 = eqb-true _ _ e in ap₂ (λ (a b : List ℕ). a ++ b) (plain-subtree file one t c d 63 x) (plain-set file one t c d x))
+  | on e ↦ (let one : version file ≡ 1 = eqb-true _ _ e in ap₂ (λ (a b : List ℕ). a ++ b) (plain_subtree file one t c d 63 x) (plain_set file one t c d x))
   | off e ↦ rw (h (λ z. true≢false (sym (eq-eqb _ _ z) ∙ e)))
 ]
 
 pub written : (file : List ℕ) (v : ℕ) (t : Shapes) (c d : Rows) (root : ℕ) (b : Bench) → v ≡ version file → ((version file ≡ 1 → ⊥) → c ≡ d) → full t d ≡ b.store.nodes → root ≡ b.store.root
     → subtree_text (headed v) 63 (full t c) root ++ set_line (headed v) (held_below 63 (full t c) root all) ≡ listing file b
 unfolding listing tree_held
-written file v t c d root b e h i j = same_depths (headed v) t c d root (λ n. h (λ z. n (e ∙ z))) ∙ rw (i, j) (version-listing (headed v) file e b)
+written file v t c d root b e h i j = same_depths (headed v) t c d root (λ n. h (λ z. n (e ∙ z))) ∙ rw (i, j) (version_listing (headed v) file e b)

@@ -38,46 +38,46 @@ other (suc (suc (suc (suc zero)))) d h = refl
 other (suc (suc (suc (suc (suc a))))) d h = refl
 
 module _ (a y d : ℕ) where
-  pub upper-over : a ≡ 6 → 63 < d → 15 ≡ extra_refusal a y d
+  pub upper_over : a ≡ 6 → 63 < d → 15 ≡ extra_refusal a y d
   unfolding extra_refusal ite
-  upper-over e h = rw (eq-eqb _ _ e, lt-ltb _ _ h)
+  upper_over e h = rw (eq-eqb _ _ e, lt-ltb _ _ h)
 
-  pub upper-below : a ≡ 6 → d ≤ 63 → d < y → 15 ≡ extra_refusal a y d
+  pub upper_below : a ≡ 6 → d ≤ 63 → d < y → 15 ≡ extra_refusal a y d
   unfolding extra_refusal ite
-  upper-below e h i = rw (eq-eqb _ _ e, le-ltb _ _ h, lt-ltb _ _ i)
+  upper_below e h i = rw (eq-eqb _ _ e, le-ltb _ _ h, lt-ltb _ _ i)
 
   pub upper_fits : a ≡ 6 → d ≤ 63 → y ≤ d → 0 ≡ extra_refusal a y d
   unfolding extra_refusal ite
   upper_fits e h i = rw (eq-eqb _ _ e, le-ltb _ _ h, le-ltb _ _ i)
 
   module _ (q : a ≡ 6 → ⊥) where
-    by-depth : extra_refusal a y d ≡ depth_refusal (action_of a) d
+    by_depth : extra_refusal a y d ≡ depth_refusal (action_of a) d
     unfolding extra_refusal ite
-    by-depth = rw (ne_eqb _ _ q)
+    by_depth = rw (ne_eqb _ _ q)
 
-    pub depth-over : a ≡ 2 → 9999 < d → 14 ≡ extra_refusal a y d
+    pub depth_over : a ≡ 2 → 9999 < d → 14 ≡ extra_refusal a y d
     unfolding ite
-    depth-over e h = rw (by-depth, e, lt-ltb _ _ h)
+    depth_over e h = rw (by_depth, e, lt-ltb _ _ h)
 
-    pub depth-fits : a ≡ 2 → d ≤ 9999 → 0 ≡ extra_refusal a y d
+    pub depth_fits : a ≡ 2 → d ≤ 9999 → 0 ≡ extra_refusal a y d
     unfolding ite
-    depth-fits e h = rw (by-depth, e, le-ltb _ _ h)
+    depth_fits e h = rw (by_depth, e, le-ltb _ _ h)
 
-    pub depth-none : (a ≡ 2 → ⊥) → d ≡ 0 → 0 ≡ extra_refusal a y d
+    pub depth_none : (a ≡ 2 → ⊥) → d ≡ 0 → 0 ≡ extra_refusal a y d
     unfolding ite
-    depth-none e h = rw (by-depth, other a d e, eq-eqb _ _ h)
+    depth_none e h = rw (by_depth, other a d e, eq-eqb _ _ h)
 
-    pub depth-some : (a ≡ 2 → ⊥) → (d ≡ 0 → ⊥) → 10 ≡ extra_refusal a y d
+    pub depth_some : (a ≡ 2 → ⊥) → (d ≡ 0 → ⊥) → 10 ≡ extra_refusal a y d
     unfolding ite
-    depth-some e h = rw (by-depth, other a d e, ne_eqb _ _ h)
+    depth_some e h = rw (by_depth, other a d e, ne_eqb _ _ h)
 
-pub ruleset extra_cases = (upper-over, upper-below, upper_fits, depth-over, depth-fits, depth-none, depth-some)
+pub ruleset extra_cases = (upper_over, upper_below, upper_fits, depth_over, depth_fits, depth_none, depth_some)
 
 -- ---- what a record asks
 module _ (l x y d p : ℕ) where
-  pub ask-thread : 3 < x / 16 → 7 ≡ asked l x y d p
+  pub ask_thread : 3 < x / 16 → 7 ≡ asked l x y d p
   unfolding asked ite
-  ask-thread h = rw (lt-ltb _ _ h)
+  ask_thread h = rw (lt-ltb _ _ h)
 
   module _ (h : x / 16 ≤ 3) where
     inside : asked_by l (x % 16) y d p ≡ asked l x y d p
@@ -85,49 +85,49 @@ module _ (l x y d p : ℕ) where
     inside = rw (le-ltb _ _ h)
 
     module _ (z : x % 16 ≡ 0) where
-      pub ask-second : (y ≡ 0 → ⊥) → 10 ≡ asked l x y d p
+      pub ask_second : (y ≡ 0 → ⊥) → 10 ≡ asked l x y d p
       unfolding asked_by ite
-      ask-second g = rw (eq-eqb _ _ z, ne_eqb _ _ g) at inside
+      ask_second g = rw (eq-eqb _ _ z, ne_eqb _ _ g) at inside
 
-      pub ask-depth : y ≡ 0 → (d ≡ 0 → ⊥) → 10 ≡ asked l x y d p
+      pub ask_depth : y ≡ 0 → (d ≡ 0 → ⊥) → 10 ≡ asked l x y d p
       unfolding asked_by ite
-      ask-depth g i = rw (eq-eqb _ _ z, eq-eqb _ _ g, ne_eqb _ _ i) at inside
+      ask_depth g i = rw (eq-eqb _ _ z, eq-eqb _ _ g, ne_eqb _ _ i) at inside
 
-      pub ask-idle : y ≡ 0 → d ≡ 0 → p ≡ 0 → 12 ≡ asked l x y d p
+      pub ask_idle : y ≡ 0 → d ≡ 0 → p ≡ 0 → 12 ≡ asked l x y d p
       unfolding asked_by ite
-      ask-idle g j i = rw (eq-eqb _ _ z, eq-eqb _ _ g, eq-eqb _ _ j, eq-eqb _ _ i) at inside
+      ask_idle g j i = rw (eq-eqb _ _ z, eq-eqb _ _ g, eq-eqb _ _ j, eq-eqb _ _ i) at inside
 
-      pub ask-step : y ≡ 0 → d ≡ 0 → (p ≡ 0 → ⊥) → 0 ≡ asked l x y d p
+      pub ask_step : y ≡ 0 → d ≡ 0 → (p ≡ 0 → ⊥) → 0 ≡ asked l x y d p
       unfolding asked_by ite
-      ask-step g j i = rw (eq-eqb _ _ z, eq-eqb _ _ g, eq-eqb _ _ j, ne_eqb _ _ i) at inside
+      ask_step g j i = rw (eq-eqb _ _ z, eq-eqb _ _ g, eq-eqb _ _ j, ne_eqb _ _ i) at inside
 
     module _ (z : x % 16 ≡ 0 → ⊥) where
-      pub ask-action : l < x % 16 → 8 ≡ asked l x y d p
+      pub ask_action : l < x % 16 → 8 ≡ asked l x y d p
       unfolding asked_by ite
-      ask-action g = rw (ne_eqb _ _ z, lt-ltb _ _ g) at inside
+      ask_action g = rw (ne_eqb _ _ z, lt-ltb _ _ g) at inside
 
       module _ (g : x % 16 ≤ l) where
-        pub ask-station : 63 < y → 9 ≡ asked l x y d p
+        pub ask_station : 63 < y → 9 ≡ asked l x y d p
         unfolding asked_by ite
-        ask-station i = rw (ne_eqb _ _ z, le-ltb _ _ g, lt-ltb _ _ i) at inside
+        ask_station i = rw (ne_eqb _ _ z, le-ltb _ _ g, lt-ltb _ _ i) at inside
 
-        pub ask-start : {w : ℕ} → y ≤ 63 → w ≡ extra_refusal (x % 16) y d → w ≡ 0 → p ≡ 0 → (x % 16 ≡ 6 → ⊥) → 1 ≡ asked l x y d p
+        pub ask_start : {w : ℕ} → y ≤ 63 → w ≡ extra_refusal (x % 16) y d → w ≡ 0 → p ≡ 0 → (x % 16 ≡ 6 → ⊥) → 1 ≡ asked l x y d p
         unfolding asked_by ite
-        ask-start i k o j n = rw (ne_eqb _ _ z, le-ltb _ _ g, le-ltb _ _ i, ← k, eq-eqb _ _ o, eq-eqb _ _ j, ne_eqb _ _ n) at inside
+        ask_start i k o j n = rw (ne_eqb _ _ z, le-ltb _ _ g, le-ltb _ _ i, ← k, eq-eqb _ _ o, eq-eqb _ _ j, ne_eqb _ _ n) at inside
 
-        pub ask-query : {w : ℕ} → y ≤ 63 → w ≡ extra_refusal (x % 16) y d → w ≡ 0 → p ≡ 0 → x % 16 ≡ 6 → 2 ≡ asked l x y d p
+        pub ask_query : {w : ℕ} → y ≤ 63 → w ≡ extra_refusal (x % 16) y d → w ≡ 0 → p ≡ 0 → x % 16 ≡ 6 → 2 ≡ asked l x y d p
         unfolding asked_by ite
-        ask-query i k o j n = rw (ne_eqb _ _ z, le-ltb _ _ g, le-ltb _ _ i, ← k, eq-eqb _ _ o, eq-eqb _ _ j, eq-eqb _ _ n) at inside
+        ask_query i k o j n = rw (ne_eqb _ _ z, le-ltb _ _ g, le-ltb _ _ i, ← k, eq-eqb _ _ o, eq-eqb _ _ j, eq-eqb _ _ n) at inside
 
-        pub ask-busy : {w : ℕ} → y ≤ 63 → w ≡ extra_refusal (x % 16) y d → w ≡ 0 → (p ≡ 0 → ⊥) → 11 ≡ asked l x y d p
+        pub ask_busy : {w : ℕ} → y ≤ 63 → w ≡ extra_refusal (x % 16) y d → w ≡ 0 → (p ≡ 0 → ⊥) → 11 ≡ asked l x y d p
         unfolding asked_by ite
-        ask-busy i k o j = rw (ne_eqb _ _ z, le-ltb _ _ g, le-ltb _ _ i, ← k, eq-eqb _ _ o, ne_eqb _ _ j) at inside
+        ask_busy i k o j = rw (ne_eqb _ _ z, le-ltb _ _ g, le-ltb _ _ i, ← k, eq-eqb _ _ o, ne_eqb _ _ j) at inside
 
-        pub ask-wrong : {w : ℕ} → y ≤ 63 → w ≡ extra_refusal (x % 16) y d → (w ≡ 0 → ⊥) → w ≡ asked l x y d p
+        pub ask_wrong : {w : ℕ} → y ≤ 63 → w ≡ extra_refusal (x % 16) y d → (w ≡ 0 → ⊥) → w ≡ asked l x y d p
         unfolding asked_by ite
-        ask-wrong i k o = rw (ne_eqb _ _ z, le-ltb _ _ g, le-ltb _ _ i, ← k, ne_eqb _ _ o) at inside
+        ask_wrong i k o = rw (ne_eqb _ _ z, le-ltb _ _ g, le-ltb _ _ i, ← k, ne_eqb _ _ o) at inside
 
-pub ruleset ask_cases = (ask-thread, ask-second, ask-depth, ask-idle, ask-step, ask-action, ask-station, ask-start, ask-query, ask-busy, ask-wrong)
+pub ruleset ask_cases = (ask_thread, ask_second, ask_depth, ask_idle, ask_step, ask_action, ask_station, ask_start, ask_query, ask_busy, ask_wrong)
 
 -- ---- the action of a start
 pub action_last : (a : ℕ) → (a ≡ 1 → ⊥) → (a ≡ 2 → ⊥) → (a ≡ 3 → ⊥) → (a ≡ 4 → ⊥) → Join ≡ action_of a
@@ -139,32 +139,32 @@ action_last (suc (suc (suc (suc zero)))) f g h i = absurd (i refl)
 action_last (suc (suc (suc (suc (suc a))))) f g h i = refl
 
 module _ (y d : ℕ) where
-  pub begin-query : (a : ℕ) {r : Notes} → a ≡ 6 → thread r [] ≡ begun Query y d 60 → thread r [] ≡ starting a y d
+  pub begin_query : (a : ℕ) {r : Notes} → a ≡ 6 → thread r [] ≡ begun Query y d 60 → thread r [] ≡ starting a y d
   unfolding starting ite
-  begin-query a e h = rw (eq-eqb _ _ e) h
+  begin_query a e h = rw (eq-eqb _ _ e) h
 
-  pub begin-other : (a : ℕ) {e : Action} {r : Notes} → (a ≡ 6 → ⊥) → e ≡ action_of a → thread r [] ≡ begun e y d 1 → thread r [] ≡ starting a y d
+  pub begin_other : (a : ℕ) {e : Action} {r : Notes} → (a ≡ 6 → ⊥) → e ≡ action_of a → thread r [] ≡ begun e y d 1 → thread r [] ≡ starting a y d
   unfolding starting ite
-  begin-other a z q h = rw (ne_eqb _ _ z) (h ∙ rw q)
+  begin_other a z q h = rw (ne_eqb _ _ z) (h ∙ rw q)
 
-pub ruleset begin_cases = (begin-query, begin-other)
+pub ruleset begin_cases = (begin_query, begin_other)
 
 -- ---- a decided step: its note, and what it writes
 module _ (th : Notes) (n : Note) (p v : ℕ) {r : Notes} where
-  pub noted-as : {a : Note} → n ≡ a → Noted th r a p v → Noted th r n p v
-  noted-as e q = record { after = λ f fs. rw e (q.after f fs) }
+  pub noted_as : {a : Note} → n ≡ a → Noted th r a p v → Noted th r n p v
+  noted_as e q = record { after = λ f fs. rw e (q.after f fs) }
 
   -- m is the thread at its new place
   module _ {m : Notes} (l : Noted th m Nothing p v) where
-    pub noted-topmost : n ≡ Topmost → r ≡ with_grandparent Nil m → Noted th r n p v
+    pub noted_topmost : n ≡ Topmost → r ≡ with_grandparent Nil m → Noted th r n p v
     unfolding with_grandparent
-    noted-topmost e q = record { after = λ f fs. rw (e, q) (ap (λ (w : Thread). to_grandparent w.place Nil w) (l.after f fs)) }
+    noted_topmost e q = record { after = λ f fs. rw (e, q) (ap (λ (w : Thread). to_grandparent w.place Nil w) (l.after f fs)) }
 
-    pub noted-grandparent : n ≡ Grandparent → r ≡ with_grandparent (To v) m → Noted th r n p v
+    pub noted_grandparent : n ≡ Grandparent → r ≡ with_grandparent (To v) m → Noted th r n p v
     unfolding with_grandparent
-    noted-grandparent e q = record { after = λ f fs. rw (e, q) (ap (λ (w : Thread). to_grandparent w.place (To v) w) (l.after f fs)) }
+    noted_grandparent e q = record { after = λ f fs. rw (e, q) (ap (λ (w : Thread). to_grandparent w.place (To v) w) (l.after f fs)) }
 
-pub ruleset noted_cases = (noted-topmost, noted-grandparent, noted-as)
+pub ruleset noted_cases = (noted_topmost, noted_grandparent, noted_as)
 
 pub follow_lent : (t : Shapes) (l : List ℕ) (e : Effect) {l' : List ℕ} → rows l' ≡ deepened e t (rows l) → Followed t l e l'
 follow_lent t l e q = record { rows = λ _. q }
@@ -175,11 +175,11 @@ follow_unlent t l e h = record { rows = λ k. absurd (h k) }
 pub ruleset follow_cases = (follow_lent, follow_unlent)
 
 module _ (t : Shapes) (l : List ℕ) (root used : ℕ) (w : Write) {writes : Bool} where
-  pub enact-writes : {t' : Shapes} {l' : List ℕ} {r : ℕ} → writes ≡ true → Followed t l (effect_of w) l' → Applies t root used (effect_of w) t' r → Enacts t l root used (written writes w) t' l' r
-  enact-writes h f q k j = rw h (record { nodes = q k j; depths = f })
+  pub enact_writes : {t' : Shapes} {l' : List ℕ} {r : ℕ} → writes ≡ true → Followed t l (effect_of w) l' → Applies t root used (effect_of w) t' r → Enacts t l root used (written writes w) t' l' r
+  enact_writes h f q k j = rw h (record { nodes = q k j; depths = f })
 
-  pub enact-quiet : writes ≡ false → Enacts t l root used (written writes w) t l root
-  enact-quiet h k j = rw h (record { nodes = record { stored = λ d z. refl }; depths = record { rows = λ _. refl } })
+  pub enact_quiet : writes ≡ false → Enacts t l root used (written writes w) t l root
+  enact_quiet h k j = rw h (record { nodes = record { stored = λ d z. refl }; depths = record { rows = λ _. refl } })
 
 pub used_writes : (used : ℕ) (w : Write) {writes : Bool} {u : ℕ} → writes ≡ true → u ≡ used_after used (effect_of w) → u ≡ used_after used (written writes w)
 used_writes used w h q = rw h q
@@ -201,7 +201,7 @@ shown_kept j true (Write.Base v x k p c m) = refl
 shown_kept j true (Write.Fork v x l r k y) = refl
 shown_kept j true (Write.Commit m x p n g o) = refl
 
-pub ruleset enact_cases = (enact-writes, enact-quiet)
+pub ruleset enact_cases = (enact_writes, enact_quiet)
 
 -- ---- a lookup's find
 pub depth_as : (a : Answer) (d : Rows) (s : ℕ) {v : Answer} {r : ℕ} → a ≡ v → r ≡ depth_by v d s → r ≡ depth_by a d s

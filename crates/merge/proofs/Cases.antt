@@ -16,22 +16,22 @@ use Rattle.definitions.specs.Merge.{first_byte, second_byte, foreign, turns}
 
 -- one record, whose first byte is x
 module _ (x f before : ℕ) where
-  pub refused-own : x / 16 / 2 ≡ f → before ≡ ite (eqb (x / 16 / 2) f) before 17
+  pub refused_own : x / 16 / 2 ≡ f → before ≡ ite (eqb (x / 16 / 2) f) before 17
   unfolding ite
-  refused-own e = rw (eq-eqb _ _ e)
+  refused_own e = rw (eq-eqb _ _ e)
 
-  pub refused-foreign : (x / 16 / 2 ≡ f → ⊥) → 17 ≡ ite (eqb (x / 16 / 2) f) before 17
+  pub refused_foreign : (x / 16 / 2 ≡ f → ⊥) → 17 ≡ ite (eqb (x / 16 / 2) f) before 17
   unfolding ite
-  refused-foreign e = rw (ne_eqb _ _ e)
+  refused_foreign e = rw (ne_eqb _ _ e)
 
 module _ (f : ℕ) (file : List ℕ) where
-  pub foreign-none : 0 ≡ foreign f file 0
+  pub foreign_none : 0 ≡ foreign f file 0
   unfolding foreign
-  foreign-none = refl
+  foreign_none = refl
 
-  pub foreign-more : (k : ℕ) {r s : ℕ} → r ≡ foreign f file k → s ≡ ite (eqb (first_byte file k / 16 / 2) f) r 17 → s ≡ foreign f file (k + 1)
+  pub foreign_more : (k : ℕ) {r s : ℕ} → r ≡ foreign f file k → s ≡ ite (eqb (first_byte file k / 16 / 2) f) r 17 → s ≡ foreign f file (k + 1)
   unfolding foreign
-  foreign-more k e h = rw (add-one, ← e) h
+  foreign_more k e h = rw (add-one, ← e) h
 
 -- ---- records in turns
 
@@ -48,14 +48,14 @@ four l x y z w a {b} {c} {d} {e} p q r s h =
     let k : length three ≡ length l = length-set two c z ∙ j in
     let at_one : page one b ≡ put (page l a) x = rw p (put_room l a x (omega arith)) in
     let at-two : page two c ≡ put (page one b) y = rw q (put_room one b y (omega arith)) in
-    let at-three : page three d ≡ put (page two c) z = rw r (put_room two c z (omega arith)) in
+    let at_three : page three d ≡ put (page two c) z = rw r (put_room two c z (omega arith)) in
     let at-four : page (set three d w) e ≡ put (page three d) w = rw s (put_room three d w (omega arith)) in
-    at-four ∙ ap (λ (m : Page). put m w) (at-three ∙ ap (λ (m : Page). put m z) (at-two ∙ ap (λ (m : Page). put m y) at_one))
+    at-four ∙ ap (λ (m : Page). put m w) (at_three ∙ ap (λ (m : Page). put m z) (at-two ∙ ap (λ (m : Page). put m y) at_one))
 
 module _ (first second : List ℕ) where
-  pub turns-none : (p : Page) → p ≡ put_all p (turns first second 0)
+  pub turns_none : (p : Page) → p ≡ put_all p (turns first second 0)
   unfolding turns put_all
-  turns-none p = refl
+  turns_none p = refl
 
   pub turns_more : (k : ℕ) (p : Page) {q r : Page} → q ≡ put_all p (turns first second k)
       → r ≡ put_all q (first_byte first k ∷ second_byte first k ∷ first_byte second k ∷ second_byte second k ∷ []) → r ≡ put_all p (turns first second (k + 1))
@@ -72,15 +72,15 @@ module _ (l : List ℕ) (a x b y : ℕ) where
   in_two n h = omega (arith, two_kept)
 
   module _ (c z : ℕ) where
-    three-kept : length (set (set (set l a x) b y) c z) ≡ length l
-    three-kept = length-set (set (set l a x) b y) c z ∙ two_kept
+    three_kept : length (set (set (set l a x) b y) c z) ≡ length l
+    three_kept = length-set (set (set l a x) b y) c z ∙ two_kept
 
     pub in_three : (n : ℕ) → n ≤ length l → n ≤ length (set (set (set l a x) b y) c z)
-    in_three n h = omega (arith, three-kept)
+    in_three n h = omega (arith, three_kept)
 
-    pub four-kept : (d w : ℕ) → length (set (set (set (set l a x) b y) c z) d w) ≡ length l
-    four-kept d w = length-set (set (set (set l a x) b y) c z) d w ∙ three-kept
+    pub four_kept : (d w : ℕ) → length (set (set (set (set l a x) b y) c z) d w) ≡ length l
+    four_kept d w = length-set (set (set (set l a x) b y) c z) d w ∙ three_kept
 
     -- three bytes, then others on a page
-    pub page-kept : {out : List ℕ} {at : ℕ} (start : ℕ) (xs : List ℕ) → page out at ≡ put_all (page (set (set (set l a x) b y) c z) start) xs → length out ≡ length l
-    page-kept start xs e = ap (λ (q : Page). length q.bytes) e ∙ (put_all_length _ xs ∙ three-kept)
+    pub page_kept : {out : List ℕ} {at : ℕ} (start : ℕ) (xs : List ℕ) → page out at ≡ put_all (page (set (set (set l a x) b y) c z) start) xs → length out ≡ length l
+    page_kept start xs e = ap (λ (q : Page). length q.bytes) e ∙ (put_all_length _ xs ∙ three_kept)

@@ -55,15 +55,15 @@ module _ (file : List ℕ) where
   pairs_from k h = ap pairs (bytes_from k h) ∙ two _ _ _
 
   -- the first k, then what the bytes after them say
-  pub records-from : (d k n : ℕ) → k + d ≡ n → length file ≡ 3 + 2 * n → plain_of file k ++ pairs (drop (3 + 2 * k) file) ≡ plain_of file n
+  pub records_from : (d k n : ℕ) → k + d ≡ n → length file ≡ 3 + 2 * n → plain_of file k ++ pairs (drop (3 + 2 * k) file) ≡ plain_of file n
   unfolding plain_of pairs
-  records-from zero k n e h =
+  records_from zero k n e h =
       let q : k ≡ n = omega arith in
       let l : 3 + 2 * n ≡ length file = omega arith in
       rw (q, l, drop-length file, append-nil)
-  records-from (suc d) k n e h =
+  records_from (suc d) k n e h =
       rw (pairs_from k (omega arith), ← append_assoc (plain_of file k) (record_of file k ∷ []) (pairs (drop (3 + 2 * suc k) file)))
-      (records-from d (suc k) n (omega arith) h)
+      (records_from d (suc k) n (omega arith) h)
 
 -- ---- written in turns
 

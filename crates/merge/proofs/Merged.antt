@@ -9,17 +9,17 @@ use lib.Dec.{ltb}
 use lib.ListN.{length, get_or, drop, length-append, length-drop}
 use lib.Seq.{take_at, drop_at, take_all}
 use Rattle.container.specs.Choice.{ite}
-use Rattle.schedule.proofs.Laws.{right-one, fault-file}
+use Rattle.schedule.proofs.Laws.{right_one, fault_file}
 use Rattle.definitions.specs.Schedule.{Rec, count_of, file_refusal}
 use Rattle.definitions.specs.Run.{overlay}
 use Rattle.definitions.specs.Merge.{fault, total, smaller, needed, merge_bytes, merge_buffer, left_over, merge_report, part_of}
 use Rattle.definitions.specs.Merged.{merged_file, all_of, in_turns, kept, is_of, MergedRight, MergeRule}
 use Rattle.merge.specs.Accepted.{Accepted}
 use Rattle.merge.proofs.Refusals.{accepted}
-use Rattle.merge.proofs.Taken.{run-accepts, run-carries}
-use Rattle.merge.proofs.Output.{bytes_length, rest-first, rest-second}
-use Rattle.merge.proofs.Sorted.{longer-first, longer-second, kept-first, kept_second, kept-both}
-use Rattle.merge.proofs.Decoded.{plain_of, records_plain, pairs, records_length, records-from, pairs_turns, none_of}
+use Rattle.merge.proofs.Taken.{run_accepts, run_carries}
+use Rattle.merge.proofs.Output.{bytes_length, rest_first, rest_second}
+use Rattle.merge.proofs.Sorted.{longer_first, longer_second, kept_first, kept_second, kept_both}
+use Rattle.merge.proofs.Decoded.{plain_of, records_plain, pairs, records_length, records_from, pairs_turns, none_of}
 
 abbrev pub part : List ℕ → List ℕ → List ℕ
 part first second = part_of first second (left_over first second)
@@ -43,24 +43,24 @@ module _ (first second : List ℕ) {room : ℕ} (h : Accepted first second room)
   of_second l =
       let n : min (count_of first) (count_of second) ≡ count_of first = omega arith in
       let tail = drop (3 + 2 * count_of first) second in
-      let e : part first second ≡ tail = sym (rest-second first second (h.one, h.other) refl refl l) ∙ take_all (length second - (3 + 2 * count_of first)) tail (omega (arith, length-drop (3 + 2 * count_of first) second)) in
+      let e : part first second ≡ tail = sym (rest_second first second (h.one, h.other) refl refl l) ∙ take_all (length second - (3 + 2 * count_of first)) tail (omega (arith, length-drop (3 + 2 * count_of first) second)) in
       record {
         size = rw (e, n) (omega (arith, length-drop (3 + 2 * count_of first) second, h.other.whole));
         records =
-            rw (e, n, ← records-from second (count_of second - count_of first) (count_of first) (count_of second) (omega arith) h.other.whole)
-            (sym (longer-second (plain_of first (count_of first)) (plain_of second (count_of first)) (pairs tail) (same_length first second (count_of first))));
+            rw (e, n, ← records_from second (count_of second - count_of first) (count_of first) (count_of second) (omega arith) h.other.whole)
+            (sym (longer_second (plain_of first (count_of first)) (plain_of second (count_of first)) (pairs tail) (same_length first second (count_of first))));
       }
 
   of_first : count_of second ≤ count_of first → Completes first second (part first second)
   of_first l =
       let n : min (count_of first) (count_of second) ≡ count_of second = omega arith in
       let tail = drop (3 + 2 * count_of second) first in
-      let e : part first second ≡ tail = sym (rest-first first second (h.one, h.other) refl refl l) ∙ take_all (length first - (3 + 2 * count_of second)) tail (omega (arith, length-drop (3 + 2 * count_of second) first)) in
+      let e : part first second ≡ tail = sym (rest_first first second (h.one, h.other) refl refl l) ∙ take_all (length first - (3 + 2 * count_of second)) tail (omega (arith, length-drop (3 + 2 * count_of second) first)) in
       record {
         size = rw (e, n) (omega (arith, length-drop (3 + 2 * count_of second) first, h.one.whole));
         records =
-            rw (e, n, ← records-from first (count_of first - count_of second) (count_of second) (count_of first) (omega arith) h.one.whole)
-            (sym (longer-first (plain_of first (count_of second)) (plain_of second (count_of second)) (pairs tail) (same_length first second (count_of second))));
+            rw (e, n, ← records_from first (count_of first - count_of second) (count_of second) (count_of first) (omega arith) h.one.whole)
+            (sym (longer_first (plain_of first (count_of second)) (plain_of second (count_of second)) (pairs tail) (same_length first second (count_of second))));
       }
 
   pub completes : Completes first second (part first second)
@@ -88,13 +88,13 @@ module _ (first second : List ℕ) {room : ℕ} (h : Accepted first second room)
   whole_proper =
       let n = whole_length in
       let c = whole_count first second in
-      sym (right-one (whole first second) (omega arith) (whole_version first second) (omega (arith, h.few)) (omega arith))
+      sym (right_one (whole first second) (omega arith) (whole_version first second) (omega (arith, h.few)) (omega arith))
 
   plain_records : plain_of (whole first second) (count_of (whole first second)) ≡ in_turns (plain_of first (count_of first)) (plain_of second (count_of second))
   unfolding plain_of merge_bytes
   plain_records =
       ap (plain_of (whole first second)) (whole_count first second)
-      ∙ (sym (records-from (whole first second) (total first second) 0 (total first second) (omega arith) whole_length)
+      ∙ (sym (records_from (whole first second) (total first second) 0 (total first second) (omega arith) whole_length)
       ∙ (pairs_turns first second (part first second) (smaller first second) ∙ (completes first second h).records))
 
   whole_records : all_of (whole first second) ≡ in_turns (all_of first) (all_of second)
@@ -107,8 +107,8 @@ module _ (first second : List ℕ) {room : ℕ} (h : Accepted first second room)
   own_records : (t : ℕ) → kept (is_of t) (in_turns (all_of first) (all_of second)) ≡ kept (is_of t) (all_of (ite (ltb t 2) first second))
   unfolding ite
   own_records t = elim (dec_lt t 2) [
-    | yes l ↦ rw (lt-ltb t 2 l) (kept-first (is_of t) (all_of first) (all_of second) (ap (kept (is_of t)) (records_plain second h.other.version (count_of second)) ∙ none_of 1 second t (λ e. omega arith) (count_of second) h.own-other))
-    | no l ↦ rw (le-ltb t 2 (omega arith)) (kept_second (is_of t) (all_of first) (all_of second) (ap (kept (is_of t)) (records_plain first h.one.version (count_of first)) ∙ none_of 0 first t (λ e. omega arith) (count_of first) h.own-one))
+    | yes l ↦ rw (lt-ltb t 2 l) (kept_first (is_of t) (all_of first) (all_of second) (ap (kept (is_of t)) (records_plain second h.other.version (count_of second)) ∙ none_of 1 second t (λ e. omega arith) (count_of second) h.own_other))
+    | no l ↦ rw (le-ltb t 2 (omega arith)) (kept_second (is_of t) (all_of first) (all_of second) (ap (kept (is_of t)) (records_plain first h.one.version (count_of first)) ∙ none_of 0 first t (λ e. omega arith) (count_of first) h.own_one))
   ]
 
   shown : (out after file : List ℕ) → needed first second ≤ length out → after ≡ overlay (merge_bytes first second) out → file ≡ whole first second → MergedRight first second file out after
@@ -116,14 +116,14 @@ module _ (first second : List ℕ) {room : ℕ} (h : Accepted first second room)
       let n : length (merge_bytes first second) ≡ needed first second = bytes_length first second in
       let all : all_of file ≡ in_turns (all_of first) (all_of second) = ap (λ (l : List ℕ). all_of l) g ∙ whole_records in
       record {
-        plain = ap fault g ∙ (sym (fault-file (whole first second) (omega (arith, whole_length)) (whole_version first second) refl) ∙ whole_proper);
+        plain = ap fault g ∙ (sym (fault_file (whole first second) (omega (arith, whole_length)) (whole_version first second) refl) ∙ whole_proper);
         proper = ap file_refusal g ∙ whole_proper;
         count = ap count_of g ∙ whole_count first second;
         records = all;
         threads = λ t. ap (kept (is_of t)) all ∙ own_records t;
-        same = λ p. ap (λ (l : List Rec). length (kept p l)) all ∙ kept-both p (all_of first) (all_of second);
-        accepted = run-accepts file (ap file_refusal g ∙ whole_proper);
-        carried = λ m l. run-carries file (ap file_refusal g ∙ whole_proper) (ap (λ (l : List ℕ). get_or l 0 0) g ∙ whole_version first second) m (rw (ap count_of g ∙ whole_count first second) l);
+        same = λ p. ap (λ (l : List Rec). length (kept p l)) all ∙ kept_both p (all_of first) (all_of second);
+        accepted = run_accepts file (ap file_refusal g ∙ whole_proper);
+        carried = λ m l. run_carries file (ap file_refusal g ∙ whole_proper) (ap (λ (l : List ℕ). get_or l 0 0) g ∙ whole_version first second) m (rw (ap count_of g ∙ whole_count first second) l);
         untouched = rw f (drop_at (merge_bytes first second) _ (needed first second) n ∙ rw n);
         long = ap length f ∙ (length-append (merge_bytes first second) _ ∙ rw (length-drop, n) (omega arith));
       }

@@ -36,11 +36,11 @@ head_put l x y z h =
 
 module _ (first second out : List ℕ) {a b n m : ℕ} {after : List ℕ} where
   -- the version, the count and the records, one after the other
-  pub output-put : Accepted first second (length out) → a ≡ count_of first → b ≡ count_of second → n ≡ min a b
+  pub output_put : Accepted first second (length out) → a ≡ count_of first → b ≡ count_of second → n ≡ min a b
       → page after m ≡ put_all (page (set (set (set out 0 1) 1 ((a + b) / 256)) 2 ((a + b) % 256)) 3) (turns first second n)
       → after ≡ overlay (merge_bytes first second) out
   unfolding merge_bytes put_all
-  output-put h c d e i =
+  output_put h c d e i =
       let head = head_put out 1 ((a + b) / 256) ((a + b) % 256) (omega (arith, h.room)) in
       let all : page after m ≡ put_all (page out 0) (merge_bytes first second) = rw (← c, ← d, ← e) (rw head at i) in
       ap (λ (s : Page). s.bytes) (all ∙ put_fits (merge_bytes first second) out (omega (arith, bytes_length first second, h.room)))
@@ -48,15 +48,15 @@ module _ (first second out : List ℕ) {a b n m : ℕ} {after : List ℕ} where
 -- ---- the part
 
 module _ (first second : List ℕ) {a b : ℕ} (h : Plain first × Plain second) (c : a ≡ count_of first) (d : b ≡ count_of second) where
-  pub rest-second : a < b → take (length second - (3 + 2 * a)) (drop (3 + 2 * a) second) ≡ part_of first second (left_over first second)
+  pub rest_second : a < b → take (length second - (3 + 2 * a)) (drop (3 + 2 * a) second) ≡ part_of first second (left_over first second)
   unfolding part_of ite
-  rest-second l =
+  rest_second l =
       let n : length second - (3 + 2 * a) ≡ 2 * (b - a) = omega (arith, h.1.whole) in
       rw (← c, ← d, lt-ltb a b l, ite) (rw n)
 
-  pub rest-first : b ≤ a → take (length first - (3 + 2 * b)) (drop (3 + 2 * b) first) ≡ part_of first second (left_over first second)
+  pub rest_first : b ≤ a → take (length first - (3 + 2 * b)) (drop (3 + 2 * b) first) ≡ part_of first second (left_over first second)
   unfolding part_of ite
-  rest-first l =
+  rest_first l =
       let n : length first - (3 + 2 * b) ≡ 2 * (a - b) = omega (arith, h.0.whole) in
       rw (← c, ← d, le-ltb a b l, ite) (rw n)
 

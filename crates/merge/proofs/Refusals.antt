@@ -60,19 +60,19 @@ module _ (first second : List ℕ) (room : ℕ) {u : ℕ} (e : u ≡ fault first
   by_first i = rw (← e) (here _ i)
 
   module _ (z : u ≡ 0) {v : ℕ} (f : v ≡ fault second) where
-    pub by-second : (v ≡ 0 → ⊥) → v ≡ merge_refusal first second room
+    pub by_second : (v ≡ 0 → ⊥) → v ≡ merge_refusal first second room
     unfolding merge_refusal
-    by-second i = rw (← e, ← f) (here _ i ∙ over _ z)
+    by_second i = rw (← e, ← f) (here _ i ∙ over _ z)
 
     module _ (y : v ≡ 0) {a b s : ℕ} (c : a ≡ count_of first) (d : b ≡ count_of second) (g : s ≡ foreign 0 first a) where
-      pub by-foreign : (s ≡ 0 → ⊥) → s ≡ merge_refusal first second room
+      pub by_foreign : (s ≡ 0 → ⊥) → s ≡ merge_refusal first second room
       unfolding merge_refusal
-      by-foreign i = rw (← e, ← f, ← c, ← g) (here _ i ∙ (over _ y ∙ over _ z))
+      by_foreign i = rw (← e, ← f, ← c, ← g) (here _ i ∙ (over _ y ∙ over _ z))
 
       module _ (x : s ≡ 0) {t : ℕ} (h : t ≡ foreign 1 second b) where
-        pub by-foreign-2 : (t ≡ 0 → ⊥) → t ≡ merge_refusal first second room
+        pub by_foreign_2 : (t ≡ 0 → ⊥) → t ≡ merge_refusal first second room
         unfolding merge_refusal
-        by-foreign-2 i = rw (← e, ← f, ← c, ← d, ← g, ← h) (here _ i ∙ (over _ x ∙ (over _ y ∙ over _ z)))
+        by_foreign_2 i = rw (← e, ← f, ← c, ← d, ← g, ← h) (here _ i ∙ (over _ x ∙ (over _ y ∙ over _ z)))
 
         pub so_far : t ≡ 0 → last_two a b room ≡ merge_refusal first second room
         unfolding merge_refusal
@@ -86,13 +86,13 @@ module _ (a b room : ℕ) {m : ℕ} (e : last_two a b room ≡ m) where
     last : first_of (ite (ltb room (3 + 4 * min a b)) 18 0 ∷ []) ≡ m
     last = over _ (above 4096 (a + b) 3 l) ∙ e
 
-    pub by-short : {n : ℕ} → n ≡ min a b → room < 3 + 4 * n → 18 ≡ m
+    pub by_short : {n : ℕ} → n ≡ min a b → room < 3 + 4 * n → 18 ≡ m
     unfolding first_of ite
-    by-short q i = rw (lt-ltb room (3 + 4 * min a b) (rw q at i)) at last
+    by_short q i = rw (lt-ltb room (3 + 4 * min a b) (rw q at i)) at last
 
-    pub by-none : {n : ℕ} → n ≡ min a b → 3 + 4 * n ≤ room → 0 ≡ m
+    pub by_none : {n : ℕ} → n ≡ min a b → 3 + 4 * n ≤ room → 0 ≡ m
     unfolding first_of ite
-    by-none q i = rw (le-ltb room (3 + 4 * min a b) (rw q at i)) at last
+    by_none q i = rw (le-ltb room (3 + 4 * min a b) (rw q at i)) at last
 
 -- ---- none
 
@@ -107,8 +107,8 @@ accepted first second room z =
     record {
       one = plain first a.0;
       other = plain second b.0;
-      own-one = c.0;
-      own-other = d.0;
+      own_one = c.0;
+      own_other = d.0;
       few = fits 4096 (total first second) 3 (λ q. omega arith) e.0;
       room = fits room (needed first second) 18 (λ q. omega arith) (none _ _ e.1).0;
     }

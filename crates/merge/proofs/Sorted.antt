@@ -26,12 +26,12 @@ turns_nil (u ∷ us) = refl
 
 -- one of them longer
 module _ (xs ys us : List Rec) (e : length xs ≡ length ys) where
-  pub longer-first : in_turns (xs ++ us) ys ≡ in_turns xs ys ++ us
-  longer-first = rw (append-nil, turns_nil) at (turns_append xs ys us [] e)
+  pub longer_first : in_turns (xs ++ us) ys ≡ in_turns xs ys ++ us
+  longer_first = rw (append-nil, turns_nil) at (turns_append xs ys us [] e)
 
-  pub longer-second : in_turns xs (ys ++ us) ≡ in_turns xs ys ++ us
+  pub longer_second : in_turns xs (ys ++ us) ≡ in_turns xs ys ++ us
   unfolding in_turns
-  longer-second = rw append-nil at (turns_append xs ys [] us e)
+  longer_second = rw append-nil at (turns_append xs ys [] us e)
 
 -- ---- those that pass a test
 
@@ -59,11 +59,11 @@ module _ (p : Rec → Bool) where
       by false e = (refl, e)
 
   -- where one list has none, those of the other keep their order
-  pub kept-first : (xs ys : List Rec) → kept p ys ≡ [] → kept p (in_turns xs ys) ≡ kept p xs
+  pub kept_first : (xs ys : List Rec) → kept p ys ≡ [] → kept p (in_turns xs ys) ≡ kept p xs
   unfolding in_turns kept ite
-  kept-first [] ys e = e
-  kept-first (x ∷ xs) [] e = refl
-  kept-first (x ∷ xs) (y ∷ ys) e = let n = no_more y ys e in rw (n.0, kept-first xs ys n.1)
+  kept_first [] ys e = e
+  kept_first (x ∷ xs) [] e = refl
+  kept_first (x ∷ xs) (y ∷ ys) e = let n = no_more y ys e in rw (n.0, kept_first xs ys n.1)
 
   pub kept_second : (xs ys : List Rec) → kept p xs ≡ [] → kept p (in_turns xs ys) ≡ kept p ys
   unfolding in_turns kept ite
@@ -84,8 +84,8 @@ module _ (p : Rec → Bool) where
       by false = omega arith
 
   -- as many as in both
-  pub kept-both : (xs ys : List Rec) → length (kept p (in_turns xs ys)) ≡ length (kept p xs) + length (kept p ys)
+  pub kept_both : (xs ys : List Rec) → length (kept p (in_turns xs ys)) ≡ length (kept p xs) + length (kept p ys)
   unfolding in_turns
-  kept-both [] ys = omega (arith, kept_none)
-  kept-both (x ∷ xs) [] = omega (arith, kept_none)
-  kept-both (x ∷ xs) (y ∷ ys) = rw (kept_length x (y ∷ in_turns xs ys), kept_length y (in_turns xs ys), kept_length x xs, kept_length y ys) (omega (arith, kept-both xs ys))
+  kept_both [] ys = omega (arith, kept_none)
+  kept_both (x ∷ xs) [] = omega (arith, kept_none)
+  kept_both (x ∷ xs) (y ∷ ys) = rw (kept_length x (y ∷ in_turns xs ys), kept_length y (in_turns xs ys), kept_length x xs, kept_length y ys) (omega (arith, kept_both xs ys))

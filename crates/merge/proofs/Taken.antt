@@ -125,10 +125,10 @@ fine_report false p h = h
 
 module _ (file : List ℕ) (z : file_refusal file ≡ 0) where
   -- a version 1 file
-  pub run-carries : get_or file 0 0 ≡ 1 → (n : ℕ) → 2 * count_of file ≤ n → run_report file n ≡ report_of (ended file)
+  pub run_carries : get_or file 0 0 ≡ 1 → (n : ℕ) → 2 * count_of file ≤ n → run_report file n ≡ report_of (ended file)
   unfolding run_report run_refusal ite
-  run-carries v n h = rw (eq-eqb _ _ z, eq-eqb _ _ v, le-ltb _ _ h)
+  run_carries v n h = rw (eq-eqb _ _ z, eq-eqb _ _ v, le-ltb _ _ h)
 
-  pub run-accepts : (n : ℕ) → Fine (run_report file n).refusal
+  pub run_accepts : (n : ℕ) → Fine (run_report file n).refusal
   unfolding run_report run_refusal ite
-  run-accepts n = rw (eq-eqb _ _ z) (fine_report (ltb n (row_room file (count_of file))) (ended file) (fine_after file (count_of file)))
+  run_accepts n = rw (eq-eqb _ _ z) (fine_report (ltb n (row_room file (count_of file))) (ended file) (fine_after file (count_of file)))

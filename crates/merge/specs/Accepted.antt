@@ -7,7 +7,7 @@ use Rattle.definitions.specs.Merge.{foreign, total, needed}
 pub record Accepted (first second : List ℕ) (n : ℕ) : Type 0 where
   pub one : Plain first
   pub other : Plain second
-  pub own-one : foreign 0 first (count_of first) ≡ 0
-  pub own-other : foreign 1 second (count_of second) ≡ 0
+  pub own_one : foreign 0 first (count_of first) ≡ 0
+  pub own_other : foreign 1 second (count_of second) ≡ 0
   pub few : total first second ≤ 4096
   pub room : needed first second ≤ n

@@ -33,47 +33,47 @@ node_read c s i e₁ e₂ e₃ e₄ e₅ e₆ = rw (e₁, e₂, e₃, e₄, e₅
 
 -- ---- one field of a node read
 module _ (c s : List ℕ) (i : ℕ) where
-  pub kind-read : {k : Kind} → k ≡ kind_of (get_or c (i * 20 + 0) 0) → k ≡ (table c s i).kind
+  pub kind_read : {k : Kind} → k ≡ kind_of (get_or c (i * 20 + 0) 0) → k ≡ (table c s i).kind
   unfolding table
-  kind-read e = e
+  kind_read e = e
 
-  pub key-read : get_or c (i * 20 + 1) 0 ≡ (table c s i).key
+  pub key_read : get_or c (i * 20 + 1) 0 ≡ (table c s i).key
   unfolding table
-  key-read = refl
+  key_read = refl
 
   pub left_read : get_or c (i * 20 + 2) 0 ≡ (table c s i).left
   unfolding table
   left_read = refl
 
-  pub right-read : get_or c (i * 20 + 3) 0 ≡ (table c s i).right
+  pub right_read : get_or c (i * 20 + 3) 0 ≡ (table c s i).right
   unfolding table
-  right-read = refl
+  right_read = refl
 
-  pub valid-read : {v : Bool} → v ≡ valid_of (get_or c (i * 20 + 4) 0) → v ≡ (table c s i).valid
+  pub valid_read : {v : Bool} → v ≡ valid_of (get_or c (i * 20 + 4) 0) → v ≡ (table c s i).valid
   unfolding table
-  valid-read e = e
+  valid_read e = e
 
-  pub parent-read : {p : Link} → p ≡ link_of (get_or c (i * 20 + 7) 0) (get_or c (i * 20 + 8) 0) → p ≡ (table c s i).parent
+  pub parent_read : {p : Link} → p ≡ link_of (get_or c (i * 20 + 7) 0) (get_or c (i * 20 + 8) 0) → p ≡ (table c s i).parent
   unfolding table
-  parent-read e = e
+  parent_read e = e
 
-  pub container-read : get_or s i 0 ≡ (table c s i).container
+  pub container_read : get_or s i 0 ≡ (table c s i).container
   unfolding table
-  container-read = refl
+  container_read = refl
 
-  pub lower-read : get_or c (i * 20 + 16) 0 ≡ (table c s i).lower
+  pub lower_read : get_or c (i * 20 + 16) 0 ≡ (table c s i).lower
   unfolding table
-  lower-read = refl
+  lower_read = refl
 
-  pub upper-read : get_or c (i * 20 + 17) 0 ≡ (table c s i).upper
+  pub upper_read : get_or c (i * 20 + 17) 0 ≡ (table c s i).upper
   unfolding table
-  upper-read = refl
+  upper_read = refl
 
-  pub store-read : get_or c (i * 20 + 18) 0 ≡ (table c s i).store
+  pub store_read : get_or c (i * 20 + 18) 0 ≡ (table c s i).store
   unfolding table
-  store-read = refl
+  store_read = refl
 
-pub ruleset field_cases = (kind-read, key-read, left_read, right-read, valid-read, parent-read, container-read, lower-read, upper-read, store-read)
+pub ruleset field_cases = (kind_read, key_read, left_read, right_read, valid_read, parent_read, container_read, lower_read, upper_read, store_read)
 
 -- ---- the child on a side, and on a station's way
 pub kid_left : (d : Bool) (n : Node) → d ≡ true → n.left ≡ kid_of d n
@@ -96,25 +96,25 @@ check_at s m c e q = rw e q
 
 -- ---- the check of the base x: n is that node, m its main, r the result of its store, c the answer
 module _ (t : Shapes) (o : Stores) (x : ℕ) {n : Node} where
-  pub check-normal : n ≡ t x → n.kind ≡ Normal → Check.Replaceable ≡ check t o x
+  pub check_normal : n ≡ t x → n.kind ≡ Normal → Check.Replaceable ≡ check t o x
   unfolding check
-  check-normal e k = rw (← e, k)
+  check_normal e k = rw (← e, k)
 
-  pub check-route : n ≡ t x → n.kind ≡ Route → Check.Stale ≡ check t o x
+  pub check_route : n ≡ t x → n.kind ≡ Route → Check.Stale ≡ check t o x
   unfolding check
-  check-route e k = rw (← e, k)
+  check_route e k = rw (← e, k)
 
-  pub check-main : {c : Check} → n ≡ t x → n.kind ≡ Main → c ≡ check_stage n.stage x Check.Stale → c ≡ check t o x
+  pub check_main : {c : Check} → n ≡ t x → n.kind ≡ Main → c ≡ check_stage n.stage x Check.Stale → c ≡ check t o x
   unfolding check
-  check-main e k a = a ∙ rw (e, rw e at k)
+  check_main e k a = a ∙ rw (e, rw e at k)
 
-  pub check-neighbour : {c : Check} {m : Node} → n ≡ t x → n.kind ≡ Neighbour → m ≡ t n.main → c ≡ check_stage m.stage n.main Check.Replaceable → c ≡ check t o x
+  pub check_neighbour : {c : Check} {m : Node} → n ≡ t x → n.kind ≡ Neighbour → m ≡ t n.main → c ≡ check_stage m.stage n.main Check.Replaceable → c ≡ check t o x
   unfolding check
-  check-neighbour e k f a = a ∙ rw (f, e, rw e at k)
+  check_neighbour e k f a = a ∙ rw (f, e, rw e at k)
 
-  pub check-range : {c : Check} {r : Shared} → n ≡ t x → n.kind ≡ Range → r ≡ o n.store → c ≡ check_store r n → c ≡ check t o x
+  pub check_range : {c : Check} {r : Shared} → n ≡ t x → n.kind ≡ Range → r ≡ o n.store → c ≡ check_store r n → c ≡ check t o x
   unfolding check
-  check-range e k f a = a ∙ ap₂ check_store (f ∙ ap (λ y. o y.store) e) e ∙ ap (λ d. check_as d t o x) (sym k ∙ ap (λ y. y.kind) e)
+  check_range e k f a = a ∙ ap₂ check_store (f ∙ ap (λ y. o y.store) e) e ∙ ap (λ d. check_as d t o x) (sym k ∙ ap (λ y. y.kind) e)
 
 -- a range base by the byte of its store
 set_store_lem : (a b : ℕ) (n : Node) → (a ≡ 0 → ⊥) → Check.Replaceable ≡ check_store (shared_of a b) n
@@ -122,42 +122,42 @@ set_store_lem zero b n h = absurd (h refl)
 set_store_lem (suc a) b n h = refl
 
 module _ (t : Shapes) (f r : List ℕ) (x : ℕ) {n : Node} where
-  pub check-unset : n ≡ t x → n.kind ≡ Range → get_or f n.store 0 ≡ 0 → Check.Unset n.lower n.upper n.store ≡ check t (stores f r) x
+  pub check_unset : n ≡ t x → n.kind ≡ Range → get_or f n.store 0 ≡ 0 → Check.Unset n.lower n.upper n.store ≡ check t (stores f r) x
   unfolding stores
-  check-unset e k u = check-range t (stores f r) x e k refl (rw u)
+  check_unset e k u = check_range t (stores f r) x e k refl (rw u)
 
-  pub check-set : n ≡ t x → n.kind ≡ Range → (get_or f n.store 0 ≡ 0 → ⊥) → Check.Replaceable ≡ check t (stores f r) x
+  pub check_set : n ≡ t x → n.kind ≡ Range → (get_or f n.store 0 ≡ 0 → ⊥) → Check.Replaceable ≡ check t (stores f r) x
   unfolding stores
-  check-set e k u = check-range t (stores f r) x e k refl (set_store_lem (get_or f n.store 0) (get_or r n.store 0) n u)
+  check_set e k u = check_range t (stores f r) x e k refl (set_store_lem (get_or f n.store 0) (get_or r n.store 0) n u)
 
-pub ruleset read_cases = (child_left, child_right, check-normal, check-route, check-main, check-neighbour, check-unset, check-set)
+pub ruleset read_cases = (child_left, child_right, check_normal, check_route, check_main, check_neighbour, check_unset, check_set)
 
 -- ---- the writers
 module _ (c s : List ℕ) (i : ℕ) (h : i < 256) (n : length c ≡ 5120) where
-  pub left-set : (d : Bool) (x : ℕ) → d ≡ true → table (set c (i * 20 + 2) x) s ≡ upd (table c s) i (with_kid d x (table c s i))
+  pub left_set : (d : Bool) (x : ℕ) → d ≡ true → table (set c (i * 20 + 2) x) s ≡ upd (table c s) i (with_kid d x (table c s i))
   unfolding table
-  left-set d x e = cells_written s (first c i 2 x h (omega arith) n) ∙ rw e
+  left_set d x e = cells_written s (first c i 2 x h (omega arith) n) ∙ rw e
 
-  pub right-set : (d : Bool) (x : ℕ) → d ≡ false → table (set c (i * 20 + 3) x) s ≡ upd (table c s) i (with_kid d x (table c s i))
+  pub right_set : (d : Bool) (x : ℕ) → d ≡ false → table (set c (i * 20 + 3) x) s ≡ upd (table c s) i (with_kid d x (table c s i))
   unfolding table
-  right-set d x e = cells_written s (first c i 3 x h (omega arith) n) ∙ rw e
+  right_set d x e = cells_written s (first c i 3 x h (omega arith) n) ∙ rw e
 
   pub mark_set : {f m : ℕ} (l : Link) → f ≡ flag_of l → m ≡ number_of l → table (set (set c (i * 20 + 5) f) (i * 20 + 6) m) s ≡ upd (table c s) i (with_mark l (table c s i))
   unfolding table
   mark_set l e d = rw (e, d) (cells_written s (next (first c i 5 (flag_of l) h (omega arith) n) 6 (number_of l) h (omega arith)) ∙ rw (link_back l))
 
-  pub valid-set : {x : ℕ} (v : Bool) → x ≡ valid_code v → table (set c (i * 20 + 4) x) s ≡ upd (table c s) i (with_valid v (table c s i))
+  pub valid_set : {x : ℕ} (v : Bool) → x ≡ valid_code v → table (set c (i * 20 + 4) x) s ≡ upd (table c s) i (with_valid v (table c s i))
   unfolding table
-  valid-set v e = rw e (cells_written s (first c i 4 (valid_code v) h (omega arith) n) ∙ rw (valid_back v))
+  valid_set v e = rw e (cells_written s (first c i 4 (valid_code v) h (omega arith) n) ∙ rw (valid_back v))
 
-  pub stage-set : {x : ℕ} (t : Stage) → x ≡ stage_code t → table (set c (i * 20 + 9) x) s ≡ upd (table c s) i (with_stage t (table c s i))
+  pub stage_set : {x : ℕ} (t : Stage) → x ≡ stage_code t → table (set c (i * 20 + 9) x) s ≡ upd (table c s) i (with_stage t (table c s i))
   unfolding table
-  stage-set t e = rw e (cells_written s (first c i 9 (stage_code t) h (omega arith) n) ∙ rw (stage_back t))
+  stage_set t e = rw e (cells_written s (first c i 9 (stage_code t) h (omega arith) n) ∙ rw (stage_back t))
 
-  pub commit-set : {t gf gn : ℕ} (u b : ℕ) (g : Link) (o : ℕ) → t ≡ stage_code Completing → gf ≡ flag_of g → gn ≡ number_of g
+  pub commit_set : {t gf gn : ℕ} (u b : ℕ) (g : Link) (o : ℕ) → t ≡ stage_code Completing → gf ≡ flag_of g → gn ≡ number_of g
       → table (set (set (set (set (set (set c (i * 20 + 9) t) (i * 20 + 10) u) (i * 20 + 11) b) (i * 20 + 12) gf) (i * 20 + 13) gn) (i * 20 + 14) o) s ≡ upd (table c s) i (committed u b g o (table c s i))
   unfolding table
-  commit-set u b g o e₁ e₂ e₃ = rw (e₁, e₂, e₃) (cells_written s (next (next (next (next (next (first c i 9 1 h (omega arith) n) 10 u h (omega arith)) 11 b h (omega arith)) 12 (flag_of g) h (omega arith)) 13 (number_of g) h (omega arith)) 14 o h (omega arith)) ∙ rw (link_back g))
+  commit_set u b g o e₁ e₂ e₃ = rw (e₁, e₂, e₃) (cells_written s (next (next (next (next (next (first c i 9 1 h (omega arith) n) 10 u h (omega arith)) 11 b h (omega arith)) 12 (flag_of g) h (omega arith)) 13 (number_of g) h (omega arith)) 14 o h (omega arith)) ∙ rw (link_back g))
 
   pub node_put : {k v mf mn pf pn t gf gn : ℕ} (x : Node) → i < length s → k ≡ kind_code x.kind → v ≡ valid_code x.valid → mf ≡ flag_of x.mark → mn ≡ number_of x.mark → pf ≡ flag_of x.parent → pn ≡ number_of x.parent → t ≡ stage_code x.stage → gf ≡ flag_of x.grandparent → gn ≡ number_of x.grandparent
       → table (set (set (set (set (set (set (set (set (set (set (set (set (set (set (set (set (set (set (set c (i * 20 + 0) k) (i * 20 + 1) x.key) (i * 20 + 2) x.left) (i * 20 + 3) x.right) (i * 20 + 4) v) (i * 20 + 5) mf) (i * 20 + 6) mn) (i * 20 + 7) pf) (i * 20 + 8) pn) (i * 20 + 9) t) (i * 20 + 10) x.union) (i * 20 + 11) x.neighbour) (i * 20 + 12) gf) (i * 20 + 13) gn) (i * 20 + 14) x.other) (i * 20 + 15) x.main) (i * 20 + 16) x.lower) (i * 20 + 17) x.upper) (i * 20 + 18) x.store) (set s i x.container) ≡ upd (table c s) i x
@@ -181,4 +181,4 @@ pub result_past : (f r : List ℕ) (k : ℕ) {v : Shared} → length r ≤ k →
 unfolding stores
 result_past f r k h e = e ∙ rw (get_or-eq_default r 0 h)
 
-pub ruleset write_cases = (left-set, right-set, mark_set, valid-set, stage-set, rules)
+pub ruleset write_cases = (left_set, right_set, mark_set, valid_set, stage_set, rules)

@@ -113,8 +113,8 @@ module _ (es : List Event) (pl : AllPlaced es unread) (few : starts es ≤ 12) (
   reading_all : reading (events_of (history_of es)) (length es) ≡ read_all es unread
   reading_all = ap (reading (events_of (history_of es))) (sym at_end) ∙ fold_reading (events_of (history_of es)) es 0 back ∙ ap (read_all es) reading_start
 
-  pub reading-back : reading_of (history_of es) ≡ read_all es unread
-  reading-back = ap (reading (events_of (history_of es))) (count_back es) ∙ reading_all
+  pub reading_back : reading_of (history_of es) ≡ read_all es unread
+  reading_back = ap (reading (events_of (history_of es))) (count_back es) ∙ reading_all
 
   place_start : all_in_place (events_of (history_of es)) 0 ≡ true
   unfolding all_in_place
@@ -135,9 +135,9 @@ module _ (es : List Event) (pl : AllPlaced es unread) (few : starts es ≤ 12) (
   unfolding events_refusal ite
   events_right = rw (placed_back, reading_all, le-ltb 12 (read_all es unread).all.count (omega (arith, count_all es unread)), none_open)
 
-  pub not-refused : history_refusal (history_of es) ≡ 0
+  pub not_refused : history_refusal (history_of es) ≡ 0
   unfolding history_refusal ite
-  not-refused = rw (form_right, count_back es) events_right
+  not_refused = rw (form_right, count_back es) events_right
 
 -- ---- each number of the file is a byte
 record Small (e : Event) : Type 0 where

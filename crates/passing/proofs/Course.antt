@@ -27,10 +27,10 @@ use Rattle.judge.proofs.Tools.{clash}
 use Rattle.definitions.specs.Written.{finish_mark, event_of, events_by, events_from, OnlyThree, AllFinished}
 use Rattle.passing.specs.Lists.{end_by, end_from}
 use Rattle.passing.proofs.Did.{Did, did, Started, Moved, Ended}
-use Rattle.passing.proofs.Tidy.{Tidy, tidy-begun, tidy-ended}
+use Rattle.passing.proofs.Tidy.{Tidy, tidy_begun, tidy_ended}
 use Rattle.passing.proofs.Linked as L
-use Rattle.passing.proofs.Linked.{Linked, Open, rested, linked-start, linked-moved, linked-ended}
-use Rattle.passing.proofs.Pass.{Passed, noted_start, noted_finish, stops, on-start, on-move, on-update, on-lookup}
+use Rattle.passing.proofs.Linked.{Linked, Open, rested, linked_start, linked_moved, linked_ended}
+use Rattle.passing.proofs.Pass.{Passed, noted_start, noted_finish, stops, on_start, on_move, on_update, on_lookup}
 
 -- ---- a start is in place, and a finish
 number_low : (a : Action) → 0 < action_number a
@@ -103,7 +103,7 @@ module _ (H : Hist) (r : Rec) (rs : List Rec) (b b' : Bench) (P : Plain) (f : �
 
   start_case : (n : ℕ) → Started b t r.second n b' → Standing H rs b' (carried_out n t r.second false P) (first_steps n t k f) (suc k)
       → OnlyThree (event_of n b r no_row ++ events_from rs b') → AllFinished (end_from rs b') → Onward → Passed H (event_of n b r no_row ++ events_from rs b') R f k
-  start_case n s z' o fin ih = subst (λ v. Passed H (v ++ events_from rs b') R f k) (sym is) (on-start H e (events_from rs b') R f k tidy quiet refl small free (start_in e R small (number_low s.what) three.0 s.low refl free)
+  start_case n s z' o fin ih = subst (λ v. Passed H (v ++ events_from rs b') R f k) (sym is) (on_start H e (events_from rs b') R f k tidy quiet refl small free (start_in e R small (number_low s.what) three.0 s.low refl free)
       (ih (start t s.what r.second P) (upd f t Nil) (noted e R) standing linked tidy' three.1 fin))
     where
       e : Event
@@ -126,15 +126,15 @@ module _ (H : Hist) (r : Rec) (rs : List Rec) (b b' : Bench) (P : Plain) (f : �
       quiet = fun_ext (λ v. now_is H rs b' (start t s.what r.second P) (upd f t Nil) (suc k) standing v ∙ sym (set_now v))
 
       linked : Linked b' (start t s.what r.second P) (noted e R)
-      linked = subst (λ Q. Linked b' (start t s.what r.second P) Q) (sym (noted_start e R refl)) (linked-start b b' P R l tidy e r.second n s (sym s.number) refl)
+      linked = subst (λ Q. Linked b' (start t s.what r.second P) Q) (sym (noted_start e R refl)) (linked_start b b' P R l tidy e r.second n s (sym s.number) refl)
 
       tidy' : Tidy (noted e R)
-      tidy' = subst (λ Q. Tidy Q) (sym (noted_start e R refl)) (tidy-begun R e tidy small)
+      tidy' = subst (λ Q. Tidy Q) (sym (noted_start e R refl)) (tidy_begun R e tidy small)
 
   move_case : (n : ℕ) → Moved b t n b' → Standing H rs b' (carried_out n t r.second false P) (first_steps n t k f) (suc k)
       → OnlyThree (event_of n b r no_row ++ events_from rs b') → AllFinished (end_from rs b') → Onward → Passed H (event_of n b r no_row ++ events_from rs b') R f k
-  move_case n m z' o fin ih = subst (λ v. Passed H (event_of v b r no_row ++ events_from rs b') R f k) (sym m.number) (on-move H (events_from rs b') R f k t tidy quiet
-      (ih P (upd f t (opened (f t) k)) R standing (linked-moved b b' P R l tidy t n m) tidy (subst (λ v. OnlyThree (event_of v b r no_row ++ events_from rs b')) m.number o) fin))
+  move_case n m z' o fin ih = subst (λ v. Passed H (event_of v b r no_row ++ events_from rs b') R f k) (sym m.number) (on_move H (events_from rs b') R f k t tidy quiet
+      (ih P (upd f t (opened (f t) k)) R standing (linked_moved b b' P R l tidy t n m) tidy (subst (λ v. OnlyThree (event_of v b r no_row ++ events_from rs b')) m.number o) fin))
     where
       standing : Standing H rs b' P (upd f t (opened (f t) k)) (suc k)
       standing = subst (λ v. Standing H rs b' (carried_out v t r.second false P) (first_steps v t k f) (suc k)) m.number z'
@@ -176,25 +176,25 @@ module _ (H : Hist) (r : Rec) (rs : List Rec) (b b' : Bench) (P : Plain) (f : �
 
       tail : Passed H (events_from rs b') (noted e R) (upd f t (opened (f t) k)) (suc k)
       tail = ih (finish t P) (upd f t (opened (f t) k)) (noted e R) standing
-          (subst (λ Q. Linked b' (finish t P) Q) (sym (noted_finish e R i some op.busy)) (linked-ended b b' P R l tidy e n i g op.busy))
-          (subst (λ Q. Tidy Q) (sym (noted_finish e R i some op.busy)) (tidy-ended R e tidy i op.busy)) three.1 fin
+          (subst (λ Q. Linked b' (finish t P) Q) (sym (noted_finish e R i some op.busy)) (linked_ended b b' P R l tidy e n i g op.busy))
+          (subst (λ Q. Tidy Q) (sym (noted_finish e R i some op.busy)) (tidy_ended R e tidy i op.busy)) three.1 fin
 
       after : (s : ℕ) → H (suc k) s ≡ settled (b.threads t).action st (H k) s
       after s = now_is H rs b' (finish t P) (upd f t (opened (f t) k)) (suc k) standing s ∙ ap (λ x. settled_by x P.set s) op.plain ∙ ap (λ S. settled (b.threads t).action st S s) (sym (fun_ext set_now))
 
-      action-is : (act : Action) → (b.threads t).action ≡ act → (R.all.operation i).action ≡ action_number act
-      action-is act q = op.action ∙ ap action_number q
+      action_is : (act : Action) → (b.threads t).action ≡ act → (R.all.operation i).action ≡ action_number act
+      action_is act q = op.action ∙ ap action_number q
 
       update : (act : Action) (v : Bool) → (b.threads t).action ≡ act → action_of (R.all.operation i).action ≡ act → a ≡ said v → v ≡ reply act st (H k) → Passed H (e ∷ events_from rs b') R f k
-      update act v q x m y = on-update H e (events_from rs b') R f k i tidy v (mark_says a v m) some op.busy (pl (mark_low a v m)) tail
+      update act v q x m y = on_update H e (events_from rs b') R f k i tidy v (mark_says a v m) some op.busy (pl (mark_low a v m)) tail
           (rw (x, op.station) y)
           (rw (x, op.station) (fun_ext (λ s. sym (after s ∙ ap (λ v. settled v st (H k) s) q))))
 
       by : (act : Action) → (b.threads t).action ≡ act → Fits (doing act st) (b.threads t).place P H (moment (first_steps 0 t k f t)) k a → Passed H (e ∷ events_from rs b') R f k
-      by Lookup q (j, lo, hi, y) = on-lookup H e (events_from rs b') R f k i tidy (H j st) (mark_says a (H j st) y) some op.busy (pl (mark_low a (H j st) y)) tail
-          (ap action_of (action-is Lookup q)) (fun_ext (λ s. after s ∙ ap (λ v. settled v st (H k) s) q)) j lo hi (ap (H j) (sym op.station))
-      by Insert q y = update Insert (not (P.set st)) q (ap action_of (action-is Insert q)) y.0 (ap not (sym (set_now st)))
-      by Remove q y = update Remove (P.set st) q (ap action_of (action-is Remove q)) y.0 (sym (set_now st))
+      by Lookup q (j, lo, hi, y) = on_lookup H e (events_from rs b') R f k i tidy (H j st) (mark_says a (H j st) y) some op.busy (pl (mark_low a (H j st) y)) tail
+          (ap action_of (action_is Lookup q)) (fun_ext (λ s. after s ∙ ap (λ v. settled v st (H k) s) q)) j lo hi (ap (H j) (sym op.station))
+      by Insert q y = update Insert (not (P.set st)) q (ap action_of (action_is Insert q)) y.0 (ap not (sym (set_now st)))
+      by Remove q y = update Remove (P.set st) q (ap action_of (action_is Remove q)) y.0 (sym (set_now st))
       by Split q y = absurd (omega (arith, three.0, ap action_number q))
       by Join q y = absurd (omega (arith, three.0, ap action_number q))
       by Query q y = absurd (omega (arith, three.0, ap action_number q))

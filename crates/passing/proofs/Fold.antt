@@ -34,7 +34,7 @@ noted_case P e R p q r = by (eqb e.mark 0)
 pub record SameAsk (o p : Operation) : Type 0 where
   pub action : o.action ≡ p.action
   pub station : o.station ≡ p.station
-  pub before : (j : ℕ) → o.finishedBefore j ≡ p.finishedBefore j
+  pub before : (j : ℕ) → o.finished_before j ≡ p.finished_before j
 
 same_ask : (o : Operation) → SameAsk o o
 same_ask o = record { action = refl; station = refl; before = λ j. refl }

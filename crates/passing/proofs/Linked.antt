@@ -17,7 +17,7 @@ use Rattle.definitions.specs.PlainSet.{Plain, doing, empty, finish, start}
 use Rattle.definitions.specs.History.{Event, Operation, Reading, unread, begun, ended_by}
 use Rattle.judge.proofs.Tools.{◌==?◌, clash}
 use Rattle.passing.proofs.Did.{Started, Moved, Ended}
-use Rattle.passing.proofs.Tidy.{Tidy, other-op}
+use Rattle.passing.proofs.Tidy.{Tidy, other_op}
 
 pub data Slot (th : Thread) (o : plain.Operation) (k : Link) (ops : ℕ → Operation) : Type 0 where
   rests : is_idle th ≡ true → k ≡ Nil → o ≡ plain.no_operation → Slot th o k ops
@@ -59,22 +59,22 @@ frame g h (rests a b c) = rests a b c
 frame g h (works i a b c d e s) = works i a b ((h i b).0 ∙ c) ((h i b).1 ∙ d) e s
 
 module _ (b b' : Bench) (P : Plain) (R : Reading) (l : Linked b P R) (tidy : Tidy R) where
-  pub linked-start : (e : Event) (y n : ℕ) (s : Started b e.thread y n b') → e.action ≡ n → e.station ≡ y → Linked b' (start e.thread s.what y P) (begun e R)
-  linked-start e y n s ea es v = rw s.threads (elim (v ==? e.thread) [
+  pub linked_start : (e : Event) (y n : ℕ) (s : Started b e.thread y n b') → e.action ≡ n → e.station ≡ y → Linked b' (start e.thread s.what y P) (begun e R)
+  linked_start e y n s ea es v = rw s.threads (elim (v ==? e.thread) [
     | yes q ↦ rw (eq-eqb v e.thread q) (works R.all.count s.busy refl (rw (eq-eqb R.all.count R.all.count refl) (ea ∙ s.number ∙ ap action_number (sym s.action)))
         (rw (eq-eqb R.all.count R.all.count refl) (es ∙ sym s.station)) (λ i. doing (sym s.action i) (sym s.station i)) (rw s.station s.low))
     | no q ↦ rw (ne_eqb v e.thread q) (frame (begun e R).all.operation (λ i z. rw (ne_eqb i R.all.count (λ w. omega (arith, tidy.low v i z))) (refl, refl)) (l v))
   ])
 
-  pub linked-moved : (t n : ℕ) (m : Moved b t n b') → Linked b' P R
-  linked-moved t n m v = rw m.threads (elim (v ==? t) [
+  pub linked_moved : (t n : ℕ) (m : Moved b t n b') → Linked b' P R
+  linked_moved t n m v = rw m.threads (elim (v ==? t) [
     | yes q ↦ rw (eq-eqb v t q) (subst (λ x. Slot m.next (P.operation x) (R.busy x) R.all.operation) (sym q) (let o = opened b P R t l m.busy in
         works o.number m.still o.busy (o.action ∙ ap action_number (sym m.action)) (o.station ∙ sym m.station) (o.plain ∙ cc) (rw m.station o.low)))
     | no q ↦ rw (ne_eqb v t q) (l v)
   ])
 
-  pub linked-ended : (e : Event) (n k : ℕ) (m : Ended b e.thread n b') → R.busy e.thread ≡ To k → Linked b' (finish e.thread P) (ended_by (To k) e R)
-  linked-ended e n k m d v = rw m.threads (elim (v ==? e.thread) [
+  pub linked_ended : (e : Event) (n k : ℕ) (m : Ended b e.thread n b') → R.busy e.thread ≡ To k → Linked b' (finish e.thread P) (ended_by (To k) e R)
+  linked_ended e n k m d v = rw m.threads (elim (v ==? e.thread) [
     | yes q ↦ rw (eq-eqb v e.thread q) (rests refl refl refl)
-    | no q ↦ rw (ne_eqb v e.thread q) (frame (ended_by (To k) e R).all.operation (λ i z. rw (ne_eqb i k (other-op R e tidy k d v i q z)) (refl, refl)) (l v))
+    | no q ↦ rw (ne_eqb v e.thread q) (frame (ended_by (To k) e R).all.operation (λ i z. rw (ne_eqb i k (other_op R e tidy k d v i q z)) (refl, refl)) (l v))
   ])

@@ -63,15 +63,15 @@ module _ (H : ℕ → ℕ → Bool) (ops : Operations) where
         → Part k T R f S (i ∷ list)
     prepend T t i S S' list doing out fits then answers keeps within future beyond opens = record {
       answers = (fits, subst (λ x. Answers ops x list) (sym then) answers);
-      keeps = (no-before, keeps);
+      keeps = (no_before, keeps);
       within = λ j. elim (j ==? i) [ yes q ↦ λ _. rw q (tidy.running t i doing) | no q ↦ rw (ne_eqb j i q) (within j) ];
       future = λ j a b. rw (ne_eqb j i (λ q. omega (arith, tidy.low t i doing))) (future j a b);
       beyond = λ j a. rw (ne_eqb j i (λ q. omega (arith, tidy.low t i doing))) (beyond j a);
       opens = λ v j z. elim (v ==? t) [ yes q ↦ here v j q z | no q ↦ there v j q z ];
     }
       where
-        no-before : (j : ℕ) → times j list ≢ 0 → (ops.operation i).finishedBefore j ≡ false
-        no-before j h = elim (test ((ops.operation i).finishedBefore j)) [
+        no_before : (j : ℕ) → times j list ≢ 0 → (ops.operation i).finished_before j ≡ false
+        no_before j h = elim (test ((ops.operation i).finished_before j)) [
           | on q ↦ absurd (true≢false (sym (tidy.before i j (tidy.low t i doing) (sym ((same i (tidy.low t i doing)).before j) ∙ q)) ∙ within j h))
           | off q ↦ q
         ]
@@ -96,26 +96,26 @@ module _ (H : ℕ → ℕ → Bool) (ops : Operations) where
     Some T = (list : List ℕ) × Part k T R f (H k) list
 
     -- the lookup of thread T that acts at this moment comes to stand in front
-    settle-one : (T : ℕ) (list : List ℕ) → Part k T R f (H k) list → Some (suc T)
-    settle-one T list p = by (R.busy T) refl
+    settle_one : (T : ℕ) (list : List ℕ) → Part k T R f (H k) list → Some (suc T)
+    settle_one T list p = by (R.busy T) refl
       where
-        same-list : ((i : ℕ) → R.busy T ≡ To i → Status k (suc T) T i (f T) list) → Some (suc T)
-        same-list h = (list, record { answers = p.answers; keeps = p.keeps; within = p.within; future = p.future; beyond = p.beyond; opens = λ t i z. elim (t ==? T) [ yes q ↦ subst (λ x. Status k (suc T) x i (f x) list) (sym q) (h i (ap R.busy (sym q) ∙ z)) | no q ↦ raise T t i list (λ w. q (sym w)) (p.opens t i z) ] })
+        same_list : ((i : ℕ) → R.busy T ≡ To i → Status k (suc T) T i (f T) list) → Some (suc T)
+        same_list h = (list, record { answers = p.answers; keeps = p.keeps; within = p.within; future = p.future; beyond = p.beyond; opens = λ t i z. elim (t ==? T) [ yes q ↦ subst (λ x. Status k (suc T) x i (f x) list) (sym q) (h i (ap R.busy (sym q) ∙ z)) | no q ↦ raise T t i list (λ w. q (sym w)) (p.opens t i z) ] })
 
-        by-status : (i : ℕ) → R.busy T ≡ To i → Status k T T i (f T) list → Some (suc T)
-        by-status i e (placed a) = same-list (λ j z. let d : To i ≡ To j = sym e ∙ z in let w : i ≡ j = cc in subst (λ x. Status k (suc T) T x (f T) list) w (placed a))
-        by-status i e (past m u a b c d l y) = same-list (λ j z. let g : To i ≡ To j = sym e ∙ z in let w : i ≡ j = cc in subst (λ x. Status k (suc T) T x (f T) list) w (past m u a b c d l y))
-        by-status i e (now a b c d) = (i ∷ list, prepend (suc T) T i (H k) (H k) list e b (d ∙ rw c) (rw c) p.answers p.keeps p.within p.future p.beyond (λ v j q z. raise T v j list (λ w. q (sym w)) (p.opens v j z)))
+        by_status : (i : ℕ) → R.busy T ≡ To i → Status k T T i (f T) list → Some (suc T)
+        by_status i e (placed a) = same_list (λ j z. let d : To i ≡ To j = sym e ∙ z in let w : i ≡ j = cc in subst (λ x. Status k (suc T) T x (f T) list) w (placed a))
+        by_status i e (past m u a b c d l y) = same_list (λ j z. let g : To i ≡ To j = sym e ∙ z in let w : i ≡ j = cc in subst (λ x. Status k (suc T) T x (f T) list) w (past m u a b c d l y))
+        by_status i e (now a b c d) = (i ∷ list, prepend (suc T) T i (H k) (H k) list e b (d ∙ rw c) (rw c) p.answers p.keeps p.within p.future p.beyond (λ v j q z. raise T v j list (λ w. q (sym w)) (p.opens v j z)))
 
         by : (l : Link) → R.busy T ≡ l → Some (suc T)
-        by Nil e = same-list (λ i z. let w : Nil ≡ To i = sym e ∙ z in absurd (clash (cc)))
-        by (To i) e = by-status i e (p.opens T i e)
+        by Nil e = same_list (λ i z. let w : Nil ≡ To i = sym e ∙ z in absurd (clash (cc)))
+        by (To i) e = by_status i e (p.opens T i e)
 
-    pub settle-all : (list : List ℕ) → Part k 0 R f (H k) list → Some 4
-    settle-all list p = let (l1, p1) = settle-one 0 list p in let (l2, p2) = settle-one 1 l1 p1 in let (l3, p3) = settle-one 2 l2 p2 in settle-one 3 l3 p3
+    pub settle_all : (list : List ℕ) → Part k 0 R f (H k) list → Some 4
+    settle_all list p = let (l1, p1) = settle_one 0 list p in let (l2, p2) = settle_one 1 l1 p1 in let (l3, p3) = settle_one 2 l2 p2 in settle_one 3 l3 p3
 
     -- a status at the next moment, seen from this one: f' is the first step then
-    pub status-back : (t i : ℕ) (ft' : Link) (list : List ℕ) → t < 4 → ((m : ℕ) → ft' ≡ To m → m ≤ k → f t ≡ To m) → Status (suc k) 4 t i ft' list → Status k 0 t i (f t) list
-    status-back t i ft' list h back (placed a) = placed a
-    status-back t i ft' list h back (now a b c d) = absurd (omega arith)
-    status-back t i ft' list h back (past m j a b c d l y) = elim (j ==? k) [ yes q ↦ now (omega arith) d l (rw q at y) | no q ↦ past m j (back m a (omega arith)) b (omega arith) d l y ]
+    pub status_back : (t i : ℕ) (ft' : Link) (list : List ℕ) → t < 4 → ((m : ℕ) → ft' ≡ To m → m ≤ k → f t ≡ To m) → Status (suc k) 4 t i ft' list → Status k 0 t i (f t) list
+    status_back t i ft' list h back (placed a) = placed a
+    status_back t i ft' list h back (now a b c d) = absurd (omega arith)
+    status_back t i ft' list h back (past m j a b c d l y) = elim (j ==? k) [ yes q ↦ now (omega arith) d l (rw q at y) | no q ↦ past m j (back m a (omega arith)) b (omega arith) d l y ]

@@ -28,10 +28,10 @@ use Rattle.definitions.specs.Written.{event_of, events_by, events_from, OnlyThre
 use Rattle.passing.specs.Lists.{end_by, end_from}
 use Rattle.passing.proofs.Did.{Did, did, Started, Moved, Ended}
 use Rattle.passing.proofs.Fold.{read_all, SameAsk, Closed, all_count, all_ask, all_closed}
-use Rattle.passing.proofs.Tidy.{Tidy, tidy-begun, tidy-ended, other-op, closed-then}
+use Rattle.passing.proofs.Tidy.{Tidy, tidy_begun, tidy_ended, other_op, closed_then}
 use Rattle.passing.proofs.Linked as L
-use Rattle.passing.proofs.Linked.{Linked, Open, rested, linked-start, linked-moved, linked-ended}
-use Rattle.passing.proofs.Part.{Status, placed, now, past, Part, part_end, prepend, settle-all, status-back}
+use Rattle.passing.proofs.Linked.{Linked, Open, rested, linked_start, linked_moved, linked_ended}
+use Rattle.passing.proofs.Part.{Status, placed, now, past, Part, part_end, prepend, settle_all, status_back}
 
 abbrev pub AllPlaced : List Event → Reading → Type 0
 AllPlaced [] R = Unit {0}
@@ -77,8 +77,8 @@ module _ (H : Hist) where
     abbrev ops : Operations
     ops = (read_all (e ∷ es) R).all
 
-    pub on-start : e.mark ≡ 0 → e.thread < 4 → R.busy e.thread ≡ Nil → in_place e R ≡ true → Passed H es (noted e R) (upd f e.thread Nil) (suc k) → Passed H (e ∷ es) R f k
-    on-start z small free pl ih = let s = settle-all H ops k R f tidy (all_ask (e ∷ es) R) (all_count (e ∷ es) R) ih.list before in
+    pub on_start : e.mark ≡ 0 → e.thread < 4 → R.busy e.thread ≡ Nil → in_place e R ≡ true → Passed H es (noted e R) (upd f e.thread Nil) (suc k) → Passed H (e ∷ es) R f k
+    on_start z small free pl ih = let s = settle_all H ops k R f tidy (all_ask (e ∷ es) R) (all_count (e ∷ es) R) ih.list before in
         record { list = s.0; part = s.1; in_place = (pl, ih.in_place); ended = ih.ended }
       where
         q : noted e R ≡ begun e R
@@ -87,16 +87,16 @@ module _ (H : Hist) where
         p : Part H ops (suc k) 4 (noted e R) (upd f e.thread Nil) (H (suc k)) ih.list
         p = ih.part
 
-        new-busy : (noted e R).busy e.thread ≡ To R.all.count
-        new-busy = ap (λ Q. Q.busy e.thread) q ∙ rw (eq-eqb e.thread e.thread refl)
+        new_busy : (noted e R).busy e.thread ≡ To R.all.count
+        new_busy = ap (λ Q. Q.busy e.thread) q ∙ rw (eq-eqb e.thread e.thread refl)
 
         new_in : Status H ops (suc k) 4 e.thread R.all.count (upd f e.thread Nil e.thread) ih.list → times R.all.count ih.list ≡ 1
         new_in (placed a) = a
         new_in (now a b c d) = absurd (omega arith)
         new_in (past m j a b c d l y) = let w : Nil ≡ To m = sym (rw (eq-eqb e.thread e.thread refl)) ∙ a in absurd (clash (cc))
 
-        old-busy : (v i : ℕ) → R.busy v ≡ To i → (v ≢ e.thread) × ((noted e R).busy v ≡ To i)
-        old-busy v i d = elim (v ==? e.thread) [
+        old_busy : (v i : ℕ) → R.busy v ≡ To i → (v ≢ e.thread) × ((noted e R).busy v ≡ To i)
+        old_busy v i d = elim (v ==? e.thread) [
           | yes w ↦ (let c : Nil ≡ To i = sym free ∙ ap R.busy (sym w) ∙ d in absurd (clash (cc)))
           | no w ↦ (w, ap (λ Q. Q.busy v) q ∙ rw (ne_eqb v e.thread w) d)
         ]
@@ -107,17 +107,17 @@ module _ (H : Hist) where
           keeps = p.keeps;
           within = λ i h. sym (ap (λ Q. Q.finished i) q) ∙ p.within i h;
           future = λ i a b. elim (i ==? R.all.count) [
-            | yes w ↦ rw w (new_in (p.opens e.thread R.all.count new-busy))
+            | yes w ↦ rw w (new_in (p.opens e.thread R.all.count new_busy))
             | no w ↦ p.future i (omega (arith, ap (λ Q. Q.all.count) q)) b
           ];
           beyond = p.beyond;
-          opens = λ v i d. let o = old-busy v i d in
-              status-back H ops k R f tidy (all_ask (e ∷ es) R) (all_count (e ∷ es) R) v i (upd f e.thread Nil v) ih.list (tidy.small v i d) (λ m. rw (ne_eqb v e.thread o.0) (λ a _. a)) (p.opens v i o.1);
+          opens = λ v i d. let o = old_busy v i d in
+              status_back H ops k R f tidy (all_ask (e ∷ es) R) (all_count (e ∷ es) R) v i (upd f e.thread Nil v) ih.list (tidy.small v i d) (λ m. rw (ne_eqb v e.thread o.0) (λ a _. a)) (p.opens v i o.1);
         }
 
   -- ---- a step that goes on
-  pub on-move : (es : List Event) (R : Reading) (f : ℕ → Link) (k t : ℕ) → Tidy R → H (suc k) ≡ H k → Passed H es R (upd f t (opened (f t) k)) (suc k) → Passed H es R f k
-  on-move es R f k t tidy quiet ih = let s = settle-all H (read_all es R).all k R f tidy (all_ask es R) (all_count es R) ih.list before in
+  pub on_move : (es : List Event) (R : Reading) (f : ℕ → Link) (k t : ℕ) → Tidy R → H (suc k) ≡ H k → Passed H es R (upd f t (opened (f t) k)) (suc k) → Passed H es R f k
+  on_move es R f k t tidy quiet ih = let s = settle_all H (read_all es R).all k R f tidy (all_ask es R) (all_count es R) ih.list before in
       record { list = s.0; part = s.1; in_place = ih.in_place; ended = ih.ended }
     where
       p : Part H (read_all es R).all (suc k) 4 R (upd f t (opened (f t) k)) (H (suc k)) ih.list
@@ -130,91 +130,91 @@ module _ (H : Hist) where
         within = p.within;
         future = p.future;
         beyond = p.beyond;
-        opens = λ v i d. status-back H (read_all es R).all k R f tidy (all_ask es R) (all_count es R) v i (upd f t (opened (f t) k) v) ih.list (tidy.small v i d) (first_back f t v k) (p.opens v i d);
+        opens = λ v i d. status_back H (read_all es R).all k R f tidy (all_ask es R) (all_count es R) v i (upd f t (opened (f t) k) v) ih.list (tidy.small v i d) (first_back f t v k) (p.opens v i d);
       }
 
   -- ---- a step that ends its operation i
   module _ (e : Event) (es : List Event) (R : Reading) (f : ℕ → Link) (k i : ℕ) (tidy : Tidy R) (said : Bool) (mark : eqb e.mark 2 ≡ said) (some : e.mark ≢ 0) (doing : R.busy e.thread ≡ To i) (pl : in_place e R ≡ true)
       (ih : Passed H es (noted e R) (upd f e.thread (opened (f e.thread) k)) (suc k)) where
-    abbrev opsE : Operations
-    opsE = (read_all (e ∷ es) R).all
+    abbrev ops_e : Operations
+    ops_e = (read_all (e ∷ es) R).all
 
     abbrev f' : ℕ → Link
     f' = upd f e.thread (opened (f e.thread) k)
 
-    qE : noted e R ≡ ended_by (To i) e R
-    qE = noted_finish e R i some doing
+    q_e : noted e R ≡ ended_by (To i) e R
+    q_e = noted_finish e R i some doing
 
-    pE : Part H opsE (suc k) 4 (noted e R) f' (H (suc k)) ih.list
-    pE = ih.part
+    p_e : Part H ops_e (suc k) 4 (noted e R) f' (H (suc k)) ih.list
+    p_e = ih.part
 
     -- its answer stays
     closed : Closed i (noted e R)
-    closed = record { low = subst (λ Q. i < Q.all.count) (sym qE) (tidy.low e.thread i doing); free = λ t z. closed-then R e tidy i doing t (ap (λ Q. Q.busy t) (sym qE) ∙ z) }
+    closed = record { low = subst (λ Q. i < Q.all.count) (sym q_e) (tidy.low e.thread i doing); free = λ t z. closed_then R e tidy i doing t (ap (λ Q. Q.busy t) (sym q_e) ∙ z) }
 
-    answer : (opsE.operation i).yes ≡ said
-    answer = ap (λ o. o.yes) (all_closed es (noted e R) i closed ∙ ap (λ Q. Q.all.operation i) qE) ∙ rw (eq-eqb i i refl) mark
+    answer : (ops_e.operation i).yes ≡ said
+    answer = ap (λ o. o.yes) (all_closed es (noted e R) i closed ∙ ap (λ Q. Q.all.operation i) q_e) ∙ rw (eq-eqb i i refl) mark
 
     -- it is not in what follows
     out : times i ih.list ≡ 0
-    out = elim (times i ih.list ==? 0) [ yes w ↦ w | no w ↦ absurd (true≢false (sym (ap (λ Q. Q.finished i) qE ∙ rw (eq-eqb i i refl)) ∙ pE.within i w)) ]
+    out = elim (times i ih.list ==? 0) [ yes w ↦ w | no w ↦ absurd (true≢false (sym (ap (λ Q. Q.finished i) q_e ∙ rw (eq-eqb i i refl)) ∙ p_e.within i w)) ]
 
     within : (j : ℕ) → times j ih.list ≢ 0 → R.finished j ≡ false
-    within j h = elim (j ==? i) [ yes w ↦ absurd (h (rw w out)) | no w ↦ sym (ap (λ Q. Q.finished j) qE ∙ rw (ne_eqb j i w)) ∙ pE.within j h ]
+    within j h = elim (j ==? i) [ yes w ↦ absurd (h (rw w out)) | no w ↦ sym (ap (λ Q. Q.finished j) q_e ∙ rw (ne_eqb j i w)) ∙ p_e.within j h ]
 
-    future : (j : ℕ) → R.all.count ≤ j → j < opsE.count → times j ih.list ≡ 1
-    future j a b = pE.future j (omega (arith, ap (λ Q. Q.all.count) qE)) b
+    future : (j : ℕ) → R.all.count ≤ j → j < ops_e.count → times j ih.list ≡ 1
+    future j a b = p_e.future j (omega (arith, ap (λ Q. Q.all.count) q_e)) b
 
-    others : (v j : ℕ) → v ≢ e.thread → R.busy v ≡ To j → Status H opsE k 0 v j (f v) ih.list
-    others v j w d = status-back H opsE k R f tidy (all_ask (e ∷ es) R) (all_count (e ∷ es) R) v j (f' v) ih.list (tidy.small v j d) (first_back f e.thread v k)
-        (pE.opens v j (ap (λ Q. Q.busy v) qE ∙ rw (ne_eqb v e.thread w) d))
+    others : (v j : ℕ) → v ≢ e.thread → R.busy v ≡ To j → Status H ops_e k 0 v j (f v) ih.list
+    others v j w d = status_back H ops_e k R f tidy (all_ask (e ∷ es) R) (all_count (e ∷ es) R) v j (f' v) ih.list (tidy.small v j d) (first_back f e.thread v k)
+        (p_e.opens v j (ap (λ Q. Q.busy v) q_e ∙ rw (ne_eqb v e.thread w) d))
 
-    finished-by : (l : List ℕ) → Part H opsE k 0 R f (H k) l → Passed H (e ∷ es) R f k
-    finished-by l p = let s = settle-all H opsE k R f tidy (all_ask (e ∷ es) R) (all_count (e ∷ es) R) l p in
+    finished_by : (l : List ℕ) → Part H ops_e k 0 R f (H k) l → Passed H (e ∷ es) R f k
+    finished_by l p = let s = settle_all H ops_e k R f tidy (all_ask (e ∷ es) R) (all_count (e ∷ es) R) l p in
         record { list = s.0; part = s.1; in_place = (pl, ih.in_place); ended = ih.ended }
 
-    ask : SameAsk (opsE.operation i) (R.all.operation i)
+    ask : SameAsk (ops_e.operation i) (R.all.operation i)
     ask = all_ask (e ∷ es) R i (tidy.low e.thread i doing)
 
     -- an insert or a remove acts at its last step
-    pub on-update : said ≡ reply (action_of (R.all.operation i).action) (R.all.operation i).station (H k)
+    pub on_update : said ≡ reply (action_of (R.all.operation i).action) (R.all.operation i).station (H k)
         → settled (action_of (R.all.operation i).action) (R.all.operation i).station (H k) ≡ H (suc k) → Passed H (e ∷ es) R f k
-    on-update r s = finished-by (i ∷ ih.list) (prepend H opsE k R f tidy (all_ask (e ∷ es) R) (all_count (e ∷ es) R) 0 e.thread i (H k) (H (suc k)) ih.list doing out
-        (answer ∙ r ∙ sym (ap (λ a. reply (action_of a) (opsE.operation i).station (H k)) ask.action ∙ ap (λ x. reply (action_of (R.all.operation i).action) x (H k)) ask.station))
-        (ap (λ a. settled (action_of a) (opsE.operation i).station (H k)) ask.action ∙ ap (λ x. settled (action_of (R.all.operation i).action) x (H k)) ask.station ∙ s)
-        pE.answers pE.keeps within future pE.beyond others)
+    on_update r s = finished_by (i ∷ ih.list) (prepend H ops_e k R f tidy (all_ask (e ∷ es) R) (all_count (e ∷ es) R) 0 e.thread i (H k) (H (suc k)) ih.list doing out
+        (answer ∙ r ∙ sym (ap (λ a. reply (action_of a) (ops_e.operation i).station (H k)) ask.action ∙ ap (λ x. reply (action_of (R.all.operation i).action) x (H k)) ask.station))
+        (ap (λ a. settled (action_of a) (ops_e.operation i).station (H k)) ask.action ∙ ap (λ x. settled (action_of (R.all.operation i).action) x (H k)) ask.station ∙ s)
+        p_e.answers p_e.keeps within future p_e.beyond others)
 
     -- a lookup acts at a moment of its span
-    pub on-lookup : action_of (R.all.operation i).action ≡ Lookup → H (suc k) ≡ H k
+    pub on_lookup : action_of (R.all.operation i).action ≡ Lookup → H (suc k) ≡ H k
         → (j : ℕ) → moment (f' e.thread) ≤ j → j ≤ suc k → said ≡ H j (R.all.operation i).station → Passed H (e ∷ es) R f k
-    on-lookup lk quiet j lo hi a = finished-by ih.list (record {
-      answers = subst (λ S. Answers opsE S ih.list) quiet pE.answers;
-      keeps = pE.keeps;
+    on_lookup lk quiet j lo hi a = finished_by ih.list (record {
+      answers = subst (λ S. Answers ops_e S ih.list) quiet p_e.answers;
+      keeps = p_e.keeps;
       within = within;
       future = future;
-      beyond = pE.beyond;
+      beyond = p_e.beyond;
       opens = λ v n d. elim (v ==? e.thread) [ yes w ↦ mine v n w d | no w ↦ others v n w d ];
     })
       where
-        is-lookup : action_of (opsE.operation i).action ≡ Lookup
-        is-lookup = ap action_of ask.action ∙ lk
+        is_lookup : action_of (ops_e.operation i).action ≡ Lookup
+        is_lookup = ap action_of ask.action ∙ lk
 
-        at : (m : ℕ) → H j ≡ H m → (opsE.operation i).yes ≡ H m (opsE.operation i).station
+        at : (m : ℕ) → H j ≡ H m → (ops_e.operation i).yes ≡ H m (ops_e.operation i).station
         at m c = answer ∙ a ∙ ap (λ S. S (R.all.operation i).station) c ∙ ap (H m) (sym ask.station)
 
-        early : (ft : Link) → f e.thread ≡ ft → moment (opened ft k) ≤ j → j < k → Status H opsE k 0 e.thread i (f e.thread) ih.list
+        early : (ft : Link) → f e.thread ≡ ft → moment (opened ft k) ≤ j → j < k → Status H ops_e k 0 e.thread i (f e.thread) ih.list
         early Nil c b l = absurd (omega arith)
-        early (To m) c b l = past m j c b l out is-lookup (at j refl)
+        early (To m) c b l = past m j c b l out is_lookup (at j refl)
 
         late : k ≤ j → H j ≡ H k
         late l = elim (j ==? k) [ yes w ↦ ap H w | no w ↦ ap H (let u : j ≡ suc k = omega arith in u) ∙ quiet ]
 
-        status : Status H opsE k 0 e.thread i (f e.thread) ih.list
+        status : Status H ops_e k 0 e.thread i (f e.thread) ih.list
         status = elim (dec_lt j k) [
           | yes l ↦ early (f e.thread) refl (rw (eq-eqb e.thread e.thread refl) at lo) l
-          | no l ↦ now (omega arith) out is-lookup (at k (late (omega arith)))
+          | no l ↦ now (omega arith) out is_lookup (at k (late (omega arith)))
         ]
 
-        mine : (v n : ℕ) → v ≡ e.thread → R.busy v ≡ To n → Status H opsE k 0 v n (f v) ih.list
+        mine : (v n : ℕ) → v ≡ e.thread → R.busy v ≡ To n → Status H ops_e k 0 v n (f v) ih.list
         mine v n w d = let c : To i ≡ To n = sym doing ∙ ap R.busy (sym w) ∙ d in let u : i ≡ n = cc in
-            subst (λ x. Status H opsE k 0 x n (f x) ih.list) (sym w) (subst (λ x. Status H opsE k 0 e.thread x (f e.thread) ih.list) u status)
+            subst (λ x. Status H ops_e k 0 x n (f x) ih.list) (sym w) (subst (λ x. Status H ops_e k 0 e.thread x (f e.thread) ih.list) u status)

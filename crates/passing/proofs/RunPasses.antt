@@ -28,7 +28,7 @@ use Rattle.passing.proofs.Tidy.{tidy_unread}
 use Rattle.passing.proofs.Linked.{linked_fresh}
 use Rattle.passing.proofs.Pass.{Passed}
 use Rattle.passing.proofs.Course.{pass}
-use Rattle.passing.proofs.Bytes.{bytes_length, reading-back, not-refused, file_bytes}
+use Rattle.passing.proofs.Bytes.{bytes_length, reading_back, not_refused, file_bytes}
 
 module _ (on : Bool) (rs : List Rec) (ok : Eligible on rs) where
   abbrev es : List Event
@@ -43,8 +43,8 @@ module _ (on : Bool) (rs : List Rec) (ok : Eligible on rs) where
   nothing_in : moments on rs 0 ≡ (λ _. false)
   nothing_in = fun_ext (λ s. now_is (moments on rs) rs (fresh on) empty (λ _. Nil) 0 (at_start on rs (set_rule.0 on rs)) s)
 
-  pub run-order : Order (read_all es unread).all passed.list
-  run-order = record {
+  pub run_order : Order (read_all es unread).all passed.list
+  run_order = record {
     each = λ i. elim (dec_lt i (read_all es unread).all.count) [
       | yes h ↦ passed.part.future i (omega arith) h ∙ rw (lt-ltb i (read_all es unread).all.count h)
       | no h ↦ passed.part.beyond i (omega arith) ∙ rw (le-ltb i (read_all es unread).all.count (omega arith))
@@ -53,27 +53,27 @@ module _ (on : Bool) (rs : List Rec) (ok : Eligible on rs) where
     answers = subst (λ S. Answers (read_all es unread).all S passed.list) nothing_in passed.part.answers;
   }
 
-  pub run-in-form : history_refusal file ≡ 0
-  run-in-form = not-refused es passed.in_place ok.few passed.ended
+  pub run_in_form : history_refusal file ≡ 0
+  run_in_form = not_refused es passed.in_place ok.few passed.ended
 
   -- the history has an order
-  pub run-has-order : Order (reading_of file).all passed.list
-  run-has-order = subst (λ R. Order R.all passed.list) (sym (reading-back es passed.in_place ok.few passed.ended)) run-order
+  pub run_has_order : Order (reading_of file).all passed.list
+  run_has_order = subst (λ R. Order R.all passed.list) (sym (reading_back es passed.in_place ok.few passed.ended)) run_order
 
   -- "A version 1 run of ours [..] must pass": whatever report the definition gives of its history
-  pub run-passes : (r : Judged) → Judgement file r → (r.refusal ≡ 0) × (r.accepted ≡ true)
-  run-passes r p = go (subst (λ k. JudgementBy k file r) run-in-form p)
+  pub run_passes : (r : Judged) → Judgement file r → (r.refusal ≡ 0) × (r.accepted ≡ true)
+  run_passes r p = go (subst (λ k. JudgementBy k file r) run_in_form p)
     where
       by : Verdict (reading_of file).all r → r.accepted ≡ true
       by (accepts l o a u) = a
-      by (rejects h a u) = absurd (h passed.list run-has-order)
+      by (rejects h a u) = absurd (h passed.list run_has_order)
 
       go : Decided (reading_of file).all r → (r.refusal ≡ 0) × (r.accepted ≡ true)
       go d = (d.number, by d.verdict)
 
   -- its numbers are bytes, where the list is no longer than a schedule can be
-  pub run-bytes : length rs ≤ 4096 → (j : ℕ) → get_or file j 0 < 256
-  run-bytes h = file_bytes es passed.in_place (omega (arith, events_few rs (fresh on)))
+  pub run_bytes : length rs ≤ 4096 → (j : ℕ) → get_or file j 0 < 256
+  run_bytes h = file_bytes es passed.in_place (omega (arith, events_few rs (fresh on)))
 
 -- ---- the run of a schedule file
 pub runs_pass : RunsPass
@@ -81,7 +81,7 @@ unfolding written
 runs_pass file one three few fin =
     let rs = records_of file (count_of file) in
     let ok : Eligible (stop_of file) rs = record { three = three; few = few; finished = subst (λ b. AllFinished b) (run_bench file) fin } in
-    record { rows = run_rows file one; judged = run-passes (stop_of file) rs ok }
+    record { rows = run_rows file one; judged = run_passes (stop_of file) rs ok }
 
 -- the history of every run has room
 pub room_enough : (count : ℕ) → Enough count (3 + 4 * count)

@@ -62,10 +62,10 @@ unfolding ite
 one_row file n b r a d c one e = rw (e, eq-eqb (version file) 1 one)
 
 module _ (file : List ℕ) where
-  pub bench-same : (rs : List Rec) (p : Progress) → p.refusal ≡ 0 → (walk file rs p).bench ≡ end_from rs p.bench
+  pub bench_same : (rs : List Rec) (p : Progress) → p.refusal ≡ 0 → (walk file rs p).bench ≡ end_from rs p.bench
   unfolding walk
-  bench-same [] p e = refl
-  bench-same (r ∷ rs) p e = go (record_step p.bench r.last r.first r.second r.extra) (did p.bench r.last r.first r.second r.extra) (advance_on file p r e) (λ q. bench-same rs q)
+  bench_same [] p e = refl
+  bench_same (r ∷ rs) p e = go (record_step p.bench r.last r.first r.second r.extra) (did p.bench r.last r.first r.second r.extra) (advance_on file p r e) (λ q. bench_same rs q)
     where
       go : (res : Result) → Did p.bench (r.first / 16) r.second (r.first % 16) res → advance file p r ≡ advance_by file p (r.first / 16) res
           → ((q : Progress) → q.refusal ≡ 0 → (walk file rs q).bench ≡ end_from rs q.bench) → (walk file rs (advance file p r)).bench ≡ end_by res p.bench (λ b'. end_from rs b')
@@ -96,7 +96,7 @@ pub run_rows : (file : List ℕ) → version file ≡ 1 → (ended file).rows �
 run_rows file one = ap (λ p. p.rows) (walk_is file (count_of file)) ∙ rows_same file one (records_of file (count_of file)) (begin (stop_of file)) refl
 
 pub run_bench : (file : List ℕ) → (ended file).bench ≡ end_from (records_of file (count_of file)) (fresh (stop_of file))
-run_bench file = ap (λ p. p.bench) (walk_is file (count_of file)) ∙ bench-same file (records_of file (count_of file)) (begin (stop_of file)) refl
+run_bench file = ap (λ p. p.bench) (walk_is file (count_of file)) ∙ bench_same file (records_of file (count_of file)) (begin (stop_of file)) refl
 
 -- ---- no more events than records
 pub records_length : (file : List ℕ) (k : ℕ) → length (records_of file k) ≡ k

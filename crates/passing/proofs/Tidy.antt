@@ -17,7 +17,7 @@ pub record Tidy (R : Reading) : Type 0 where
   pub apart : (t v i : ℕ) → R.busy t ≡ To i → R.busy v ≡ To i → t ≡ v
   pub running : (t i : ℕ) → R.busy t ≡ To i → R.finished i ≡ false
   pub begun : (j : ℕ) → R.finished j ≡ true → j < R.all.count
-  pub before : (i j : ℕ) → i < R.all.count → (R.all.operation i).finishedBefore j ≡ true → R.finished j ≡ true
+  pub before : (i j : ℕ) → i < R.all.count → (R.all.operation i).finished_before j ≡ true → R.finished j ≡ true
 
 pub tidy_unread : Tidy unread
 tidy_unread = record {
@@ -37,8 +37,8 @@ module _ (R : Reading) (e : Event) (tidy : Tidy R) (small : e.thread < 4) where
     | no q ↦ rw (ne_eqb t e.thread q) (λ z. inr (q, z))
   ]
 
-  pub tidy-begun : Tidy (begun e R)
-  tidy-begun = record {
+  pub tidy_begun : Tidy (begun e R)
+  tidy_begun = record {
     low = λ t i z. ⊎_elim (λ p. omega (arith, p.1)) (λ p. omega (arith, tidy.low t i p.1)) (private_new t i z);
     small = λ t i z. ⊎_elim (λ p. omega (arith, p.0)) (λ p. tidy.small t i p.1) (private_new t i z);
     apart = λ t v i z y. ⊎_elim
@@ -62,25 +62,25 @@ module _ (R : Reading) (e : Event) (tidy : Tidy R) (k : ℕ) (doing : R.busy e.t
   ]
 
   -- another thread's operation is another one
-  pub other-op : (t i : ℕ) → t ≢ e.thread → R.busy t ≡ To i → i ≢ k
-  other-op t i h z q = h (tidy.apart t e.thread i z (doing ∙ ap To (sym q)))
+  pub other_op : (t i : ℕ) → t ≢ e.thread → R.busy t ≡ To i → i ≢ k
+  other_op t i h z q = h (tidy.apart t e.thread i z (doing ∙ ap To (sym q)))
 
-  pub tidy-ended : Tidy (ended_by (To k) e R)
-  tidy-ended = record {
+  pub tidy_ended : Tidy (ended_by (To k) e R)
+  tidy_ended = record {
     low = λ t i z. tidy.low t i (was_open t i z).1;
     small = λ t i z. tidy.small t i (was_open t i z).1;
     apart = λ t v i z y. tidy.apart t v i (was_open t i z).1 (was_open v i y).1;
-    running = λ t i z. let w = was_open t i z in rw (ne_eqb i k (other-op t i w.0 w.1)) (tidy.running t i w.1);
+    running = λ t i z. let w = was_open t i z in rw (ne_eqb i k (other_op t i w.0 w.1)) (tidy.running t i w.1);
     begun = λ j. elim (j ==? k) [ yes q ↦ rw (eq-eqb j k q) (λ _. omega (arith, q, tidy.low e.thread k doing)) | no q ↦ rw (ne_eqb j k q) (tidy.begun j) ];
     before = λ i j h z. later j (tidy.before i j h (asked i j z));
   }
     where
-      asked : (i j : ℕ) → ((ended_by (To k) e R).all.operation i).finishedBefore j ≡ true → (R.all.operation i).finishedBefore j ≡ true
+      asked : (i j : ℕ) → ((ended_by (To k) e R).all.operation i).finished_before j ≡ true → (R.all.operation i).finished_before j ≡ true
       asked i j = elim (i ==? k) [ yes q ↦ rw (q, eq-eqb k k refl) (λ z. z) | no q ↦ rw (ne_eqb i k q) (λ z. z) ]
 
       later : (j : ℕ) → R.finished j ≡ true → upd R.finished k true j ≡ true
       later j z = elim (j ==? k) [ yes q ↦ rw (eq-eqb j k q) | no q ↦ rw (ne_eqb j k q) z ]
 
   -- it is closed then
-  pub closed-then : (t : ℕ) → (ended_by (To k) e R).busy t ≢ To k
-  closed-then t z = let w = was_open t k z in other-op t k w.0 w.1 refl
+  pub closed_then : (t : ℕ) → (ended_by (To k) e R).busy t ≢ To k
+  closed_then t z = let w = was_open t k z in other_op t k w.0 w.1 refl

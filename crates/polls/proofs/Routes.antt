@@ -35,7 +35,7 @@ use Rattle.polls.specs.Bound.{count, FewRoutes, LookupsEndSooner}
 use Rattle.polls.proofs.Counts.{one, count_suc, count_same, count_more, count_into}
 use Rattle.polls.proofs.Worth.{routes, closed, Worth, worths}
 use Rattle.polls.proofs.Rulers.{Ruler, Local}
-use Rattle.polls.proofs.Walks.{Ground, ground-next, ground-fresh, within}
+use Rattle.polls.proofs.Walks.{Ground, ground_next, ground_fresh, within}
 
 -- ---- at most 63 routes
 
@@ -76,22 +76,22 @@ count_split (suc n) p a = omega (arith, parts (p n) (a n), count_split n p a)
 
 module _ {w : World} {hist : Hist} (mem : Mem w hist) (s : Store) (en : w.nodes ≡ s.nodes) (eu : w.used ≡ s.used) (worth : Worth s)
     (linked : Linked 0 w) where
-  abbrev liveR : ℕ → Bool
-  liveR x = routes w.nodes x && alive (w.life x)
+  abbrev live_r : ℕ → Bool
+  live_r x = routes w.nodes x && alive (w.life x)
 
-  abbrev deadR : ℕ → Bool
-  deadR x = routes w.nodes x && not (alive (w.life x))
+  abbrev dead_r : ℕ → Bool
+  dead_r x = routes w.nodes x && not (alive (w.life x))
 
-  live_of : (x : ℕ) → liveR x ≡ true → (kind_of w x ≡ Route) × Live w x
+  live_of : (x : ℕ) → live_r x ≡ true → (kind_of w x ≡ Route) × Live w x
   live_of x e = let o = both _ _ e in (route_is _ o.0, is_live _ o.1)
 
   -- live routes have keys of their own
-  apart : (x y : ℕ) → liveR x ≡ true → liveR y ≡ true → x < y → key_of w x ≡ key_of w y → ⊥
+  apart : (x y : ℕ) → live_r x ≡ true → live_r y ≡ true → x < y → key_of w x ≡ key_of w y → ⊥
   apart x y e i l q = let a = live_of x e in let c = live_of y i in let k = mem.routes.key y c.0 (lives c.1) in
       elim (mem.sep.young x y a.0 a.1 (lives c.1) l) [ inl z ↦ omega arith | inr z ↦ omega arith ]
 
-  live_few : count w.used liveR ≤ count 64 worth.ever
-  live_few = count_into w.used 64 liveR worth.ever (key_of w)
+  live_few : count w.used live_r ≤ count 64 worth.ever
+  live_few = count_into w.used 64 live_r worth.ever (key_of w)
       (λ x _ e. let a = live_of x e in let k = mem.routes.key x a.0 (lives a.1) in let r = mem.shape.range x (lives a.1) in
       (omega arith, ap (λ v. worth.ever (v x).key) en ∙ worth.keys x (ap (λ v. (v x).kind) (sym en) ∙ a.0)))
       (λ x y _ _ e i q. elim (dec_lt x y) [ yes l ↦ absurd (apart x y e i l q) | no l ↦ elim (dec_lt y x) [ yes l' ↦ absurd (apart y x i e l' (sym q)) | no l' ↦ omega arith ] ])
@@ -103,7 +103,7 @@ module _ {w : World} {hist : Hist} (mem : Mem w hist) (s : Store) (en : w.nodes 
     d : Bool
     gone : Gone w x k m d
 
-  dead_of : (x : ℕ) → x < w.used → deadR x ≡ true → Buried x
+  dead_of : (x : ℕ) → x < w.used → dead_r x ≡ true → Buried x
   dead_of x l e = let o = both _ _ e in go (linked x (omega arith) l (route_is _ o.0)) (route_is _ o.0) o.1
     where
       go : Born w x → kind_of w x ≡ Route → not (alive (w.life x)) ≡ true → Buried x
@@ -113,11 +113,11 @@ module _ {w : World} {hist : Hist} (mem : Mem w hist) (s : Store) (en : w.nodes 
   closed_main : (m : ℕ) → kind_of w m ≡ Main → (w.nodes m).union ≢ 0 → closed w.nodes m ≡ true
   closed_main m e h = rw (e, ne_eqb (w.nodes m).union 0 h)
 
-  dead_few : count w.used deadR ≤ count w.used (closed w.nodes)
-  dead_few = count_into w.used w.used deadR (closed w.nodes) (λ x. target (w.nodes x).mark)
+  dead_few : count w.used dead_r ≤ count w.used (closed w.nodes)
+  dead_few = count_into w.used w.used dead_r (closed w.nodes) (λ x. target (w.nodes x).mark)
       (λ x l e. let g = dead_of x l e in let z : target (w.nodes x).mark ≡ g.m = ap target g.gone.mark in let q = route_is _ (both _ _ e).0 in
       let o = mem.marks.main x g.m q (linked x (omega arith) l q) g.gone.mark in let (P, R, d, j) = mem.mains.joint g.m o.0 o.1 g.gone.closed in
-      rw z (mem.shape.low g.m o.1, closed_main g.m o.0 (λ u. worth.first (ap (λ v. (v 0).kind) (sym en) ∙ ap (λ v. (w.nodes v).kind) (sym u) ∙ j.kind-u))))
+      rw z (mem.shape.low g.m o.1, closed_main g.m o.0 (λ u. worth.first (ap (λ v. (v 0).kind) (sym en) ∙ ap (λ v. (w.nodes v).kind) (sym u) ∙ j.kind_u))))
       (λ x y l l' e i q. let g = dead_of x l e in let h = dead_of y l' i in
       same x y g.m h.m (sym (ap target g.gone.mark) ∙ q ∙ ap target h.gone.mark) g.gone.parent h.gone.parent)
     where
@@ -182,8 +182,8 @@ pub few_routes : FewRoutes
 few_routes b z = let g = (ground b z).1 in few b g.plain g.kept g.fits g.also
   where
     ground : (b : Bench) → Reachable b → (on : Bool) × Ground 63 upto upto_local Worth worth_step rising on b
-    ground b (begins on e) = (on, subst (Ground 63 upto upto_local Worth worth_step rising on) (sym e) (ground-fresh 63 upto upto_local Worth worth_step rising worth_fresh on))
-    ground b (past c r w z e) = let (on, g) = ground c z in (on, ground-next 63 upto upto_local Worth worth_step rising on c b r w g e)
+    ground b (begins on e) = (on, subst (Ground 63 upto upto_local Worth worth_step rising on) (sym e) (ground_fresh 63 upto upto_local Worth worth_step rising worth_fresh on))
+    ground b (past c r w z e) = let (on, g) = ground c z in (on, ground_next 63 upto upto_local Worth worth_step rising on c b r w g e)
 
 pub lookups_end_sooner : LookupsEndSooner
 lookups_end_sooner = within 63 upto upto_local Worth worth_step rising worth_fresh

@@ -61,6 +61,6 @@ module _ (s : Store) where
     base = λ v k l c m _ _ y h. hung v s (based k l c m) s.used y (new_kind s.nodes s.used y _ h);
     fork = λ v q _ _ _ y h. hung v s (trio _ _) s.used y (trio_kind _ _ y h);
     commit = λ m l n g o _ y h. kind_keeps (united l m n).nodes m y _ refl ∙ new_kind s.nodes s.used y _ h;
-    ask-old = λ v l x a u k _ y h. hung v s (ranged l x a u k false) s.used y (new_kind s.nodes s.used y _ h);
-    ask-new = λ v l x a u _ _ y h. hung v s (ranged l x a u s.shown true) s.used y (new_kind s.nodes s.used y _ h);
+    ask_old = λ v l x a u k _ y h. hung v s (ranged l x a u k false) s.used y (new_kind s.nodes s.used y _ h);
+    ask_new = λ v l x a u _ _ y h. hung v s (ranged l x a u s.shown true) s.used y (new_kind s.nodes s.used y _ h);
   }

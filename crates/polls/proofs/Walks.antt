@@ -75,8 +75,8 @@ module _ (top : ℕ) (mark : Nodes → ℕ → ℕ) (local : Local mark) (Also :
   also_taken b t Full a h = tt
   also_taken b t NoStore a h = tt
 
-  pub ground-next : (on : Bool) (b b' : Bench) (r : Rec) (w : Row) → Ground on b → step_of b r ≡ carried b' w → Ground on b'
-  ground-next on b b' r w g e = record {
+  pub ground_next : (on : Bool) (b b' : Bench) (r : Rec) (w : Row) → Ground on b → step_of b r ≡ carried b' w → Ground on b'
+  ground_next on b b' r w g e = record {
     plain = _;
     kept = (kept_next b b' g.plain r w g.kept e).0;
     fits = subst Keeps e (record_keeps b r.last r.first r.second r.extra g.fits);
@@ -146,28 +146,28 @@ module _ (top : ℕ) (mark : Nodes → ℕ → ℕ) (local : Local mark) (Also :
     knows : (n : ℕ) → th.place ≡ n → Knows (place_of n)
     knows n e = subst (λ p. Knows (place_of p)) e ((kept_held g.kept).knows t)
 
-    root-low : b.store.root < b.store.used
-    root-low = let m = (kept_held g.kept).mem in m.shape.low _ (lives m.shape.root_live)
+    root_low : b.store.root < b.store.used
+    root_low = let m = (kept_held g.kept).mem in m.shape.low _ (lives m.shape.root_live)
 
     -- the node noted at 4 has its number
-    halt-low : th.place ≡ 4 → th.route < b.store.used
-    halt-low e = let k : Knows p4 = knows 4 e in (kept_held g.kept).mem.shape.low _ k.0.born
+    halt_low : th.place ≡ 4 → th.route < b.store.used
+    halt_low e = let k : Knows p4 = knows 4 e in (kept_held g.kept).mem.shape.low _ k.0.born
 
     module _ (here : th.place ≡ 2) where
       know : Knows p2
       know = knows 2 here
 
-      route-low : th.route < b.store.used
-      route-low = (kept_held g.kept).mem.shape.low _ know.0.born
+      route_low : th.route < b.store.used
+      route_low = (kept_held g.kept).mem.shape.low _ know.0.born
 
-      most-read : mark b.store.nodes th.route ≤ top
-      most-read = rule.most th.route route-low know.0.kind
+      most_read : mark b.store.nodes th.route ≤ top
+      most_read = rule.most th.route route_low know.0.kind
 
       abbrev child : ℕ
       child = child_for th.station ((sight_of b.store).nodes th.route)
 
-      next-route : (x : ℕ) → x ≡ child → (b.store.nodes x).kind ≡ Route → mark b.store.nodes th.route < mark b.store.nodes x
-      next-route x q e = let m = (kept_held g.kept).mem in let side = ltb th.station (b.store.nodes th.route).key in
+      next_route : (x : ℕ) → x ≡ child → (b.store.nodes x).kind ≡ Route → mark b.store.nodes th.route < mark b.store.nodes x
+      next_route x q e = let m = (kept_held g.kept).mem in let side = ltb th.station (b.store.nodes th.route).key in
           rule.more th.route x (rw q (m.routes.rise th.route side know.0.kind know.0.born (rw q at e)))
           (rw q (m.shape.low _ (m.routes.kids th.route side know.0.kind know.0.born))) know.0.kind e
 
@@ -182,26 +182,26 @@ module _ (top : ℕ) (mark : Nodes → ℕ → ℕ) (local : Local mark) (Also :
       reads_on : (k : ℕ) → th.action ≡ Lookup → (on ≡ true → th.read < 8) → k ≤ mark b.store.nodes th.route → (v : Bool) → b.store.stop.on ≡ v
           → Goes on b.store k (followed v (sight_of b.store).nodes now child)
       unfolding followed
-      reads_on k a r z false e = arrives on b.store now k child a (λ o. absurd (true≢false (sym o ∙ sym g.tally.switch ∙ e))) (λ q. omega (arith, next-route _ refl q))
+      reads_on k a r z false e = arrives on b.store now k child a (λ o. absurd (true≢false (sym o ∙ sym g.tally.switch ∙ e))) (λ q. omega (arith, next_route _ refl q))
       reads_on k a r z true e = either on b.store now k _ _ _
-          (λ h. arrives on b.store now k child a (λ _. ltb-true now.read 8 h) (λ q. omega (arith, next-route _ refl q)))
+          (λ h. arrives on b.store now k child a (λ _. ltb-true now.read 8 h) (λ q. omega (arith, next_route _ refl q)))
           (λ h. either on b.store now k _ _ _
-          (λ _. halts refl is-on (omega (arith, most-read, z)) (λ q. omega (arith, next-route _ refl q)))
-          (λ h8. absurd (omega (arith, r is-on, many_read th.read (over now.read (noted e) (ltb-false now.read 8 h) (eqb-false now.read 8 h8))))))
+          (λ _. halts refl is_on (omega (arith, most_read, z)) (λ q. omega (arith, next_route _ refl q)))
+          (λ h8. absurd (omega (arith, r is_on, many_read th.read (over now.read (noted e) (ltb-false now.read 8 h) (eqb-false now.read 8 h8))))))
         where
-          is-on : on ≡ true
-          is-on = sym g.tally.switch ∙ e
+          is_on : on ≡ true
+          is_on = sym g.tally.switch ∙ e
 
           over : (m : ℕ) → m ≡ one_more th.read → 8 ≤ m → m ≢ 8 → 8 < one_more th.read
           over m i l h = omega (arith, i, l, h)
 
-      counted-on : (k : ℕ) → on ≡ true → 7 < th.read → k ≤ suc (mark b.store.nodes th.route) → (v : Bool) → b.store.stop.on ≡ v
+      counted_on : (k : ℕ) → on ≡ true → 7 < th.read → k ≤ suc (mark b.store.nodes th.route) → (v : Bool) → b.store.stop.on ≡ v
           → Goes on b.store k (followed v (sight_of b.store).nodes now child)
       unfolding followed
-      counted-on k o r z false e = absurd (true≢false (sym o ∙ sym g.tally.switch ∙ e))
-      counted-on k o r z true e = either on b.store now k _ _ _ (λ h. absurd (many (omega (arith, ltb-true now.read 8 h, noted e))))
+      counted_on k o r z false e = absurd (true≢false (sym o ∙ sym g.tally.switch ∙ e))
+      counted_on k o r z true e = either on b.store now k _ _ _ (λ h. absurd (many (omega (arith, ltb-true now.read 8 h, noted e))))
           (λ h. either on b.store now k _ _ _ (λ h8. absurd (many (omega (arith, eqb-true now.read 8 h8, noted e))))
-          (λ _. goes_on_lem on b.store now k Quiet child o (omega (arith, ltb-false now.read 8 h)) (λ q. omega (arith, next-route _ refl q, z)) (omega (arith, most-read, z))))
+          (λ _. goes_on_lem on b.store now k Quiet child o (omega (arith, ltb-false now.read 8 h)) (λ q. omega (arith, next_route _ refl q, z)) (omega (arith, most_read, z))))
         where
           many : one_more th.read ≤ 8 → ⊥
           many l = omega (arith, r, few_read th.read l)
@@ -210,22 +210,22 @@ module _ (top : ℕ) (mark : Nodes → ℕ → ℕ) (local : Local mark) (Also :
     abbrev Stepping : ℕ → ℕ → Type 0
     Stepping k n = Goes on b.store k (step (place_of n) (sight_of b.store) th)
 
-    walks-on : (k : ℕ) → th.action ≡ Lookup → Going on b.store.nodes th k → Stepping k th.place
+    walks_on : (k : ℕ) → th.action ≡ Lookup → Going on b.store.nodes th k → Stepping k th.place
     unfolding step
-    walks-on k a (begins e z) = rw z (subst (Stepping 0) (sym e)
-        (arrives on b.store (reading b.store.stop.on 0 th) 0 b.store.root a (λ o. rw (g.tally.switch ∙ o) (omega arith)) (rule.first _ root-low)))
-    walks-on k a (walks e r z) = subst (Stepping k) (sym e) (reads_on e k a r z b.store.stop.on refl)
-    walks-on k a (halts e o l h) = subst (Stepping k) (sym e) (goes_on_lem on b.store th k Raise th.route o ((g.tally.notes t).ready e) h (omega arith))
-    walks-on k a (passes e o r z) = subst (Stepping k) (sym e) (counted-on e k o r z b.store.stop.on refl)
-    walks-on k a (leaves e o l) = subst (Stepping k) (sym e) (lets_go on b.store th k th.action a)
+    walks_on k a (begins e z) = rw z (subst (Stepping 0) (sym e)
+        (arrives on b.store (reading b.store.stop.on 0 th) 0 b.store.root a (λ o. rw (g.tally.switch ∙ o) (omega arith)) (rule.first _ root_low)))
+    walks_on k a (walks e r z) = subst (Stepping k) (sym e) (reads_on e k a r z b.store.stop.on refl)
+    walks_on k a (halts e o l h) = subst (Stepping k) (sym e) (goes_on_lem on b.store th k Raise th.route o ((g.tally.notes t).ready e) h (omega arith))
+    walks_on k a (passes e o r z) = subst (Stepping k) (sym e) (counted_on e k o r z b.store.stop.on refl)
+    walks_on k a (leaves e o l) = subst (Stepping k) (sym e) (lets_go on b.store th k th.action a)
 
     -- so it has made fewer steps than that
-    few-steps : (k : ℕ) → Going on b.store.nodes th k → k < steps top on
-    few-steps k (begins e z) = omega (arith, steps_top on)
-    few-steps k (walks e r z) = omega (arith, steps_top on, most-read e)
-    few-steps k (halts e o l h) = rw o (omega arith)
-    few-steps k (passes e o r z) = rw o (omega (arith, most-read e))
-    few-steps k (leaves e o l) = rw o (omega arith)
+    few_steps : (k : ℕ) → Going on b.store.nodes th k → k < steps top on
+    few_steps k (begins e z) = omega (arith, steps_top on)
+    few_steps k (walks e r z) = omega (arith, steps_top on, most_read e)
+    few_steps k (halts e o l h) = rw o (omega arith)
+    few_steps k (passes e o r z) = rw o (omega (arith, most_read e))
+    few_steps k (leaves e o l) = rw o (omega arith)
 
     busy : (k : ℕ) → Going on b.store.nodes th k → is_idle th ≡ false
     busy k (begins e z) = rw e
@@ -243,14 +243,14 @@ module _ (top : ℕ) (mark : Nodes → ℕ → ℕ) (local : Local mark) (Also :
     accepted k NoStore w = w
 
     -- another thread's effect leaves it
-    same-mark : (n' : Nodes) (x : ℕ) → x < b.store.used → ((y : ℕ) → y < b.store.used → (n' y).kind ≡ (b.store.nodes y).kind) → mark n' x ≡ mark b.store.nodes x
-    same-mark n' x l h = local b.store.nodes n' x (λ y i. h y (omega arith))
+    same_mark : (n' : Nodes) (x : ℕ) → x < b.store.used → ((y : ℕ) → y < b.store.used → (n' y).kind ≡ (b.store.nodes y).kind) → mark n' x ≡ mark b.store.nodes x
+    same_mark n' x l h = local b.store.nodes n' x (λ y i. h y (omega arith))
 
     stays : (k : ℕ) (e : Effect) → Alike b.store e → Going on b.store.nodes th k → Going on (perform e b.store).nodes th k
     stays k e a (begins p z) = begins p z
-    stays k e a (walks p r z) = walks p r (rw (same-mark (perform e b.store).nodes th.route (route-low p) a) z)
-    stays k e a (halts p o l h) = halts p o l (λ q. rw (same-mark (perform e b.store).nodes th.route (halt-low p) a) (h (sym (a _ (halt-low p)) ∙ q)))
-    stays k e a (passes p o r z) = passes p o r (rw (same-mark (perform e b.store).nodes th.route (route-low p) a) z)
+    stays k e a (walks p r z) = walks p r (rw (same_mark (perform e b.store).nodes th.route (route_low p) a) z)
+    stays k e a (halts p o l h) = halts p o l (λ q. rw (same_mark (perform e b.store).nodes th.route (halt_low p) a) (h (sym (a _ (halt_low p)) ∙ q)))
+    stays k e a (passes p o r z) = passes p o r (rw (same_mark (perform e b.store).nodes th.route (route_low p) a) z)
     stays k e a (leaves p o l) = leaves p o l
 
   -- ---- all open lookups, past one record
@@ -286,18 +286,18 @@ module _ (top : ℕ) (mark : Nodes → ℕ → ℕ) (local : Local mark) (Also :
     over a d x none k e = clash (cc)
     over a d x (made j) k e = clash (cc)
 
-    turn-held : (o : Turn) → Same (b.threads u) o → Each (Alike b.store) o → ((k : ℕ) → c u ≡ made k → Goes on b.store k o) → HeldBy on 0 u c (taken b u o)
+    turn_held : (o : Turn) → Same (b.threads u) o → Each (Alike b.store) o → ((k : ℕ) → c u ≡ made k → Goes on b.store k o) → HeldBy on 0 u c (taken b u o)
     unfolding taken
-    turn-held (Moves th' e) m a w = onto e th' _ a (further (perform e b.store) th' (c u) (λ j i. (m.0 ∙ (held u j i).act, w j i)))
-    turn-held (Finishes e r) m a w = onto e idle _ a (λ k i. absurd (over _ _ _ (c u) k i))
-    turn-held (Finds x) m a w = onto Quiet idle _ (λ _ _. refl) (λ k i. absurd (over _ _ _ (c u) k i))
-    turn-held Full m a w = tt
-    turn-held NoStore m a w = tt
+    turn_held (Moves th' e) m a w = onto e th' _ a (further (perform e b.store) th' (c u) (λ j i. (m.0 ∙ (held u j i).act, w j i)))
+    turn_held (Finishes e r) m a w = onto e idle _ a (λ k i. absurd (over _ _ _ (c u) k i))
+    turn_held (Finds x) m a w = onto Quiet idle _ (λ _ _. refl) (λ k i. absurd (over _ _ _ (c u) k i))
+    turn_held Full m a w = tt
+    turn_held NoStore m a w = tt
 
-    step-held : HeldBy on 0 u c (taken b u (step (place_of (b.threads u).place) (sight_of b.store) (b.threads u)))
-    step-held = turn-held _ (same_op (sight_of b.store) (b.threads u) (place_of (b.threads u).place))
+    step_held : HeldBy on 0 u c (taken b u (step (place_of (b.threads u).place) (sight_of b.store) (b.threads u)))
+    step_held = turn_held _ (same_op (sight_of b.store) (b.threads u) (place_of (b.threads u).place))
         (each b.store (place_of (b.threads u).place) (b.threads u) _ (kinds b.store _ _))
-        (λ k i. walks-on on b g u k (held u k i).act (held u k i).going)
+        (λ k i. walks_on on b g u k (held u k i).act (held u k i).going)
 
     pick : (n : ℕ) (v : Bool) (r r' : Result) → HeldBy on n u c r → HeldBy on n u c r' → HeldBy on n u c (ite v r r')
     unfolding ite
@@ -305,29 +305,29 @@ module _ (top : ℕ) (mark : Nodes → ℕ → ℕ) (local : Local mark) (Also :
     pick n false r r' p q = q
 
     -- a start: of a lookup, or of anything else
-    looks-up : (y d : ℕ) → HeldBy on 1 u c (started b u Lookup y d)
+    looks_up : (y d : ℕ) → HeldBy on 1 u c (started b u Lookup y d)
     unfolding started
-    looks-up y d = pick 1 _ _ _ tt (pick 1 _ _ _ (pick 1 _ _ _ (onto Quiet (begun Lookup y d 1) (made 0) (λ _ _. refl) (λ k e. (refl, let z : 0 ≡ k = cc in begins refl (sym z)))) tt) tt)
+    looks_up y d = pick 1 _ _ _ tt (pick 1 _ _ _ (pick 1 _ _ _ (onto Quiet (begun Lookup y d 1) (made 0) (λ _ _. refl) (λ k e. (refl, let z : 0 ≡ k = cc in begins refl (sym z)))) tt) tt)
 
-    begins-else : (n : ℕ) (th' : Thread) → HeldBy on (suc (suc n)) u c (carried (bench b.store (upd b.threads u th')) no_row)
-    begins-else n th' = onto Quiet th' none (λ _ _. refl) (λ k e. absurd (clash (cc)))
+    begins_else : (n : ℕ) (th' : Thread) → HeldBy on (suc (suc n)) u c (carried (bench b.store (upd b.threads u th')) no_row)
+    begins_else n th' = onto Quiet th' none (λ _ _. refl) (λ k e. absurd (clash (cc)))
 
-    starts-else : (n : ℕ) (a : Action) (y d : ℕ) → HeldBy on (suc (suc n)) u c (started b u a y d)
+    starts_else : (n : ℕ) (a : Action) (y d : ℕ) → HeldBy on (suc (suc n)) u c (started b u a y d)
     unfolding started
-    starts-else n a y d = pick (suc (suc n)) _ _ _ tt (pick (suc (suc n)) _ _ _ (pick (suc (suc n)) _ _ _ (begins-else n _) tt) tt)
+    starts_else n a y d = pick (suc (suc n)) _ _ _ tt (pick (suc (suc n)) _ _ _ (pick (suc (suc n)) _ _ _ (begins_else n _) tt) tt)
 
     asks : (n y d : ℕ) → HeldBy on (suc (suc n)) u c (asked b u y d)
     unfolding asked
-    asks n y d = pick (suc (suc n)) _ _ _ tt (pick (suc (suc n)) _ _ _ tt (pick (suc (suc n)) _ _ _ tt (pick (suc (suc n)) _ _ _ (begins-else n _) tt)))
+    asks n y d = pick (suc (suc n)) _ _ _ tt (pick (suc (suc n)) _ _ _ tt (pick (suc (suc n)) _ _ _ tt (pick (suc (suc n)) _ _ _ (begins_else n _) tt)))
 
     acts : (n y d : ℕ) → HeldBy on n u c (acted n b u y d)
     unfolding stepped
-    acts zero y d = pick 0 _ _ _ (pick 0 _ _ _ (pick 0 _ _ _ tt step-held) tt) tt
-    acts (suc zero) y d = looks-up y d
-    acts (suc (suc zero)) y d = starts-else 0 Insert y d
-    acts (suc (suc (suc zero))) y d = starts-else 1 Remove y d
-    acts (suc (suc (suc (suc zero)))) y d = starts-else 2 Split y d
-    acts (suc (suc (suc (suc (suc zero))))) y d = starts-else 3 Join y d
+    acts zero y d = pick 0 _ _ _ (pick 0 _ _ _ (pick 0 _ _ _ tt step_held) tt) tt
+    acts (suc zero) y d = looks_up y d
+    acts (suc (suc zero)) y d = starts_else 0 Insert y d
+    acts (suc (suc (suc zero))) y d = starts_else 1 Remove y d
+    acts (suc (suc (suc (suc zero)))) y d = starts_else 2 Split y d
+    acts (suc (suc (suc (suc (suc zero))))) y d = starts_else 3 Join y d
     acts (suc (suc (suc (suc (suc (suc zero)))))) y d = asks 4 y d
     acts (suc (suc (suc (suc (suc (suc (suc _))))))) y d = tt
 
@@ -344,13 +344,13 @@ module _ (top : ℕ) (mark : Nodes → ℕ → ℕ) (local : Local mark) (Also :
 
   prompt : (on : Bool) (b : Bench) (c : ℕ → Poll) → Ground on b → Held on b c → Prompt (steps top on) b c
   prompt on b c g h t k e = let o = h t k e in (
-    few-steps on b g t k o.going,
-    λ l. subst Accepted (sym (step_record b l t o.low (busy on b g t k o.going))) (accepted on b g t k _ (walks-on on b g t k o.act o.going)),
+    few_steps on b g t k o.going,
+    λ l. subst Accepted (sym (step_record b l t o.low (busy on b g t k o.going))) (accepted on b g t k _ (walks_on on b g t k o.act o.going)),
   )
 
   along : (on : Bool) (rs : List Rec) (b : Bench) (c : ℕ → Poll) → Ground on b → Held on b c → Within (steps top on) rs b c
   along on [] b c g h = prompt on b c g h
-  along on (r ∷ rs) b c g h = (prompt on b c g h, go (step_of b r) refl (held_next on b c r g h) (λ b' w e. along on rs b' (counted r w c) (ground-next on b b' r w g e)))
+  along on (r ∷ rs) b c g h = (prompt on b c g h, go (step_of b r) refl (held_next on b c r g h) (λ b' w e. along on rs b' (counted r w c) (ground_next on b b' r w g e)))
     where
       go : (res : Result) → step_of b r ≡ res → HeldBy on (r.first % 16) (r.first / 16) c res
           → ((b' : Bench) (w : Row) → step_of b r ≡ carried b' w → Held on b' (counted r w c) → Within (steps top on) rs b' (counted r w c))
@@ -369,15 +369,15 @@ module _ (top : ℕ) (mark : Nodes → ℕ → ℕ) (local : Local mark) (Also :
     where
       inner : (res : Result) → step_of p.bench r ≡ res → HeldBy on (r.first % 16) (r.first / 16) c res → Stands on (advance_by file p (r.first / 16) res).bench (told res r c)
       inner (refused k) e h = z
-      inner (carried b w) e h = record { ground = ground-next on p.bench b r w z.ground e; held = h }
+      inner (carried b w) e h = record { ground = ground_next on p.bench b r w z.ground e; held = h }
 
       outer : (v : Bool) → Stands on (ite v (advance_by file p (r.first / 16) (step_of p.bench r)) p).bench (ite v (told (step_of p.bench r) r c) c)
       outer true = inner (step_of p.bench r) refl (held_next on p.bench c r z.ground z.held)
       outer false = z
 
   module _ (also-fresh : (on : Bool) → Also (fresh on).store) where
-    pub ground-fresh : (on : Bool) → Ground on (fresh on)
-    ground-fresh on = record {
+    pub ground_fresh : (on : Bool) → Ground on (fresh on)
+    ground_fresh on = record {
       plain = empty;
       kept = kept_fresh on;
       fits = record { numbers = omega arith; stores = omega arith; some = omega arith; gap = λ x l e. absurd (clash (cc)) };
@@ -389,10 +389,10 @@ module _ (top : ℕ) (mark : Nodes → ℕ → ℕ) (local : Local mark) (Also :
     none_open : (on : Bool) → Held on (fresh on) (λ _. none)
     none_open on t k e = absurd (clash (cc))
 
-    by-file : (file : List ℕ) (k : ℕ) → Stands (stop_of file) (after file k).bench (polls_of file k)
+    by_file : (file : List ℕ) (k : ℕ) → Stands (stop_of file) (after file k).bench (polls_of file k)
     unfolding after polls_of
-    by-file file zero = record { ground = ground-fresh (stop_of file); held = none_open (stop_of file) }
-    by-file file (suc k) = stands_next file (stop_of file) (after file k) (polls_of file k) (record_at file k) (by-file file k)
+    by_file file zero = record { ground = ground_fresh (stop_of file); held = none_open (stop_of file) }
+    by_file file (suc k) = stands_next file (stop_of file) (after file k) (polls_of file k) (record_at file k) (by_file file k)
 
     pub within : LookupsWithin (steps top)
-    within = (λ on rs. along on rs (fresh on) (λ _. none) (ground-fresh on) (none_open on), λ file k. let z = by-file file k in prompt (stop_of file) _ _ z.ground z.held)
+    within = (λ on rs. along on rs (fresh on) (λ _. none) (ground_fresh on) (none_open on), λ file k. let z = by_file file k in prompt (stop_of file) _ _ z.ground z.held)

@@ -227,14 +227,14 @@ module _ (s : Store) (m n o : ℕ) (pr g : Link) where
     stocks = λ x st e. which x (λ u. has u.container.set st ≡ true → w.ever st ≡ true)
         (λ i. let (y, i') = both s m n st i in w.stocks y st i') (w.stocks x st) (ap (λ c. has c st) (sym (same_box x)) ∙ e);
     keys = λ x e. ap w.ever (same_key x) ∙ which x (λ u. u.kind ≡ Route → w.ever u.key ≡ true) (λ i. absurd (clash (cc))) (w.keys x) (sym (same_kind x) ∙ e);
-    sum = omega (arith, w.sum, routes-same, closed-more);
+    sum = omega (arith, w.sum, routes_same, closed_more);
   }
     where
-      routes-same : count (suc s.used) (routes done) ≡ count s.used (routes s.nodes)
-      routes-same = count_same (suc s.used) (routes done) (routes pushed) (λ x _. ap is_route (same_kind x)) ∙ old_count s v (λ u. is_route u.kind) refl
+      routes_same : count (suc s.used) (routes done) ≡ count s.used (routes s.nodes)
+      routes_same = count_same (suc s.used) (routes done) (routes pushed) (λ x _. ap is_route (same_kind x)) ∙ old_count s v (λ u. is_route u.kind) refl
 
-      closed-more : count (suc s.used) (closed done) ≤ suc (count s.used (closed s.nodes))
-      closed-more = omega (
+      closed_more : count (suc s.used) (closed done) ≤ suc (count s.used (closed s.nodes))
+      closed_more = omega (
         arith,
         count_le (suc s.used) (closed done) (upd (closed pushed) m true) (λ x _. elim (x ==? m) [ yes q ↦ rw (eq-eqb x m q) (λ _. refl) | no q ↦ rw (ne_eqb x m q) (λ e. e) ]),
         count_upd (suc s.used) m (closed pushed),
@@ -279,11 +279,11 @@ worths s p th z two w = record {
       hung_worth v s.used (trio s (split_key c.set) c) (fork_worth s (split_key c.set) c z w (λ st j. w.stocks th.base st (lower_part c.set st t j))
       (λ st j. w.stocks th.base st (upper_part c.set st t j)) (w.stocks th.base _ (split_key_lem c.set t).0));
   commit = λ m l n g o _. commit_worth s m n o l g z w;
-  ask-old = λ v l y a u k _. hung_worth v s.used (ranged s l y a u k false)
-      (same_worth (push s.used (new_range l (s.nodes y).container a u k) s) _ refl (alike_self _) (asked-worth l y a u k));
-  ask-new = λ v l y a u _ _. hung_worth v s.used (ranged s l y a u s.shown true)
-      (same_worth (push s.used (new_range l (s.nodes y).container a u s.shown) s) _ refl (alike_self _) (asked-worth l y a u s.shown));
+  ask_old = λ v l y a u k _. hung_worth v s.used (ranged s l y a u k false)
+      (same_worth (push s.used (new_range l (s.nodes y).container a u k) s) _ refl (alike_self _) (asked_worth l y a u k));
+  ask_new = λ v l y a u _ _. hung_worth v s.used (ranged s l y a u s.shown true)
+      (same_worth (push s.used (new_range l (s.nodes y).container a u s.shown) s) _ refl (alike_self _) (asked_worth l y a u s.shown));
 }
   where
-    asked-worth : (l : Link) (y a u k : ℕ) → Worth (push s.used (new_range l (s.nodes y).container a u k) s)
-    asked-worth l y a u k = push_worth s (new_range l (s.nodes y).container a u k) 0 z refl refl (λ st i. inl (y, i)) w
+    asked_worth : (l : Link) (y a u k : ℕ) → Worth (push s.used (new_range l (s.nodes y).container a u k) s)
+    asked_worth l y a u k = push_worth s (new_range l (s.nodes y).container a u k) 0 z refl refl (λ st i. inl (y, i)) w

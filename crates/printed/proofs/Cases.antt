@@ -22,29 +22,29 @@ use Rattle.buffer.proofs.Laws.{joined, ended}
 -- ---- the word for an action
 
 module _ (p : Page) {a : ℕ} where
-  pub word-lookup : {q r : Page} → a ≡ 1 → q ≡ put_all p (108 ∷ 111 ∷ 111 ∷ 107 ∷ []) → r ≡ put_all q (117 ∷ 112 ∷ []) → r ≡ put_all p (action_word a)
+  pub word_lookup : {q r : Page} → a ≡ 1 → q ≡ put_all p (108 ∷ 111 ∷ 111 ∷ 107 ∷ []) → r ≡ put_all q (117 ∷ 112 ∷ []) → r ≡ put_all p (action_word a)
   unfolding action_word ite
-  word-lookup h e f = rw h (joined p (108 ∷ 111 ∷ 111 ∷ 107 ∷ []) (117 ∷ 112 ∷ []) e f)
+  word_lookup h e f = rw h (joined p (108 ∷ 111 ∷ 111 ∷ 107 ∷ []) (117 ∷ 112 ∷ []) e f)
 
-  pub word-insert : {q r : Page} → a ≡ 2 → q ≡ put_all p (105 ∷ 110 ∷ 115 ∷ 101 ∷ []) → r ≡ put_all q (114 ∷ 116 ∷ []) → r ≡ put_all p (action_word a)
+  pub word_insert : {q r : Page} → a ≡ 2 → q ≡ put_all p (105 ∷ 110 ∷ 115 ∷ 101 ∷ []) → r ≡ put_all q (114 ∷ 116 ∷ []) → r ≡ put_all p (action_word a)
   unfolding action_word ite
-  word-insert h e f = rw h (joined p (105 ∷ 110 ∷ 115 ∷ 101 ∷ []) (114 ∷ 116 ∷ []) e f)
+  word_insert h e f = rw h (joined p (105 ∷ 110 ∷ 115 ∷ 101 ∷ []) (114 ∷ 116 ∷ []) e f)
 
-  pub word-remove : {q r : Page} → a ≡ 3 → q ≡ put_all p (114 ∷ 101 ∷ 109 ∷ 111 ∷ []) → r ≡ put_all q (118 ∷ 101 ∷ []) → r ≡ put_all p (action_word a)
+  pub word_remove : {q r : Page} → a ≡ 3 → q ≡ put_all p (114 ∷ 101 ∷ 109 ∷ 111 ∷ []) → r ≡ put_all q (118 ∷ 101 ∷ []) → r ≡ put_all p (action_word a)
   unfolding action_word ite
-  word-remove h e f = rw h (joined p (114 ∷ 101 ∷ 109 ∷ 111 ∷ []) (118 ∷ 101 ∷ []) e f)
+  word_remove h e f = rw h (joined p (114 ∷ 101 ∷ 109 ∷ 111 ∷ []) (118 ∷ 101 ∷ []) e f)
 
   pub word_split : {q r : Page} → a ≡ 4 → q ≡ put_all p (115 ∷ 112 ∷ 108 ∷ 105 ∷ []) → r ≡ put q 116 → r ≡ put_all p (action_word a)
   unfolding action_word ite
   word_split h e f = rw h (ended p (115 ∷ 112 ∷ 108 ∷ 105 ∷ []) 116 e f)
 
-  pub word-join : {q : Page} → a ≡ 5 → q ≡ put_all p (106 ∷ 111 ∷ 105 ∷ 110 ∷ []) → q ≡ put_all p (action_word a)
+  pub word_join : {q : Page} → a ≡ 5 → q ≡ put_all p (106 ∷ 111 ∷ 105 ∷ 110 ∷ []) → q ≡ put_all p (action_word a)
   unfolding action_word ite
-  word-join h e = rw h e
+  word_join h e = rw h e
 
-  pub word-range : {q r : Page} → (a ≡ 1 → ⊥) → (a ≡ 2 → ⊥) → (a ≡ 3 → ⊥) → (a ≡ 4 → ⊥) → (a ≡ 5 → ⊥) → q ≡ put_all p (114 ∷ 97 ∷ 110 ∷ 103 ∷ []) → r ≡ put q 101 → r ≡ put_all p (action_word a)
+  pub word_range : {q r : Page} → (a ≡ 1 → ⊥) → (a ≡ 2 → ⊥) → (a ≡ 3 → ⊥) → (a ≡ 4 → ⊥) → (a ≡ 5 → ⊥) → q ≡ put_all p (114 ∷ 97 ∷ 110 ∷ 103 ∷ []) → r ≡ put q 101 → r ≡ put_all p (action_word a)
   unfolding action_word ite
-  word-range h₁ h₂ h₃ h₄ h₅ e f = ended p (114 ∷ 97 ∷ 110 ∷ 103 ∷ []) 101 e f ∙ rw (ne_eqb _ _ h₁, ne_eqb _ _ h₂, ne_eqb _ _ h₃, ne_eqb _ _ h₄, ne_eqb _ _ h₅)
+  word_range h₁ h₂ h₃ h₄ h₅ e f = ended p (114 ∷ 97 ∷ 110 ∷ 103 ∷ []) 101 e f ∙ rw (ne_eqb _ _ h₁, ne_eqb _ _ h₂, ne_eqb _ _ h₃, ne_eqb _ _ h₄, ne_eqb _ _ h₅)
 
 -- ---- the answer
 
@@ -85,21 +85,21 @@ width_least v = by (eqb v 1)
 -- ---- the depth of a row that starts at j, in version v
 
 module _ (p : Page) (v : ℕ) (l : List ℕ) (j : ℕ) where
-  pub depth-plain : v ≡ 1 → p ≡ put_all p (depth_text (headed v) (drop j l))
+  pub depth_plain : v ≡ 1 → p ≡ put_all p (depth_text (headed v) (drop j l))
   unfolding depth_text put_all ite
-  depth-plain e = rw e
+  depth_plain e = rw e
 
-  pub depth-other : (v ≡ 1 → ⊥) → (get_or l (j + 1) 0 ≡ 1 → ⊥) → p ≡ put_all p (depth_text (headed v) (drop j l))
+  pub depth_other : (v ≡ 1 → ⊥) → (get_or l (j + 1) 0 ≡ 1 → ⊥) → p ≡ put_all p (depth_text (headed v) (drop j l))
   unfolding depth_text put_all ite
-  depth-other e a = rw (ne_eqb _ _ e, get_or-drop j l 1 0, ne_eqb _ _ a)
+  depth_other e a = rw (ne_eqb _ _ e, get_or-drop j l 1 0, ne_eqb _ _ a)
 
-  pub depth-no : (v ≡ 1 → ⊥) → get_or l (j + 1) 0 ≡ 1 → (get_or l (j + 3) 0 ≡ 1 → ⊥) → p ≡ put_all p (depth_text (headed v) (drop j l))
+  pub depth_no : (v ≡ 1 → ⊥) → get_or l (j + 1) 0 ≡ 1 → (get_or l (j + 3) 0 ≡ 1 → ⊥) → p ≡ put_all p (depth_text (headed v) (drop j l))
   unfolding depth_text put_all ite
-  depth-no e a y = rw (ne_eqb _ _ e, get_or-drop j l 1 0, a, get_or-drop j l 3 0, ne_eqb _ _ y)
+  depth_no e a y = rw (ne_eqb _ _ e, get_or-drop j l 1 0, a, get_or-drop j l 3 0, ne_eqb _ _ y)
 
-  pub depth-put : {d : ℕ} {q r : Page} → (v ≡ 1 → ⊥) → get_or l (j + 1) 0 ≡ 1 → get_or l (j + 3) 0 ≡ 1 → d ≡ get_or l (j + 4) 0 * 256 + get_or l (j + 5) 0 → q ≡ put p 32 → r ≡ put_all q (decimal d) → r ≡ put_all p (depth_text (headed v) (drop j l))
+  pub depth_put : {d : ℕ} {q r : Page} → (v ≡ 1 → ⊥) → get_or l (j + 1) 0 ≡ 1 → get_or l (j + 3) 0 ≡ 1 → d ≡ get_or l (j + 4) 0 * 256 + get_or l (j + 5) 0 → q ≡ put p 32 → r ≡ put_all q (decimal d) → r ≡ put_all p (depth_text (headed v) (drop j l))
   unfolding depth_text put_all ite
-  depth-put {d} e a y h f g = joined p (space ∷ []) (decimal d) f g ∙ rw (ne_eqb _ _ e, get_or-drop j l 1 0, a, get_or-drop j l 3 0, y, get_or-drop j l 4 0, get_or-drop j l 5 0, h)
+  depth_put {d} e a y h f g = joined p (space ∷ []) (decimal d) f g ∙ rw (ne_eqb _ _ e, get_or-drop j l 1 0, a, get_or-drop j l 3 0, y, get_or-drop j l 4 0, get_or-drop j l 5 0, h)
 
 -- ---- a row's line
 
@@ -138,19 +138,19 @@ module _ (p : Page) (l : List ℕ) where
   pub rows_step : (file : List ℕ) (k w : ℕ) {q r : Page} → w ≡ row_width file → q ≡ put_all p (row_lines file k l) → r ≡ put_all q (row_line file (drop (k * w) l)) → r ≡ put_all p (row_lines file (k + 1) l)
   rows_step file k w z e f = rw (add-one k, lines_more file k l) (joined p (row_lines file k l) (row_line file (drop (k * row_width file) l)) e (f ∙ rw z))
 
-  pub rows-done : (file : List ℕ) (k n : ℕ) {q : Page} → k ≤ n → n ≤ k → q ≡ put_all p (row_lines file k l) → q ≡ put_all p (row_lines file n l)
-  rows-done file k n h m e = let same : n ≡ k = omega arith in rw same e
+  pub rows_done : (file : List ℕ) (k n : ℕ) {q : Page} → k ≤ n → n ≤ k → q ≡ put_all p (row_lines file k l) → q ≡ put_all p (row_lines file n l)
+  rows_done file k n h m e = let same : n ≡ k = omega arith in rw same e
 
-  pub text-start : p ≡ put_all p (take 0 l)
+  pub text_start : p ≡ put_all p (take 0 l)
   unfolding put_all
-  text-start = refl
+  text_start = refl
 
-  pub text-step : (k n : ℕ) {q r : Page} → k < n → n ≤ length l → q ≡ put_all p (take k l) → r ≡ put q (get_or l k 0) → r ≡ put_all p (take (k + 1) l)
+  pub text_step : (k n : ℕ) {q r : Page} → k < n → n ≤ length l → q ≡ put_all p (take k l) → r ≡ put q (get_or l k 0) → r ≡ put_all p (take (k + 1) l)
   unfolding put_all
-  text-step k n h m e f = rw (add-one k, take-suc l k 0 (omega arith)) (joined p (take k l) (get_or l k 0 ∷ []) e f)
+  text_step k n h m e f = rw (add-one k, take-suc l k 0 (omega arith)) (joined p (take k l) (get_or l k 0 ∷ []) e f)
 
-  pub text-done : (k n : ℕ) {q : Page} → k ≤ n → n ≤ k → q ≡ put_all p (take k l) → q ≡ put_all p (take n l)
-  text-done k n h m e = let same : n ≡ k = omega arith in rw same e
+  pub text_done : (k n : ℕ) {q : Page} → k ≤ n → n ≤ k → q ≡ put_all p (take k l) → q ≡ put_all p (take n l)
+  text_done k n h m e = let same : n ≡ k = omega arith in rw same e
 
 -- ---- the first line and the last, by their parts
 
@@ -211,4 +211,4 @@ put_all_within p (x ∷ xs) h = put_all_within (put p x) xs (put_within p x h)
 pub ends_within : (l m xs : List ℕ) (n : ℕ) → page l n ≡ put_all (page m 0) xs → n ≤ length l
 ends_within l m xs n e = subst (λ (p : Page). p.at ≤ length p.bytes) (sym e) (put_all_within (page m 0) xs (omega arith))
 
-pub ruleset printed_cases = (word-lookup, word-insert, word-remove, word_split, word-join, word-range, answer_no, answer_yes, width_narrow, width_wide, depth-plain, depth-other, depth-no, depth-put, start_put, end_put, row_put, records_put, count_put, refusal_put, first_put, stored_put, used_put, last_put, lines_put, ends_within)
+pub ruleset printed_cases = (word_lookup, word_insert, word_remove, word_split, word_join, word_range, answer_no, answer_yes, width_narrow, width_wide, depth_plain, depth_other, depth_no, depth_put, start_put, end_put, row_put, records_put, count_put, refusal_put, first_put, stored_put, used_put, last_put, lines_put, ends_within)

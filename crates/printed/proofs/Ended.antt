@@ -24,18 +24,18 @@ use Rattle.listing.specs.Texts.{headed}
 use Rattle.run.proofs.Rows.{done_few, rows_length}
 use Rattle.answers.proofs.UsedRun.{reach_used}
 use Rattle.printed.proofs.Refusals.{refusal_few, file_refusal_few}
-use Rattle.printed.proofs.Lines.{version-lines, lines-front}
+use Rattle.printed.proofs.Lines.{version_lines, lines_front}
 
 -- ---- a file that is not refused
 module _ (file : List ℕ) (z : file_refusal file ≡ 0) (few : count_of file ≤ 4096) where
   -- with room for the rows of the longest run of version 2
   no_run_refusal : (n : ℕ) → 28672 ≤ n → run_refusal file n ≡ 0
   unfolding run_refusal ite
-  no_run_refusal n g = rw (eq-eqb _ _ z) (rows-room (eqb (version file) 1))
+  no_run_refusal n g = rw (eq-eqb _ _ z) (rows_room (eqb (version file) 1))
     where
-      rows-room : (c : Bool) → ◌≡◌ {A = ℕ} (ite (ltb n (ite c 2 7 * count_of file)) 5 0) 0
-      rows-room true = rw (le-ltb n (2 * count_of file) (omega arith))
-      rows-room false = rw (le-ltb n (7 * count_of file) (omega arith))
+      rows_room : (c : Bool) → ◌≡◌ {A = ℕ} (ite (ltb n (ite c 2 7 * count_of file)) 5 0) 0
+      rows_room true = rw (le-ltb n (2 * count_of file) (omega arith))
+      rows_room false = rw (le-ltb n (7 * count_of file) (omega arith))
 
   run_report_lem : (n : ℕ) → 28672 ≤ n → run_report file n ≡ report_of (ended file)
   unfolding run_report ite
@@ -48,11 +48,11 @@ module _ (file : List ℕ) (z : file_refusal file ≡ 0) (few : count_of file �
   -- with the room that version 2 asks for
   no_list_refusal : (n : ℕ) → 8192 ≤ n → list_refusal file n ≡ 0
   unfolding list_refusal ite
-  no_list_refusal n g = rw (eq-eqb _ _ z) (text-room (eqb (version file) 1))
+  no_list_refusal n g = rw (eq-eqb _ _ z) (text_room_lem (eqb (version file) 1))
     where
-      text-room : (c : Bool) → ◌≡◌ {A = ℕ} (ite (ltb n (ite c 4096 8192)) 6 0) 0
-      text-room true = rw (le-ltb n 4096 (omega arith))
-      text-room false = rw (le-ltb n 8192 g)
+      text_room_lem : (c : Bool) → ◌≡◌ {A = ℕ} (ite (ltb n (ite c 4096 8192)) 6 0) 0
+      text_room_lem true = rw (le-ltb n 4096 (omega arith))
+      text_room_lem false = rw (le-ltb n 8192 g)
 
   list_report_lem : (n : ℕ) → 8192 ≤ n → list_report file n ≡ listed_at file (ended file)
   unfolding list_report ite
@@ -83,7 +83,7 @@ ended_lines file rows text few =
     let held : stored (ended file).bench % 10000 ≡ stored (ended file).bench = small _ (omega (arith, reach_stored file (count_of file))) in
     let used : (ended file).bench.store.used % 10000 ≡ (ended file).bench.store.used = small _ (omega (arith, reach_used file (count_of file))) in
     let lines : row_lines (headed (version file)) (ended file).finished (overlay (ended file).rows rows) ≡ row_lines file (ended file).finished (ended file).rows =
-    version-lines (headed (version file)) file refl (ended file).finished (overlay (ended file).rows rows) ∙ lines-front file (ended file).finished (ended file).rows (drop (length (ended file).rows) rows) (row_bytes_lem file) in
+    version_lines (headed (version file)) file refl (ended file).finished (overlay (ended file).rows rows) ∙ lines_front file (ended file).finished (ended file).rows (drop (length (ended file).rows) rows) (row_bytes_lem file) in
     rw (done, count, refusal, held, used, lines, take-append_seam)
 
 -- ---- what the code holds
@@ -112,11 +112,11 @@ module _ (file : List ℕ) {bad : ℕ} (e : bad ≡ file_refusal file) where
       rw (listed, text_at) (omega (arith, length-append (listing file (ended file).bench) (drop (length (listing file (ended file).bench)) text))),
     )
 
-    pub lines-printed : (p : Page) (v : ℕ) {count : ℕ} {q : Page} → v ≡ version file → count ≡ count_of file → q ≡ put_all p (lines_of v count r rows' l text') → q ≡ put_all p (printed file)
+    pub lines_printed : (p : Page) (v : ℕ) {count : ℕ} {q : Page} → v ≡ version file → count ≡ count_of file → q ≡ put_all p (lines_of v count r rows' l text') → q ≡ put_all p (printed file)
     unfolding printed ite
-    lines-printed p v i ec w = w ∙ rw (i, ec, report, rows_at, listed, text_at, ended_lines file rows text few, eq-eqb _ _ accepted)
+    lines_printed p v i ec w = w ∙ rw (i, ec, report, rows_at, listed, text_at, ended_lines file rows text few, eq-eqb _ _ accepted)
 
   -- ---- a file that is refused
-  pub line-printed : (p : Page) {q : Page} → (bad ≡ 0 → ⊥) → q ≡ put_all p (first_line (0 % 10000) (0 % 10000) (bad % 10000)) → q ≡ put_all p (printed file)
+  pub line_printed : (p : Page) {q : Page} → (bad ≡ 0 → ⊥) → q ≡ put_all p (first_line (0 % 10000) (0 % 10000) (bad % 10000)) → q ≡ put_all p (printed file)
   unfolding printed ite
-  line-printed p z w = w ∙ rw (small bad (rw e (omega (arith, file_refusal_few file))), ← e, ne_eqb _ _ z)
+  line_printed p z w = w ∙ rw (small bad (rw e (omega (arith, file_refusal_few file))), ← e, ne_eqb _ _ z)

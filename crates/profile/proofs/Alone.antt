@@ -35,48 +35,48 @@ module _ {w : World} {hist : Hist} (mem : Mem w hist) where
       go P R d j (cut _ dp _ _ _) = let z : P ≡ r = (let v = j.parent in cc) in subst (Dead w) z dp
 
   module _ (t : Tidy w.nodes w.used Nil Nil) where
-    main-done : (m : ℕ) → kind_of w m ≡ Main → (w.nodes m).stage ≡ Done
-    main-done m k = go (t.mains m k).1
+    main_done : (m : ℕ) → kind_of w m ≡ Main → (w.nodes m).stage ≡ Done
+    main_done m k = go (t.mains m k).1
       where
         go : (◌≡◌ {A = Link} Nil (To m)) ⊎ ((w.nodes m).stage ≡ Done) → (w.nodes m).stage ≡ Done
         go (inl e) = absurd (clash (cc))
         go (inr e) = e
 
-    pub up-parent : (x : ℕ) → IsBase w x → Live w x → w.up x ≡ (w.nodes x).parent
-    up-parent x ib l = go (mem.bases.up x ib l)
+    pub up_parent : (x : ℕ) → IsBase w x → Live w x → w.up x ≡ (w.nodes x).parent
+    up_parent x ib l = go (mem.bases.up x ib l)
       where
         go : (w.up x ≡ (w.nodes x).parent) ⊎ ((m P : ℕ) × Pending w x m P) → w.up x ≡ (w.nodes x).parent
         go (inl e) = e
         go (inr (m, P, p)) = let (k, _) = mem.neighbours.main x p.kind (lives l) in let k' : kind_of w m ≡ Main = rw p.main at k in
-            let e = main-done m k' in absurd (clash (let a = p.stage in cc))
+            let e = main_done m k' in absurd (clash (let a = p.stage in cc))
 
-    not-main : (x : ℕ) → Live w x → kind_of w x ≡ Main → ⊥
-    not-main x l k = go (w.nodes x).parent refl
+    not_main : (x : ℕ) → Live w x → kind_of w x ≡ Main → ⊥
+    not_main x l k = go (w.nodes x).parent refl
       where
         ib : IsBase w x
         ib e = clash (cc)
 
         go : (p : Link) → (w.nodes x).parent ≡ p → ⊥
-        go Nil e = let (P, R, d, j) = mem.mains.joint x k (lives l) (inr (main-done x k)) in clash (let a = j.parent in cc)
-        go (To p) e = alive (mem.shape.child x p l (up-parent x ib l ∙ e)).0 (done_dead x p k (lives l) (main-done x k) e)
+        go Nil e = let (P, R, d, j) = mem.mains.joint x k (lives l) (inr (main_done x k)) in clash (let a = j.parent in cc)
+        go (To p) e = alive (mem.shape.child x p l (up_parent x ib l ∙ e)).0 (done_dead x p k (lives l) (main_done x k) e)
 
-    pub base-ready : (x : ℕ) → IsBase w x → Live w x → replaceable (λ z. shape (w.nodes z)) w.stores x ≡ true
+    pub base_ready : (x : ℕ) → IsBase w x → Live w x → replaceable (λ z. shape (w.nodes z)) w.stores x ≡ true
     unfolding replaceable check
-    base-ready x ib l = go (kind_of w x) refl
+    base_ready x ib l = go (kind_of w x) refl
       where
         go : (k : Kind) → kind_of w x ≡ k → is_replaceable (check_as k (λ z. shape (w.nodes z)) w.stores x) ≡ true
         go Normal e = refl
         go Route e = absurd (ib e)
-        go Main e = absurd (not-main x l e)
-        go Neighbour e = rw (main-done (w.nodes x).main (mem.neighbours.main x e (lives l)).0)
+        go Main e = absurd (not_main x l e)
+        go Neighbour e = rw (main_done (w.nodes x).main (mem.neighbours.main x e (lives l)).0)
         go Range e = absurd (t.rangeless x e)
 
-    pub base-hangs : (x : ℕ) → IsBase w x → Live w x → (v : Spot) × At w.nodes w.root w.used v x
-    base-hangs x ib l = go (w.nodes x).parent refl
+    pub base_hangs : (x : ℕ) → IsBase w x → Live w x → (v : Spot) × At w.nodes w.root w.used v x
+    base_hangs x ib l = go (w.nodes x).parent refl
       where
         go : (p : Link) → (w.nodes x).parent ≡ p → (v : Spot) × At w.nodes w.root w.used v x
-        go Nil e = (Root, (e, sym (mem.shape.top x l (up-parent x ib l ∙ e))))
-        go (To p) e = let (lp, _, d, q) = mem.shape.child x p l (up-parent x ib l ∙ e) in (Under p d, (e, q, mem.shape.low p (lives lp)))
+        go Nil e = (Root, (e, sym (mem.shape.top x l (up_parent x ib l ∙ e))))
+        go (To p) e = let (lp, _, d, q) = mem.shape.child x p l (up_parent x ib l ∙ e) in (Under p d, (e, q, mem.shape.low p (lives lp)))
 
   -- a live route bears no mark but that of l
   pub unmarked : {l : Link} (t : Tidy w.nodes w.used l Nil) (r : ℕ) → kind_of w r ≡ Route → Live w r → ((m : ℕ) → l ≡ To m → (w.nodes r).mark ≢ To m) → (w.nodes r).mark ≡ Nil
@@ -97,17 +97,17 @@ module _ {w : World} {hist : Hist} (mem : Mem w hist) where
     abbrev Inside : ℕ → Type 0
     Inside x = (w.lo x < key_of w P) × (key_of w P < w.hi x)
 
-    kind-is : (x : ℕ) → Live w x → Inside x → is_route (kind_of w x) ≡ true
-    kind-is x l i = elim (test (is_route (kind_of w x))) [
+    kind_is : (x : ℕ) → Live w x → Inside x → is_route (kind_of w x) ≡ true
+    kind_is x l i = elim (test (is_route (kind_of w x))) [
       | on e ↦ e
       | off e ↦ absurd (elim (mem.sep.base P x kp lp (λ z. clash (let v : is_route Route ≡ false = rw z at e in cc)) l) [ inl o ↦ omega (arith, i) | inr o ↦ omega (arith, i) ])
     ]
 
-    pub top-inside : Inside w.root
-    top-inside = let k = mem.routes.key P kp (lives lp) in let r = mem.shape.range P (lives lp) in omega (arith, mem.shape.root-lo, mem.shape.root-hi)
+    pub top_inside : Inside w.root
+    top_inside = let k = mem.routes.key P kp (lives lp) in let r = mem.shape.range P (lives lp) in omega (arith, mem.shape.root_lo, mem.shape.root_hi)
 
-    pub top-route : is_route (kind_of w w.root) ≡ true
-    top-route = kind-is w.root mem.shape.root_live top-inside
+    pub top_route : is_route (kind_of w w.root) ≡ true
+    top_route = kind_is w.root mem.shape.root_live top_inside
 
     above : (x : ℕ) → Live w x → x ≢ P → Inside x → x < P
     above x l h i = elim (test (ltb x P)) [
@@ -120,7 +120,7 @@ module _ {w : World} {hist : Hist} (mem : Mem w hist) where
 
     pub below : (x : ℕ) → kind_of w x ≡ Route → Live w x → x ≢ P → Inside x
         → (is_route (kind_of w (kid w (ltb (key_of w P) (key_of w x)) x)) ≡ true) × Inside (kid w (ltb (key_of w P) (key_of w x)) x)
-    below x k l h i = (kind-is _ (mem.routes.live-kid x side k l) inside, inside)
+    below x k l h i = (kind_is _ (mem.routes.live_kid x side k l) inside, inside)
       where
         side : Bool
         side = ltb (key_of w P) (key_of w x)
@@ -133,4 +133,4 @@ module _ {w : World} {hist : Hist} (mem : Mem w hist) where
         go false a b e p q = elim (key_of w x ==? key_of w P) [ yes z ↦ absurd (apart z) | no z ↦ omega (arith, i, ltb-false (key_of w P) (key_of w x) e) ]
 
         inside : Inside (kid w (ltb (key_of w P) (key_of w x)) x)
-        inside = go side _ _ refl (mem.routes.live-lo x side k l) (mem.routes.live-hi x side k l)
+        inside = go side _ _ refl (mem.routes.live_lo x side k l) (mem.routes.live_hi x side k l)

@@ -64,9 +64,9 @@ module _ (file : List ℕ) where
     stops e l = ap (λ p. profile_advance file p (record_at file j)) at_cut ∙ on_step file (after file j) (record_at file j) e
         ∙ ap (advance_by file (after file j) ((record_at file j).first / 16)) (stopped_at (after file j).bench (record_at file j) (c.bars l))
 
-    pub profile-by-run : profile_after file count ≡ cut_run (ltb j count) (after file j)
+    pub profile_by_run : profile_after file count ≡ cut_run (ltb j count) (after file j)
     unfolding cut_run ite
-    profile-by-run = elim (test (ltb j count)) [
+    profile_by_run = elim (test (ltb j count)) [
       | on m ↦ elim ((after file j).refusal ==? 0) [
         | yes e ↦ rw (m, eq-eqb (after file j).refusal 0 e) (stay (suc j) count (ltb-true j count m) (λ z. ended (sym (ap (λ p. p.refusal) (stops e (ltb-true j count m))) ∙ z)) ∙ stops e (ltb-true j count m))
         | no e ↦ rw (m, ne_eqb (after file j).refusal 0 e) (stay j count c.low (λ z. e (sym (ap (λ p. p.refusal) at_cut) ∙ z)) ∙ at_cut)

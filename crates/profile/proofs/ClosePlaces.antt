@@ -22,7 +22,7 @@ use Rattle.definitions.specs.Steps.{united_by, invalid, names, replacement, cut_
 use Rattle.answers.proofs.Memory.{kid_at}
 use Rattle.answers.proofs.Tools.{◌==?◌, clash}
 use Rattle.answers.proofs.PlaceNumbers.{place_number}
-use Rattle.profile.proofs.Tidy.{Alike, alike_hang, alike_upd, used_hang, tidy_alike, tidy_hang, tidy-clear, tidy-done}
+use Rattle.profile.proofs.Tidy.{Alike, alike_hang, alike_upd, used_hang, tidy_alike, tidy_hang, tidy_clear, tidy_done}
 use Rattle.profile.proofs.Mine.{Sits, Probed, struck, onward, probed, occupant, sits_occupant, keep_kid, keep_root, Over, OnSide, Close, Mine}
 use Rattle.profile.proofs.EarlyPlaces.{OkTurn, fork, pick_true, pick_false}
 
@@ -59,15 +59,15 @@ module _ (s : Store) (th : Thread) (c : ℕ) where
   abbrev Ok : Turn → Type 0
   Ok = OkTurn s th c
 
-  pub at-40 : Mine p40 s th c → Ok (step p40 (sight_of s) th)
+  pub at_40 : Mine p40 s th c → Ok (step p40 (sight_of s) th)
   unfolding step
-  at-40 (P, k, o, h) = pick_false Ok _ _ _ (ap is_done k.stage) (P, k, o, h.spot, h.sits, tt, h.base)
+  at_40 (P, k, o, h) = pick_false Ok _ _ _ (ap is_done k.stage) (P, k, o, h.spot, h.sits, tt, h.base)
 
   -- ---- 41 to 44
 
-  pub at-united : (q : Quarter) → Mine (swap united q) s th c → Ok (step (swap united q) (sight_of s) th)
+  pub at_united : (q : Quarter) → Mine (swap united q) s th c → Ok (step (swap united q) (sight_of s) th)
   unfolding step
-  at-united q (P, k, o, v, i, h, ib) = by _ (probed s (s.nodes th.main).neighbour q v i h)
+  at_united q (P, k, o, v, i, h, ib) = by _ (probed s (s.nodes th.main).neighbour q v i h)
     where
       swung : (v : Spot) → Sits s v (s.nodes th.main).neighbour → Mine p45 (hang v (s.nodes th.main).union s) (at p45 th) (suc c)
       swung v i = (
@@ -92,9 +92,9 @@ module _ (s : Store) (th : Thread) (c : ℕ) where
   kid_45 P x true = (field_45 P x).1
   kid_45 P x false = (field_45 P x).2
 
-  pub at-45 : Mine p45 s th c → Ok (step p45 (sight_of s) th)
+  pub at_45 : Mine p45 s th c → Ok (step p45 (sight_of s) th)
   unfolding step
-  at-45 (P, k, o) = subst (λ l. Mine p46 (perform (invalid l) s) (at p46 th) (suc c)) (sym k.parent) (
+  at_45 (P, k, o) = subst (λ l. Mine p46 (perform (invalid l) s) (at p46 th) (suc c)) (sym k.parent) (
     P,
     record {
       act = k.act;
@@ -150,18 +150,18 @@ module _ (s : Store) (th : Thread) (c : ℕ) where
   unfolding step
   at_48 (P, G, k, e, i) = subst (λ z. Ok (cut_right z (shape (s.nodes th.main)) (λ z. shape (s.nodes z)) th)) (sym e) (pick_true Ok _ _ _ (names_it _ P _ k.parent i.0) (P, G, k, e, i))
 
-  pub at-49 : Mine p49 s th c → Ok (step p49 (sight_of s) th)
+  pub at_49 : Mine p49 s th c → Ok (step p49 (sight_of s) th)
   unfolding step
-  at-49 (P, G, k, e, i) = cuts false P G k e i
+  at_49 (P, G, k, e, i) = cuts false P G k e i
 
   pub at_50 : Mine p50 s th c → Ok (step p50 (sight_of s) th)
   unfolding step
   at_50 (G, k) = subst (λ z. Ok (freeing z (λ z. shape (s.nodes z)) th)) (sym k.grand) (pick_true Ok _ _ _ (names_it _ th.main _ k.mark refl)
-      (record { act = k.act; owner = k.owner; tidy = tidy-clear s.nodes s.used th.main k.kind G k.tidy }))
+      (record { act = k.act; owner = k.owner; tidy = tidy_clear s.nodes s.used th.main k.kind G k.tidy }))
 
-  pub at-51 : Mine p51 s th c → Ok (step p51 (sight_of s) th)
+  pub at_51 : Mine p51 s th c → Ok (step p51 (sight_of s) th)
   unfolding step
-  at-51 k = pick_true Ok _ _ _ k.owner (
-    tidy-done s.nodes s.used th.main (over (with_stage Done) (s.nodes th.main)) (record { kind = refl; mark = refl; parent = refl }) k.tidy refl,
+  at_51 k = pick_true Ok _ _ _ k.owner (
+    tidy_done s.nodes s.used th.main (over (with_stage Done) (s.nodes th.main)) (record { kind = refl; mark = refl; parent = refl }) k.tidy refl,
     ((λ _. inl refl), (λ z. absurd (clash (let i = k.act in cc)))),
   )

@@ -36,9 +36,9 @@ use Rattle.answers.proofs.Invariant.{Inv, seen, Stands}
 use Rattle.answers.proofs.Shown.{kind_route, kind_base}
 use Rattle.answers.proofs.ReadPlaces.{here}
 use Rattle.answers.proofs.PlaceNumbers.{place_number, number_of}
-use Rattle.answers.proofs.Descent.{reached-live, reached-depth}
-use Rattle.profile.proofs.Tidy.{Tidy, Quiet, tidy-used, tidy-fill, tidy_hang}
-use Rattle.profile.proofs.Alone.{up-parent, base-ready, base-hangs}
+use Rattle.answers.proofs.Descent.{reached_live, reached_depth}
+use Rattle.profile.proofs.Tidy.{Tidy, Quiet, tidy_used, tidy_fill, tidy_hang}
+use Rattle.profile.proofs.Alone.{up_parent, base_ready, base_hangs}
 use Rattle.profile.proofs.Mine.{Probed, struck, onward, probed, Spotted, Seek, Mine}
 
 -- what is shown of the writer's turn, c own steps having been taken before it
@@ -69,7 +69,7 @@ pick_false P k o o' e h = rw e h
 -- a new base that is no main, put where another was
 pub quiet_base : (s : Store) (v : Spot) (k : Kind) (p : Link) (x : Container) (m : ℕ) {l g : Link} → k ≢ Main → k ≢ Range → Tidy s.nodes s.used l g
     → Tidy (hang v s.used (push s.used (new_base k p x m) s)).nodes (hang v s.used (push s.used (new_base k p x m) s)).used l g
-quiet_base s v k p x m h ra t = tidy_hang v s.used (push s.used (new_base k p x m) s) (tidy-used (tidy-fill t s.used (new_base k p x m) (omega arith) h refl (λ z. clash (cc)) ra) (suc s.used) (omega arith))
+quiet_base s v k p x m h ra t = tidy_hang v s.used (push s.used (new_base k p x m) s) (tidy_used (tidy_fill t s.used (new_base k p x m) (omega arith) h refl (λ z. clash (cc)) ra) (suc s.used) (omega arith))
 
 module _ {b : Bench} {hist : Hist} {now : ℕ} {first : ℕ → Link} (inv : Inv b hist now first) (c : ℕ) where
   abbrev th : Thread
@@ -88,10 +88,10 @@ module _ {b : Bench} {hist : Hist} {now : ℕ} {first : ℕ → Link} (inv : Inv
   Ok = OkTurn s th c
 
   pub live_of : (x : ℕ) → Spotted s x → Live w x
-  live_of x q = (reached-live mem q.depth x q.lo q.hi q.path).0
+  live_of x q = (reached_live mem q.depth x q.lo q.hi q.path).0
 
-  pub child-of : (x : ℕ) (f : Bool) → (q : Spotted s x) → (s.nodes x).kind ≡ Route → Spotted s (kid_at f (s.nodes x))
-  child-of x f q k = record { depth = suc q.depth; lo = _; hi = _; path = down q.depth x q.lo q.hi f q.path k refl refl refl refl }
+  pub child_of : (x : ℕ) (f : Bool) → (q : Spotted s x) → (s.nodes x).kind ≡ Route → Spotted s (kid_at f (s.nodes x))
+  child_of x f q k = record { depth = suc q.depth; lo = _; hi = _; path = down q.depth x q.lo q.hi f q.path k refl refl refl refl }
 
   -- ---- 1, 2
 
@@ -112,10 +112,10 @@ module _ {b : Bench} {hist : Hist} {now : ℕ} {first : ℕ → Link} (inv : Inv
   unfolding step
   at_1 (t, e) = arrive 0 s.root t (record { depth = 0; lo = 0; hi = 64; path = top refl refl refl refl }) e
 
-  pub at-2 : s.stop.on ≡ false → Mine p2 s th c → Ok (step p2 (sight_of s) th)
-  unfolding step followed child-of
-  at-2 off (t, q, e, k) = subst (λ v. Ok (followed v (λ z. shape (s.nodes z)) (reading s.stop.on (one_more th.read) th) child)) (sym off)
-      (arrive (one_more th.read) child t (child-of th.route (ltb th.station (s.nodes th.route).key) q k) e)
+  pub at_2 : s.stop.on ≡ false → Mine p2 s th c → Ok (step p2 (sight_of s) th)
+  unfolding step followed child_of
+  at_2 off (t, q, e, k) = subst (λ v. Ok (followed v (λ z. shape (s.nodes z)) (reading s.stop.on (one_more th.read) th) child)) (sym off)
+      (arrive (one_more th.read) child t (child_of th.route (ltb th.station (s.nodes th.route).key) q k) e)
     where
       child : ℕ
       child = child_for th.station (shape (s.nodes th.route))
@@ -130,10 +130,10 @@ module _ {b : Bench} {hist : Hist} {now : ℕ} {first : ℕ → Link} (inv : Inv
   above x p t q ib e = go q.path
     where
       up : w.up x ≡ To p
-      up = up-parent mem t x ib (live_of x q) ∙ e
+      up = up_parent mem t x ib (live_of x q) ∙ e
 
       go : {d lo hi : ℕ} → Reached s.nodes s.root d x lo hi → Above p x
-      go (top _ i _ _) = absurd (clash (let z = mem.shape.root-up in let u = up in cc))
+      go (top _ i _ _) = absurd (clash (let z = mem.shape.root_up in let u = up in cc))
       go (down d r l h f c k _ i _ _) = let q' : Spotted s r = record { depth = d; lo = l; hi = h; path = c } in
           let z : r ≡ p = (let a = mem.routes.live_up r f k (live_of r q') in let u = up in cc) in
           subst (λ v. Above v x) z (q', k, f, sym i)
@@ -151,13 +151,13 @@ module _ {b : Bench} {hist : Hist} {now : ℕ} {first : ℕ → Link} (inv : Inv
       none Nil e = refl
       none (To p) e = absurd (false≢true e)
 
-  pub at-3 : s.stop.on ≡ false → Stands b 0 p3 → Mine p3 s th c → Ok (step p3 (sight_of s) th)
+  pub at_3 : s.stop.on ≡ false → Stands b 0 p3 → Mine p3 s th c → Ok (step p3 (sight_of s) th)
   unfolding step cleared lacks
-  at-3 off e (t, q, n, ib) = fork s th c _ _ _ (λ z. (t, lacking th.action refl (number_of th.place p3 e (omega arith)) z))
-      (λ _. pick_true Ok _ _ _ (base-ready mem t th.base ib (live_of th.base q)) (go th.action refl))
+  at_3 off e (t, q, n, ib) = fork s th c _ _ _ (λ z. (t, lacking th.action refl (number_of th.place p3 e (omega arith)) z))
+      (λ _. pick_true Ok _ _ _ (base_ready mem t th.base ib (live_of th.base q)) (go th.action refl))
     where
       swaps : Ok (goes (at (swap own ReadLeft) th))
-      swaps = let (v, o) = base-hangs mem t th.base ib (live_of th.base q) in (t, v, o, tt, omega (arith, reached-depth mem q.depth th.base q.lo q.hi q.path))
+      swaps = let (v, o) = base_hangs mem t th.base ib (live_of th.base q) in (t, v, o, tt, omega (arith, reached_depth mem q.depth th.base q.lo q.hi q.path))
 
       link : (l : Link) → (s.nodes th.base).parent ≡ l → th.action ≡ Join → Ok (join_under false l th)
       link Nil z i = (t, ((λ _. inr (refl, number_of th.place p3 e (omega arith), z)), (λ y. absurd (clash (cc)))))
@@ -182,8 +182,8 @@ module _ {b : Bench} {hist : Hist} {now : ℕ} {first : ℕ → Link} (inv : Inv
       put Insert v i = fork s th c _ _ _ (λ _. (quiet_base s v Normal _ _ 0 (λ z. clash (cc)) (λ z. clash (cc)) t, neither s th _ (λ z. clash (cc)) (λ z. clash (cc)))) (λ _. tt)
       put Remove v i = fork s th c _ _ _ (λ _. (quiet_base s v Normal _ _ 0 (λ z. clash (cc)) (λ z. clash (cc)) t, neither s th _ (λ z. clash (cc)) (λ z. clash (cc)))) (λ _. tt)
       put Split v i = fork s th c _ _ _ (λ _. (
-        tidy_hang v s.used (store _ s.root (s.used + 3) s.stores s.shown s.stop) (tidy-used
-            (tidy-fill (tidy-fill (tidy-fill t s.used _ (omega arith) (λ z. clash (cc)) refl (λ z. clash (cc)) (λ z. clash (cc))) (s.used + 1) _ (omega arith) (λ z. clash (cc)) refl (λ z. clash (cc)) (λ z. clash (cc))) (s.used + 2) _ (omega arith) (λ z. clash (cc)) refl (λ z. clash (cc)) (λ z. clash (cc)))
+        tidy_hang v s.used (store _ s.root (s.used + 3) s.stores s.shown s.stop) (tidy_used
+            (tidy_fill (tidy_fill (tidy_fill t s.used _ (omega arith) (λ z. clash (cc)) refl (λ z. clash (cc)) (λ z. clash (cc))) (s.used + 1) _ (omega arith) (λ z. clash (cc)) refl (λ z. clash (cc)) (λ z. clash (cc))) (s.used + 2) _ (omega arith) (λ z. clash (cc)) refl (λ z. clash (cc)) (λ z. clash (cc)))
             (s.used + 3) (omega arith)),
         ((λ z. absurd (clash (cc))), (λ _. inl refl)),
       )) (λ _. tt)
@@ -196,31 +196,31 @@ module _ {b : Bench} {hist : Hist} {now : ℕ} {first : ℕ → Link} (inv : Inv
 
   -- ---- 20 to 24
 
-  pub at-20 : Mine p20 s th c → Ok (step p20 (sight_of s) th)
-  unfolding step child-of
-  at-20 (f, k) = fork s th c _ _ _ (λ e. record { act = k.act; quiet = k.quiet; reach = k.reach; route = k.route; here = eqb-true _ _ e })
+  pub at_20 : Mine p20 s th c → Ok (step p20 (sight_of s) th)
+  unfolding step child_of
+  at_20 (f, k) = fork s th c _ _ _ (λ e. record { act = k.act; quiet = k.quiet; reach = k.reach; route = k.route; here = eqb-true _ _ e })
       (λ e. record { act = k.act; quiet = k.quiet; reach = k.reach; route = k.route; here = other f k.here (eqb-false _ _ e) })
     where
       other : (f : Bool) → kid_at f (s.nodes th.parent) ≡ th.base → ((s.nodes th.parent).left ≡ th.base → ⊥) → (s.nodes th.parent).right ≡ th.base
       other true i z = absurd (z i)
       other false i z = i
 
-  pub at-21 : Mine p21 s th c → Ok (step p21 (sight_of s) th)
-  unfolding step child-of
-  at-21 k = pick_true Ok _ _ _ (eq-eqb _ _ k.here) (record { act = k.act; quiet = k.quiet; reach = k.reach; route = k.route; here = k.here })
+  pub at_21 : Mine p21 s th c → Ok (step p21 (sight_of s) th)
+  unfolding step child_of
+  at_21 k = pick_true Ok _ _ _ (eq-eqb _ _ k.here) (record { act = k.act; quiet = k.quiet; reach = k.reach; route = k.route; here = k.here })
 
   besides : (x : ℕ) → Seek s th.action th.parent th.base th.left → Spotted s x → Ok (beside (λ z. shape (s.nodes z)) th x)
   unfolding beside
   besides x k q = fork s th c _ _ _ (λ e. (k, q, kind_route _ e)) (λ e. (k, q, kind_base _ e))
 
-  pub at-22 : Mine p22 s th c → Ok (step p22 (sight_of s) th)
-  unfolding step child-of
-  at-22 k = besides _ k (child-of th.parent (not th.left) k.reach k.route)
+  pub at_22 : Mine p22 s th c → Ok (step p22 (sight_of s) th)
+  unfolding step child_of
+  at_22 k = besides _ k (child_of th.parent (not th.left) k.reach k.route)
 
-  pub at-23 : Mine p23 s th c → Ok (step p23 (sight_of s) th)
-  unfolding step child-of
-  at-23 (k, q, r) = besides _ k (child-of th.route th.left q r)
+  pub at_23 : Mine p23 s th c → Ok (step p23 (sight_of s) th)
+  unfolding step child_of
+  at_23 (k, q, r) = besides _ k (child_of th.route th.left q r)
 
-  pub at-24 : Mine p24 s th c → Ok (step p24 (sight_of s) th)
-  unfolding step child-of
-  at-24 (k, q, ib) = pick_true Ok _ _ _ (base-ready mem k.quiet th.found ib (live_of th.found q)) (k, q, ib)
+  pub at_24 : Mine p24 s th c → Ok (step p24 (sight_of s) th)
+  unfolding step child_of
+  at_24 (k, q, ib) = pick_true Ok _ _ _ (base_ready mem k.quiet th.found ib (live_of th.found q)) (k, q, ib)

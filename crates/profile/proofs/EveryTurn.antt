@@ -21,12 +21,12 @@ use Rattle.definitions.specs.Records.{is_idle}
 use Rattle.profile.specs.Claim.{missed, grand_taken, root_lost, side_lost, mark_lost, compares, fails, updates}
 use Rattle.answers.proofs.Memory.{Hist, kid_at}
 use Rattle.answers.proofs.Invariant.{Inv, Stands}
-use Rattle.answers.proofs.ReadPlaces.{know-now}
-use Rattle.answers.proofs.Descent.{reached-depth}
+use Rattle.answers.proofs.ReadPlaces.{know_now}
+use Rattle.answers.proofs.Descent.{reached_depth}
 use Rattle.profile.proofs.Mine.{steps_left, Probed, struck, onward, probed, Over, OnSide, Close, Mine}
-use Rattle.profile.proofs.EarlyPlaces.{OkTurn, mem, at_1, at-2, at-3, at_own, at-20, at-21, at-22, at-23, at-24}
-use Rattle.profile.proofs.JoinPlaces.{at-25, at-found, at-30, at-31, at-32, at-33, at-34, at-35, free-30, free-33}
-use Rattle.profile.proofs.ClosePlaces.{names_it, at-40, at-united, at-45, at_46, at_47, at_48, at-49, at_50, at-51}
+use Rattle.profile.proofs.EarlyPlaces.{OkTurn, mem, at_1, at_2, at_3, at_own, at_20, at_21, at_22, at_23, at_24}
+use Rattle.profile.proofs.JoinPlaces.{at_25, at_found_lem, at_30, at_31, at_32, at_33, at_34, at_35, free_30, free_33}
+use Rattle.profile.proofs.ClosePlaces.{names_it, at_40, at_united, at_45, at_46, at_47, at_48, at_49, at_50, at_51}
 
 not_missed : {s : Store} {x : ℕ} {q : Quarter} (p : Probe) → Probed s x q p → missed p ≡ false
 not_missed _ (struck v o) = refl
@@ -97,44 +97,44 @@ module _ {b : Bench} {hist : Hist} {now : ℕ} {first : ℕ → Link} (inv : Inv
   s = b.store
 
   busy : Stands b 0 nowhere → is_idle th ≡ false → ⊥
-  busy e h = true≢false (sym (eq-eqb _ _ (know-now inv 0 nowhere e).0) ∙ h)
+  busy e h = true≢false (sym (eq-eqb _ _ (know_now inv 0 nowhere e).0) ∙ h)
 
   pub turn : s.stop.on ≡ false → (p : Place) → Stands b 0 p → is_idle th ≡ false → Mine p s th c → OkTurn s th c (step p (sight_of s) th)
   turn off nowhere e h m = absurd (busy e h)
   turn off p1 e h m = at_1 inv c m
-  turn off p2 e h m = at-2 inv c off m
-  turn off p3 e h m = at-3 inv c off e m
+  turn off p2 e h m = at_2 inv c off m
+  turn off p3 e h m = at_3 inv c off e m
   turn off (swap own q) e h m = at_own inv c q m
   turn off p4 e h m = absurd m
   turn off p5 e h m = absurd m
   turn off p15 e h m = absurd m
   turn off p16 e h m = absurd m
   turn off p19 e h m = absurd m
-  turn off p20 e h m = at-20 inv c m
-  turn off p21 e h m = at-21 inv c m
-  turn off p22 e h m = at-22 inv c m
-  turn off p23 e h m = at-23 inv c m
-  turn off p24 e h m = at-24 inv c m
-  turn off p25 e h m = at-25 inv c e m
-  turn off (swap found q) e h m = at-found inv c q m
-  turn off p30 e h m = at-30 inv c e m
-  turn off p31 e h m = at-31 inv c e m
-  turn off p32 e h m = at-32 inv c e m
-  turn off p33 e h m = at-33 inv c m
-  turn off p34 e h m = at-34 inv c m
-  turn off p35 e h m = at-35 inv c m
+  turn off p20 e h m = at_20 inv c m
+  turn off p21 e h m = at_21 inv c m
+  turn off p22 e h m = at_22 inv c m
+  turn off p23 e h m = at_23 inv c m
+  turn off p24 e h m = at_24 inv c m
+  turn off p25 e h m = at_25 inv c e m
+  turn off (swap found q) e h m = at_found_lem inv c q m
+  turn off p30 e h m = at_30 inv c e m
+  turn off p31 e h m = at_31 inv c e m
+  turn off p32 e h m = at_32 inv c e m
+  turn off p33 e h m = at_33 inv c m
+  turn off p34 e h m = at_34 inv c m
+  turn off p35 e h m = at_35 inv c m
   turn off p36 e h m = absurd m
   turn off p37 e h m = absurd m
   turn off p38 e h m = absurd m
-  turn off p40 e h m = at-40 s th c m
-  turn off (swap united q) e h m = at-united s th c q m
-  turn off p45 e h m = at-45 s th c m
+  turn off p40 e h m = at_40 s th c m
+  turn off (swap united q) e h m = at_united s th c q m
+  turn off p45 e h m = at_45 s th c m
   turn off p46 e h m = at_46 s th c m
   turn off p47 e h m = at_47 s th c m
   turn off p48 e h m = at_48 s th c m
-  turn off p49 e h m = at-49 s th c m
+  turn off p49 e h m = at_49 s th c m
   turn off p50 e h m = at_50 s th c m
-  turn off p51 e h m = at-51 s th c m
+  turn off p51 e h m = at_51 s th c m
   turn off p60 e h m = absurd m
   turn off p61 e h m = absurd m
   turn off p62 e h m = absurd m
@@ -172,10 +172,10 @@ module _ {b : Bench} {hist : Hist} {now : ℕ} {first : ℕ → Link} (inv : Inv
   finds p24 e m = refl
   finds p25 e m = ap not (eq-eqb _ _ m.0.here)
   finds (swap found q) e (k, um, v, o, h, l, ib) = not_missed _ (probed s th.found q v o h)
-  finds p30 e m = ap (λ l. not (is_nil l)) (free-30 inv c e m)
+  finds p30 e m = ap (λ l. not (is_nil l)) (free_30 inv c e m)
   finds p31 e m = refl
   finds p32 e m = refl
-  finds p33 e m = subst (λ z. grand_taken z (sight_of s) ≡ false) (sym m.3) (ap (λ l. not (is_nil l)) (free-33 inv c m))
+  finds p33 e m = subst (λ z. grand_taken z (sight_of s) ≡ false) (sym m.3) (ap (λ l. not (is_nil l)) (free_33 inv c m))
   finds p34 e m = refl
   finds p35 e m = ap (λ l. not (is_preparing l)) m.0.stage
   finds p36 e m = refl
@@ -215,8 +215,8 @@ module _ {b : Bench} {hist : Hist} {now : ℕ} {first : ℕ → Link} (inv : Inv
   pub brief : (p : Place) → Stands b 0 p → is_idle th ≡ false → Mine p s th c → updates th.action ≡ true → suc c ≤ 68
   brief nowhere e h m a = absurd (busy e h)
   brief p1 e h m a = omega (arith, m.1)
-  brief p2 e h (t, q, n, k) a = omega (arith, reached-depth (mem inv c) q.depth th.route q.lo q.hi q.path)
-  brief p3 e h (t, q, n, k) a = omega (arith, reached-depth (mem inv c) q.depth th.base q.lo q.hi q.path)
+  brief p2 e h (t, q, n, k) a = omega (arith, reached_depth (mem inv c) q.depth th.route q.lo q.hi q.path)
+  brief p3 e h (t, q, n, k) a = omega (arith, reached_depth (mem inv c) q.depth th.base q.lo q.hi q.path)
   brief (swap own q) e h (t, v, o, i, n) a = omega (arith, one_left q)
   brief p4 e h m a = absurd m
   brief p5 e h m a = absurd m

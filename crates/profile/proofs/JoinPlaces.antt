@@ -28,14 +28,14 @@ use Rattle.answers.proofs.Memory.{kid_at, World, Hist, Live, Born, lives, key_of
 use Rattle.answers.proofs.Facts.{goal}
 use Rattle.answers.proofs.Invariant.{Inv, Stands}
 use Rattle.answers.proofs.Shown.{kind_route}
-use Rattle.answers.proofs.ReadPlaces.{here, know-now}
+use Rattle.answers.proofs.ReadPlaces.{here, know_now}
 use Rattle.answers.proofs.PlaceNumbers.{place_number}
-use Rattle.answers.proofs.Descent.{reached-live}
+use Rattle.answers.proofs.Descent.{reached_live}
 use Rattle.answers.specs.Reachable.{top}
-use Rattle.profile.proofs.Tidy.{Tidy, at_same, at_other_lem, alike_hang, used_hang, tidy-used, tidy-fill, tidy_hang, tidy_main, new_unmarked, tidy-parent, tidy-grand, tidy-close}
-use Rattle.profile.proofs.Alone.{base-hangs, unmarked, top-inside, top-route, below}
+use Rattle.profile.proofs.Tidy.{Tidy, at_same, at_other_lem, alike_hang, used_hang, tidy_used, tidy_fill, tidy_hang, tidy_main, new_unmarked, tidy_parent, tidy_grand, tidy_close}
+use Rattle.profile.proofs.Alone.{base_hangs, unmarked, top_inside, top_route, below}
 use Rattle.profile.proofs.Mine.{Sits, Probed, struck, onward, probed, keep_sits, new_sits, push_sits, Spotted, Seek, Work, Unmarked, Hung, Climb, Over, Mine}
-use Rattle.profile.proofs.EarlyPlaces.{OkTurn, fork, pick_true, quiet_base, w, mem, live_of, child-of}
+use Rattle.profile.proofs.EarlyPlaces.{OkTurn, fork, pick_true, quiet_base, w, mem, live_of, child_of}
 
 -- ---- a node with kind, parent and children as they were
 
@@ -70,8 +70,8 @@ module _ (s s' : Store) (fr : Framed s s') (u : s.used ≤ s'.used) where
       go Root (e, i) = ((fr x h.low).parent ∙ e, r ∙ i)
       go (Under p f) (e, i, l) = ((fr x h.low).parent ∙ e, frame_kid _ _ (fr p l) f ∙ i, omega arith)
 
-  pub work-on : {a : Action} {o : Bool} {m P : ℕ} {g g' : Link} → Work s a o m P g → Tidy s'.nodes s'.used (To m) g' → (s'.nodes m).stage ≡ (s.nodes m).stage → Work s' a o m P g'
-  work-on {m = m} {P = P} k t e = let l = (k.tidy.mains m k.kind).0 in record {
+  pub work_on : {a : Action} {o : Bool} {m P : ℕ} {g g' : Link} → Work s a o m P g → Tidy s'.nodes s'.used (To m) g' → (s'.nodes m).stage ≡ (s.nodes m).stage → Work s' a o m P g'
+  work_on {m = m} {P = P} k t e = let l = (k.tidy.mains m k.kind).0 in record {
     act = k.act;
     owner = k.owner;
     tidy = t;
@@ -82,9 +82,9 @@ module _ (s s' : Store) (fr : Framed s s') (u : s.used ≤ s'.used) where
     low = omega (arith, k.low);
   }
 
-  pub over-on : s'.root ≡ s.root → ((x : ℕ) → x < s.used → (s'.nodes x).mark ≡ (s.nodes x).mark) → (m P : ℕ) (g : Link) → Over s m P g → Over s' m P g
-  over-on r k m P Nil h = r ∙ h
-  over-on r k m P (To G) (f, (i, j, l)) = (f, (frame_kid _ _ (fr G l) f ∙ i, k G l ∙ j, omega arith))
+  pub over_on : s'.root ≡ s.root → ((x : ℕ) → x < s.used → (s'.nodes x).mark ≡ (s.nodes x).mark) → (m P : ℕ) (g : Link) → Over s m P g → Over s' m P g
+  over_on r k m P Nil h = r ∙ h
+  over_on r k m P (To G) (f, (i, j, l)) = (f, (frame_kid _ _ (fr G l) f ∙ i, k G l ∙ j, omega arith))
 
 module _ {b : Bench} {hist : Hist} {now : ℕ} {first : ℕ → Link} (inv : Inv b hist now first) (c : ℕ) where
   abbrev th : Thread
@@ -120,8 +120,8 @@ module _ {b : Bench} {hist : Hist} {now : ℕ} {first : ℕ → Link} (inv : Inv
 
   -- the base found is another
   other_base : Stands b 0 p25 → Seek s th.action th.parent th.base th.left → th.base ≢ th.found
-  other_base e k z = go th.left _ _ ((mem inv c).routes.live-lo th.parent th.left k.route lp) ((mem inv c).routes.live-hi th.parent th.left k.route lp)
-      (subst (λ v. (W.lo v ≤ goal W th.parent th.left) × (goal W th.parent th.left < W.hi v)) (sym z ∙ sym k.here) ((know-now inv 0 p25 e).1.search k.here))
+  other_base e k z = go th.left _ _ ((mem inv c).routes.live_lo th.parent th.left k.route lp) ((mem inv c).routes.live_hi th.parent th.left k.route lp)
+      (subst (λ v. (W.lo v ≤ goal W th.parent th.left) × (goal W th.parent th.left < W.hi v)) (sym z ∙ sym k.here) ((know_now inv 0 p25 e).1.search k.here))
     where
       lp : Live W th.parent
       lp = live_of inv c th.parent k.reach
@@ -130,9 +130,9 @@ module _ {b : Bench} {hist : Hist} {now : ℕ} {first : ℕ → Link} (inv : Inv
       go true x y i j h = omega arith
       go false x y i j h = omega (arith, (mem inv c).routes.key th.parent k.route (lives lp))
 
-  pub at-25 : Stands b 0 p25 → Mine p25 s th c → Ok (step p25 (sight_of s) th)
+  pub at_25 : Stands b 0 p25 → Mine p25 s th c → Ok (step p25 (sight_of s) th)
   unfolding step
-  at-25 e (k, q, ib) = pick_true Ok _ _ _ (eq-eqb _ _ k.here) (fork s th c _ _ _ (λ _. made) (λ _. tt))
+  at_25 e (k, q, ib) = pick_true Ok _ _ _ (eq-eqb _ _ k.here) (fork s th c _ _ _ (λ _. made) (λ _. tt))
     where
       made : Mine (swap found ReadLeft) (hang (Under th.parent th.left) s.used (push s.used M s))
           (record { action = th.action; station = th.station; extra = th.extra; place = 26; route = th.route; read = th.read; base = th.base; parent = th.parent; left = th.left; found = th.found; neighbour = th.neighbour; main = s.used; owner = true; grandparent = th.grandparent; other = th.other; frames = th.frames }) (suc c)
@@ -142,14 +142,14 @@ module _ {b : Bench} {hist : Hist} {now : ℕ} {first : ℕ → Link} (inv : Inv
           let zp : s1.nodes th.parent ≡ s.nodes th.parent = at_other_lem s.nodes u th.parent v (λ z. omega arith) in
           let zf : s1.nodes th.found ≡ s.nodes th.found = at_other_lem s.nodes u th.found v (λ z. omega arith) in
           let zu : s1.nodes u ≡ v = at_same s.nodes u v in
-          let (v0, o) = base-hangs (mem inv c) k.quiet th.found ib (live_of inv c th.found q) in (
+          let (v0, o) = base_hangs (mem inv c) k.quiet th.found ib (live_of inv c th.found q) in (
             record {
               act = k.act;
               owner = refl;
               tidy = tidy_hang sp u s1 (tidy_main k.quiet v refl (λ z. clash (cc)) (λ z. clash (cc)));
               kind = (alike_hang sp u s1 u).kind ∙ ap (λ z. z.kind) zu;
               stage = (alike_hang sp u s1 u).stage ∙ ap (λ z. z.stage) zu;
-              parent = (alike_hang sp u s1 u).parent ∙ ap (λ z. z.parent) zu ∙ (know-now inv 0 p25 e).0.parent;
+              parent = (alike_hang sp u s1 u).parent ∙ ap (λ z. z.parent) zu ∙ (know_now inv 0 p25 e).0.parent;
               route = (alike_hang sp u s1 th.parent).kind ∙ ap (λ z. z.kind) zp ∙ k.route;
               low = omega arith;
             },
@@ -163,9 +163,9 @@ module _ {b : Bench} {hist : Hist} {now : ℕ} {first : ℕ → Link} (inv : Inv
 
   -- ---- 26 to 29
 
-  pub at-found : (q : Quarter) → Mine (swap found q) s th c → Ok (step (swap found q) (sight_of s) th)
+  pub at_found_lem : (q : Quarter) → Mine (swap found q) s th c → Ok (step (swap found q) (sight_of s) th)
   unfolding step
-  at-found q (k, um, v, o, h, l, ib) = by _ (probed s th.found q v o h)
+  at_found_lem q (k, um, v, o, h, l, ib) = by _ (probed s th.found q v o h)
     where
       neigh : (v : Spot) → Sits s v th.found → Work (hang v s.used s1) th.action th.owner th.main th.parent Nil × Unmarked (hang v s.used s1) th.main × Hung (hang v s.used s1) s.used
       neigh v o = let u = s.used in
@@ -206,20 +206,20 @@ module _ {b : Bench} {hist : Hist} {now : ℕ} {first : ℕ → Link} (inv : Inv
   live_parent : Born W th.main → Work s th.action th.owner th.main th.parent Nil → Live W th.parent
   live_parent bo k = ((mem inv c).mains.prep th.main th.parent k.kind bo k.stage k.parent).0
 
-  pub free-30 : Stands b 0 p30 → Mine p30 s th c → (s.nodes th.parent).mark ≡ Nil
-  free-30 e (k, um, h) = unmarked (mem inv c) k.tidy th.parent k.route (live_parent (know-now inv 0 p30 e).0.owns.born k) (λ m z i. um th.parent (i ∙ sym z))
+  pub free_30 : Stands b 0 p30 → Mine p30 s th c → (s.nodes th.parent).mark ≡ Nil
+  free_30 e (k, um, h) = unmarked (mem inv c) k.tidy th.parent k.route (live_parent (know_now inv 0 p30 e).0.owns.born k) (λ m z i. um th.parent (i ∙ sym z))
 
-  pub at-30 : Stands b 0 p30 → Mine p30 s th c → Ok (step p30 (sight_of s) th)
+  pub at_30 : Stands b 0 p30 → Mine p30 s th c → Ok (step p30 (sight_of s) th)
   unfolding step
-  at-30 e (k, um, h) = pick_true Ok _ _ _ (ap is_nil (free-30 e (k, um, h))) (
-    work-on s (marked th.parent) (framed_mark s th.parent (To th.main)) (omega arith) k (tidy-parent s.nodes s.used th.main k.kind th.parent k.tidy k.parent) (stage_mark th.parent th.main),
+  at_30 e (k, um, h) = pick_true Ok _ _ _ (ap is_nil (free_30 e (k, um, h))) (
+    work_on s (marked th.parent) (framed_mark s th.parent (To th.main)) (omega arith) k (tidy_parent s.nodes s.used th.main k.kind th.parent k.tidy k.parent) (stage_mark th.parent th.main),
     hung_on s (marked th.parent) (framed_mark s th.parent (To th.main)) (omega arith) refl th.neighbour h,
   )
 
-  pub at-31 : Stands b 0 p31 → Mine p31 s th c → Ok (step p31 (sight_of s) th)
+  pub at_31 : Stands b 0 p31 → Mine p31 s th c → Ok (step p31 (sight_of s) th)
   unfolding step
-  at-31 e (k, h) = fork s th c _ _ _ (λ z. (k, h, eqb-true _ _ z)) (λ z. let lp = live_parent (know-now inv 0 p31 e).0.owns.born k in
-      let tr = top-route (mem inv c) th.parent k.route lp in let (i, j) = top-inside (mem inv c) th.parent k.route lp in
+  at_31 e (k, h) = fork s th c _ _ _ (λ z. (k, h, eqb-true _ _ z)) (λ z. let lp = live_parent (know_now inv 0 p31 e).0.owns.born k in
+      let tr = top_route (mem inv c) th.parent k.route lp in let (i, j) = top_inside (mem inv c) th.parent k.route lp in
       pick_true Ok _ _ _ tr (
         k,
         h,
@@ -227,50 +227,50 @@ module _ {b : Bench} {hist : Hist} {now : ℕ} {first : ℕ → Link} (inv : Inv
           reach = record { depth = 0; lo = 0; hi = 64; path = top refl refl refl refl };
           route = kind_route _ tr;
           apart = eqb-false _ _ z;
-          from-lo = rw (mem inv c).shape.root-lo at i;
-          to-hi = rw (mem inv c).shape.root-hi at j;
+          from_lo = rw (mem inv c).shape.root_lo at i;
+          to_hi = rw (mem inv c).shape.root_hi at j;
         },
       ))
 
   abbrev x : ℕ
   x = child_for (s.nodes th.parent).key (shape (s.nodes th.route))
 
-  pub at-32 : Stands b 0 p32 → Mine p32 s th c → Ok (step p32 (sight_of s) th)
+  pub at_32 : Stands b 0 p32 → Mine p32 s th c → Ok (step p32 (sight_of s) th)
   unfolding step
-  at-32 e (k, h, u) = fork s th c _ _ _
+  at_32 e (k, h, u) = fork s th c _ _ _
       (λ z. (k, h, th.route, refl, record { reach = u.reach; route = u.route; apart = u.apart; side = side; here = eqb-true _ _ z }))
       (λ z. pick_true Ok _ _ _ next.0 (k, h, climbs z))
     where
       lp : Live W th.parent
-      lp = live_parent (know-now inv 0 p32 e).0.owns.born k
+      lp = live_parent (know_now inv 0 p32 e).0.owns.born k
 
       side : Bool
       side = ltb (s.nodes th.parent).key (s.nodes th.route).key
 
       from : Live W th.route × (W.lo th.route ≡ u.reach.lo) × (W.hi th.route ≡ u.reach.hi)
-      from = let (a, i, j, _) = reached-live (mem inv c) u.reach.depth th.route u.reach.lo u.reach.hi u.reach.path in (a, i, j)
+      from = let (a, i, j, _) = reached_live (mem inv c) u.reach.depth th.route u.reach.lo u.reach.hi u.reach.path in (a, i, j)
 
       next : (is_route (s.nodes x).kind ≡ true) × ((W.lo x < (s.nodes th.parent).key) × ((s.nodes th.parent).key < W.hi x))
-      next = let (a, i, j) = from in below (mem inv c) th.parent k.route lp th.route u.route a u.apart (omega (arith, u.from-lo), omega (arith, u.to-hi))
+      next = let (a, i, j) = from in below (mem inv c) th.parent k.route lp th.route u.route a u.apart (omega (arith, u.from_lo), omega (arith, u.to_hi))
 
       there : Spotted s x
-      there = child-of inv c th.route (ltb (s.nodes th.parent).key (s.nodes th.route).key) u.reach u.route
+      there = child_of inv c th.route (ltb (s.nodes th.parent).key (s.nodes th.route).key) u.reach u.route
 
       climbs : eqb x th.parent ≡ false → Climb s x th.parent
-      climbs z = let (_, i, j, _) = reached-live (mem inv c) there.depth x there.lo there.hi there.path in let (_, (p, q)) = next in
-          record { reach = there; route = kind_route _ next.0; apart = eqb-false _ _ z; from-lo = omega arith; to-hi = omega arith }
+      climbs z = let (_, i, j, _) = reached_live (mem inv c) there.depth x there.lo there.hi there.path in let (_, (p, q)) = next in
+          record { reach = there; route = kind_route _ next.0; apart = eqb-false _ _ z; from_lo = omega arith; to_hi = omega arith }
 
-  pub free-33 : (o : Mine p33 s th c) → (s.nodes o.2).mark ≡ Nil
-  free-33 (k, h, G, e, a) = unmarked (mem inv c) k.tidy G a.route (live_of inv c G a.reach) (λ m z i. go m z i (k.tidy.marks G m i).1)
+  pub free_33 : (o : Mine p33 s th c) → (s.nodes o.2).mark ≡ Nil
+  free_33 (k, h, G, e, a) = unmarked (mem inv c) k.tidy G a.route (live_of inv c G a.reach) (λ m z i. go m z i (k.tidy.marks G m i).1)
     where
       go : (m : ℕ) → ◌≡◌ {A = Link} (To th.main) (To m) → (s.nodes G).mark ≡ To m → ((s.nodes m).parent ≡ To G) ⊎ ((◌≡◌ {A = Link} (To th.main) (To m)) × (◌≡◌ {A = Link} Nil (To G))) → ⊥
       go m z i (inl p) = a.apart (let v = k.parent in let y : th.main ≡ m = cc in cc)
       go m z i (inr (_, p)) = clash (cc)
 
-  pub at-33 : Mine p33 s th c → Ok (step p33 (sight_of s) th)
+  pub at_33 : Mine p33 s th c → Ok (step p33 (sight_of s) th)
   unfolding step
-  at-33 (k, h, G, e, a) = rw e (pick_true Ok _ _ _ (ap is_nil (free-33 (k, h, G, e, a))) (rw e (
-    work-on s (marked G) (framed_mark s G (To th.main)) (omega arith) k (tidy-grand s.nodes s.used th.main k.kind G k.tidy) (stage_mark G th.main),
+  at_33 (k, h, G, e, a) = rw e (pick_true Ok _ _ _ (ap is_nil (free_33 (k, h, G, e, a))) (rw e (
+    work_on s (marked G) (framed_mark s G (To th.main)) (omega arith) k (tidy_grand s.nodes s.used th.main k.kind G k.tidy) (stage_mark G th.main),
     hung_on s (marked G) (framed_mark s G (To th.main)) (omega arith) refl th.neighbour h,
     (a.side, (frame_kid _ _ (framed_mark s G (To th.main) G lg) a.side ∙ a.here, ap (λ z. z.mark) (at_same s.nodes G (over (with_mark (To th.main)) (s.nodes G))), lg)),
   )))
@@ -280,9 +280,9 @@ module _ {b : Bench} {hist : Hist} {now : ℕ} {first : ℕ → Link} (inv : Inv
 
   -- ---- 34, 35
 
-  pub at-34 : Mine p34 s th c → Ok (step p34 (sight_of s) th)
+  pub at_34 : Mine p34 s th c → Ok (step p34 (sight_of s) th)
   unfolding step
-  at-34 k = k
+  at_34 k = k
 
   -- the union node U, and the main closed
   abbrev united : Link → Container → Entry
@@ -303,14 +303,14 @@ module _ {b : Bench} {hist : Hist} {now : ℕ} {first : ℕ → Link} (inv : Inv
     record {
       act = k.act;
       owner = k.owner;
-      tidy = subst (λ z. Tidy (s3 p x).nodes (s3 p x).used (To th.main) z) (sym (ap (λ z. z.grandparent) zm)) (tidy-close (s2 p x).nodes (suc s.used) th.main (C p x) (record { kind = refl; mark = refl; parent = refl })
-          (tidy-used (tidy-fill k.tidy s.used (united p x) (omega arith) (λ z. clash (cc)) refl (λ z. clash (cc)) (λ z. clash (cc))) (suc s.used) (omega arith)) (λ z. clash (cc)));
+      tidy = subst (λ z. Tidy (s3 p x).nodes (s3 p x).used (To th.main) z) (sym (ap (λ z. z.grandparent) zm)) (tidy_close (s2 p x).nodes (suc s.used) th.main (C p x) (record { kind = refl; mark = refl; parent = refl })
+          (tidy_used (tidy_fill k.tidy s.used (united p x) (omega arith) (λ z. clash (cc)) refl (λ z. clash (cc)) (λ z. clash (cc))) (suc s.used) (omega arith)) (λ z. clash (cc)));
       kind = (fr th.main lm).kind ∙ k.kind;
       stage = ap (λ z. z.stage) zm;
       parent = (fr th.main lm).parent ∙ k.parent;
       route = (fr th.parent k.low).kind ∙ k.route;
     },
-    subst (λ z. Over (s3 p x) th.main th.parent z) (sym (ap (λ z. z.grandparent) zm)) (over-on s (s3 p x) fr (omega arith) refl marks th.main th.parent th.grandparent o),
+    subst (λ z. Over (s3 p x) th.main th.parent z) (sym (ap (λ z. z.grandparent) zm)) (over_on s (s3 p x) fr (omega arith) refl marks th.main th.parent th.grandparent o),
     subst (λ z. Hung (s3 p x) z) (sym (ap (λ z. z.neighbour) zm)) (hung_on s (s3 p x) fr (omega arith) refl th.neighbour h),
   )
     where
@@ -333,6 +333,6 @@ module _ {b : Bench} {hist : Hist} {now : ℕ} {first : ℕ → Link} (inv : Inv
         | no e ↦ ap (λ v. v.mark) (at_other_lem (s2 p x).nodes th.main y (C p x) e) ∙ ap (λ v. v.mark) (old y l)
       ]
 
-  pub at-35 : Mine p35 s th c → Ok (step p35 (sight_of s) th)
+  pub at_35 : Mine p35 s th c → Ok (step p35 (sight_of s) th)
   unfolding step
-  at-35 o = pick_true Ok _ _ _ (ap is_preparing o.0.stage) (fork s th c _ _ _ (λ _. closes _ _ o) (λ _. tt))
+  at_35 o = pick_true Ok _ _ _ (ap is_preparing o.0.stage) (fork s th c _ _ _ (λ _. closes _ _ o) (λ _. tt))

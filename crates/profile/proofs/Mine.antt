@@ -165,8 +165,8 @@ pub record Climb (s : Store) (x P : ℕ) : Type 0 where
   pub reach : Spotted s x
   pub route : (s.nodes x).kind ≡ Route
   pub apart : x ≢ P
-  pub from-lo : reach.lo < (s.nodes P).key
-  pub to-hi : (s.nodes P).key < reach.hi
+  pub from_lo : reach.lo < (s.nodes P).key
+  pub to_hi : (s.nodes P).key < reach.hi
 
 -- 33: the grandparent G
 pub record Grand (s : Store) (G P : ℕ) : Type 0 where

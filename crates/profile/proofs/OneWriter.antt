@@ -188,7 +188,7 @@ module _ {b : Bench} {hist : Hist} {now : ℕ} {f : ℕ → Link} (inv : Inv b h
   taken_other : (t : ℕ) → t ≢ 0 → (o : Turn) → Harmless b.store o → Kept 0 t (taken b t o)
   unfolding taken
   taken_other t h (Moves th' e) (s, l) = (
-    no-update,
+    no_update,
     tt,
     record {
       out = same_switch e b.store ∙ z.out;
@@ -197,10 +197,10 @@ module _ {b : Bench} {hist : Hist} {now : ℕ} {f : ℕ → Link} (inv : Inv b h
     },
   )
     where
-      no-update : Brief (b.threads t) (counted 0 t c t)
-      no-update a = absurd (false≢true (sym (ap updates (z.others t h).act) ∙ a))
+      no_update : Brief (b.threads t) (counted 0 t c t)
+      no_update a = absurd (false≢true (sym (ap updates (z.others t h).act) ∙ a))
   taken_other t h (Finishes e a) s = (
-    no-update,
+    no_update,
     no_join,
     record {
       out = same_switch e b.store ∙ z.out;
@@ -209,8 +209,8 @@ module _ {b : Bench} {hist : Hist} {now : ℕ} {f : ℕ → Link} (inv : Inv b h
     },
   )
     where
-      no-update : Brief (b.threads t) (counted 0 t c t)
-      no-update a = absurd (false≢true (sym (ap updates (z.others t h).act) ∙ a))
+      no_update : Brief (b.threads t) (counted 0 t c t)
+      no_update a = absurd (false≢true (sym (ap updates (z.others t h).act) ∙ a))
 
       no_join : Joined (row (shown a) 0 0) b.store (b.threads t)
       no_join = neither b.store (b.threads t) (shown a) (λ e. clash (let i = (z.others t h).act in cc)) (λ e. clash (let i = (z.others t h).act in cc))
@@ -228,20 +228,20 @@ module _ {b : Bench} {hist : Hist} {now : ℕ} {f : ℕ → Link} (inv : Inv b h
 
   steps : (t : ℕ) → Kept 0 t (stepped b t y d)
   unfolding stepped
-  steps t = pick 0 t _ _ _ (λ _. pick 0 t _ _ _ (λ _. pick 0 t _ _ _ (λ _. tt) (λ i. elim (t ==? 0) [ yes e ↦ at-0 t e i | no e ↦ taken_other t e _ (looking b.store (b.threads t) z.out (z.others t e)) ])) (λ _. tt)) (λ _. tt)
+  steps t = pick 0 t _ _ _ (λ _. pick 0 t _ _ _ (λ _. pick 0 t _ _ _ (λ _. tt) (λ i. elim (t ==? 0) [ yes e ↦ at_0 t e i | no e ↦ taken_other t e _ (looking b.store (b.threads t) z.out (z.others t e)) ])) (λ _. tt)) (λ _. tt)
     where
-      at-0 : (t : ℕ) → t ≡ 0 → is_idle (b.threads t) ≡ false → Kept 0 t (taken b t (step (place_of (b.threads t).place) (sight_of b.store) (b.threads t)))
-      at-0 t e i = let i' : is_idle (b.threads 0) ≡ false = rw e at i in
+      at_0 : (t : ℕ) → t ≡ 0 → is_idle (b.threads t) ≡ false → Kept 0 t (taken b t (step (place_of (b.threads t).place) (sight_of b.store) (b.threads t)))
+      at_0 t e i = let i' : is_idle (b.threads 0) ≡ false = rw e at i in
           subst (λ v. Kept 0 v (taken b v (step (place_of (b.threads v).place) (sight_of b.store) (b.threads v)))) (sym e) (taken_mine _ (turn inv (c 0) z.out (place_of (b.threads 0).place) refl i' z.mine) (brief inv (c 0) (place_of (b.threads 0).place) refl i' z.mine))
 
   -- ---- starts
 
   begins : (n t : ℕ) (a : Action) → (t ≢ 0 → a ≡ Lookup) → Kept (suc n) t (started b t a y d)
   unfolding started
-  begins n t a h = pick (suc n) t _ _ _ (λ _. tt) (λ _. pick (suc n) t _ _ _ (λ _. pick (suc n) t _ _ _ (λ i. ((λ _. rw (eq-eqb t t refl) (omega arith)), tt, elim (t ==? 0) [ yes e ↦ at-0 e i | no e ↦ at_other_lem e ])) (λ _. tt)) (λ _. tt))
+  begins n t a h = pick (suc n) t _ _ _ (λ _. tt) (λ _. pick (suc n) t _ _ _ (λ _. pick (suc n) t _ _ _ (λ i. ((λ _. rw (eq-eqb t t refl) (omega arith)), tt, elim (t ==? 0) [ yes e ↦ at_0 e i | no e ↦ at_other_lem e ])) (λ _. tt)) (λ _. tt))
     where
-      at-0 : t ≡ 0 → is_idle (b.threads t) ≡ true → Solo (bench b.store (upd b.threads t (begun a y d 1))) (counted (suc n) t c)
-      at-0 e i = let i' : is_idle (b.threads 0) ≡ true = rw e at i in
+      at_0 : t ≡ 0 → is_idle (b.threads t) ≡ true → Solo (bench b.store (upd b.threads t (begun a y d 1))) (counted (suc n) t c)
+      at_0 e i = let i' : is_idle (b.threads 0) ≡ true = rw e at i in
           let q = subst (λ v. Mine (place_of v) b.store (b.threads 0) (c 0)) (eqb-true (b.threads 0).place 0 i') z.mine in
           subst (λ v. Solo (bench b.store (upd b.threads v (begun a y d 1))) (counted (suc n) v c)) (sym e) (record { out = z.out; mine = (q, refl); others = λ u j. rw (ne_eqb u 0 j) (z.others u j) })
 

@@ -22,7 +22,7 @@ use Rattle.profile.specs.Cut.{stopped_run}
 use Rattle.profile.specs.Claim.{Calm, counted, Past, Throughout, steps_by, Sound, Behind, same, halted, OneWriterFiles}
 use Rattle.profile.proofs.OneWriter.{one_writer}
 use Rattle.profile.proofs.ByRun.{on_step, off_step, stopped_at}
-use Rattle.profile.proofs.Said.{rows-say}
+use Rattle.profile.proofs.Said.{rows_say}
 
 -- ---- one record
 
@@ -46,10 +46,10 @@ behind file zero = same refl
 behind file (suc k) = go (profile_after file k) (behind file k)
   where
     go : (p : Progress) → Behind file k p → Behind file (suc k) (profile_advance file p (record_at file k))
-    go p (halted j l z h e) = rw (off_step file p (record_at file k) (λ i. clash-24 (sym (ap (λ q. q.refusal) e) ∙ i))) (halted j (omega arith) z h e)
+    go p (halted j l z h e) = rw (off_step file p (record_at file k) (λ i. clash_24 (sym (ap (λ q. q.refusal) e) ∙ i))) (halted j (omega arith) z h e)
       where
-        clash-24 : ◌≡◌ {A = ℕ} 24 0 → ⊥
-        clash-24 e = omega arith
+        clash_24 : ◌≡◌ {A = ℕ} 24 0 → ⊥
+        clash_24 e = omega arith
     go p (same e) = elim (p.refusal ==? 0) [
       | yes i ↦ rw (on_step file p (record_at file k) i) (by (barred (record_at file k)) refl i)
       | no i ↦ rw (off_step file p (record_at file k) i) (same (sym (run_off file p (record_at file k) i) ∙ ap (λ q. advance file q (record_at file k)) e))
@@ -172,5 +172,5 @@ one_writer_files file buffer e = record {
   rows = rw (eq-eqb (profile_refusal file (length buffer)) 0 e);
   held = profile_sound file (not_3 file (length buffer) e);
   behind = behind file (count_of file);
-  said = rw (eq-eqb (profile_refusal file (length buffer)) 0 e) (rows-say file (profile_sound file (not_3 file (length buffer) e)) buffer (count_of file));
+  said = rw (eq-eqb (profile_refusal file (length buffer)) 0 e) (rows_say file (profile_sound file (not_3 file (length buffer) e)) buffer (count_of file));
 }

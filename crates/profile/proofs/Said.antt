@@ -137,6 +137,6 @@ module _ (file : List ℕ) where
       byte : (j : ℕ) → j < 4 → get_or (overlay rows buffer) (row_width file * i + j) 0 ≡ get_or rows (row_width file * i + j) 0
       byte j k = get_or-append rows (drop (length rows) buffer) 0 (row_width file * i + j) (inside (eqb (version file) 1) j k h.size)
 
-  pub rows-say : (sound : (k : ℕ) → Sound file k) (buffer : List ℕ) (k i : ℕ) → i < (profile_after file k).finished
+  pub rows_say : (sound : (k : ℕ) → Sound file k) (buffer : List ℕ) (k i : ℕ) → i < (profile_after file k).finished
       → Says (row_byte file (overlay (profile_after file k).rows buffer) i 1) (row_byte file (overlay (profile_after file k).rows buffer) i 3)
-  rows-say sound buffer k i l = lent (profile_after file k).rows buffer (profile_after file k).finished (all_good sound k) i l
+  rows_say sound buffer k i l = lent (profile_after file k).rows buffer (profile_after file k).finished (all_good sound k) i l

@@ -74,14 +74,14 @@ tidy_hang v c s t = rw (used_hang v c s) (tidy_alike (alike_hang v c s) t)
 -- ---- a number not used before
 
 module _ {n : Nodes} {u : ℕ} {l g : Link} (t : Tidy n u l g) where
-  pub tidy-used : (u' : ℕ) → u ≤ u' → Tidy n u' l g
-  tidy-used u' h = record { mains = λ x e. let (i, o) = t.mains x e in (omega arith, o); marks = t.marks; upright = t.upright; rangeless = t.rangeless }
+  pub tidy_used : (u' : ℕ) → u ≤ u' → Tidy n u' l g
+  tidy_used u' h = record { mains = λ x e. let (i, o) = t.mains x e in (omega arith, o); marks = t.marks; upright = t.upright; rangeless = t.rangeless }
 
   old : (i x : ℕ) → u ≤ i → (n x).kind ≡ Main → x ≢ i
   old i x h e z = let (o, _) = t.mains x e in omega arith
 
-  pub tidy-fill : (i : ℕ) (v : Entry) → u ≤ i → v.kind ≢ Main → v.mark ≡ Nil → v.stage ≢ Aborted → v.kind ≢ Range → Tidy (upd n i v) u l g
-  tidy-fill i v h k m a ra = record {
+  pub tidy_fill : (i : ℕ) (v : Entry) → u ≤ i → v.kind ≢ Main → v.mark ≡ Nil → v.stage ≢ Aborted → v.kind ≢ Range → Tidy (upd n i v) u l g
+  tidy_fill i v h k m a ra = record {
     mains = λ x. elim (x ==? i) [ yes e ↦ rw (eq-eqb x i e) (λ z. absurd (k z)) | no e ↦ rw (ne_eqb x i e) (t.mains x) ];
     marks = λ r m'. elim (r ==? i) [
       | yes e ↦ rw (eq-eqb r i e) (λ z. absurd (clash (cc)))
@@ -137,15 +137,15 @@ module _ (n : Nodes) (u m : ℕ) (km : (n m).kind ≡ Main) (r : ℕ) where
   }
 
   -- 30: the parent's
-  pub tidy-parent : Tidy n u (To m) Nil → (n m).parent ≡ To r → Tidy (upd n r (over (with_mark (To m)) (n r))) u (To m) Nil
-  tidy-parent t p = remark (To m) t (λ r' m'. elim (r' ==? r) [
+  pub tidy_parent : Tidy n u (To m) Nil → (n m).parent ≡ To r → Tidy (upd n r (over (with_mark (To m)) (n r))) u (To m) Nil
+  tidy_parent t p = remark (To m) t (λ r' m'. elim (r' ==? r) [
     | yes e ↦ rw (eq-eqb r' r e) (λ z. let i : m ≡ m' = cc in rw (← i, e) (km, inl p))
     | no e ↦ rw (ne_eqb r' r e) (t.marks r' m')
   ])
 
   -- 33: the grandparent's
-  pub tidy-grand : Tidy n u (To m) Nil → Tidy (upd n r (over (with_mark (To m)) (n r))) u (To m) (To r)
-  tidy-grand t = remark (To m) t (λ r' m'. elim (r' ==? r) [
+  pub tidy_grand : Tidy n u (To m) Nil → Tidy (upd n r (over (with_mark (To m)) (n r))) u (To m) (To r)
+  tidy_grand t = remark (To m) t (λ r' m'. elim (r' ==? r) [
     | yes e ↦ rw (eq-eqb r' r e) (λ z. let i : m ≡ m' = cc in (rw (← i) km, inr (z, ap To (sym e))))
     | no e ↦ rw (ne_eqb r' r e) (λ z. let (i, o) = t.marks r' m' z in (i, own r' m' o))
   ])
@@ -155,8 +155,8 @@ module _ (n : Nodes) (u m : ℕ) (km : (n m).kind ≡ Main) (r : ℕ) where
       own r' m' (inr (_, e)) = absurd (clash (cc))
 
   -- 50: cleared
-  pub tidy-clear : Tidy n u (To m) (To r) → Tidy (upd n r (over (with_mark Nil) (n r))) u (To m) Nil
-  tidy-clear t = remark Nil t (λ r' m'. elim (r' ==? r) [
+  pub tidy_clear : Tidy n u (To m) (To r) → Tidy (upd n r (over (with_mark Nil) (n r))) u (To m) Nil
+  tidy_clear t = remark Nil t (λ r' m'. elim (r' ==? r) [
     | yes e ↦ rw (eq-eqb r' r e) (λ z. absurd (clash (cc)))
     | no e ↦ rw (ne_eqb r' r e) (λ z. let (i, o) = t.marks r' m' z in (i, own r' m' e o))
   ])
@@ -181,8 +181,8 @@ module _ (n : Nodes) (u m : ℕ) (v : Entry) (a : Staged v (n m)) where
   upright_on t h x = elim (x ==? m) [ yes e ↦ rw (eq-eqb x m e) h | no e ↦ rw (ne_eqb x m e) (t x) ]
 
   -- 35: the main closes
-  pub tidy-close : {g : Link} → Tidy n u (To m) g → v.stage ≢ Aborted → Tidy (upd n m v) u (To m) g
-  tidy-close {g} t h = record {
+  pub tidy_close : {g : Link} → Tidy n u (To m) g → v.stage ≢ Aborted → Tidy (upd n m v) u (To m) g
+  tidy_close {g} t h = record {
     mains = λ x. elim (x ==? m) [
       | yes e ↦ rw (eq-eqb x m e) (λ z. ((t.mains x (rw (e, ← a.kind) z)).0, inl (ap To (sym e))))
       | no e ↦ rw (ne_eqb x m e) (t.mains x)
@@ -193,8 +193,8 @@ module _ (n : Nodes) (u m : ℕ) (v : Entry) (a : Staged v (n m)) where
   }
 
   -- 51: it is done
-  pub tidy-done : Tidy n u (To m) Nil → v.stage ≡ Done → Tidy (upd n m v) u Nil Nil
-  tidy-done t h = record {
+  pub tidy_done : Tidy n u (To m) Nil → v.stage ≡ Done → Tidy (upd n m v) u Nil Nil
+  tidy_done t h = record {
     mains = λ x. elim (x ==? m) [
       | yes e ↦ rw (eq-eqb x m e) (λ z. ((t.mains x (rw (e, ← a.kind) z)).0, inr h))
       | no e ↦ rw (ne_eqb x m e) (λ z. let (i, o) = t.mains x z in (i, inr (other x e o)))

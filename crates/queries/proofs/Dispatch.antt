@@ -20,7 +20,7 @@ use Rattle.frames.specs.Outcomes.{Acts, Takes, Stands, step_at}
 use Rattle.frames.specs.declared.Outcome.{Outcome}
 use Rattle.frames.specs.declared.Outcome.TheVariants.{Onward, Back, NodesOut}
 use Rattle.frames.proofs.Swaps.{kept}
-use Rattle.frames.proofs.Threads.{takes-top}
+use Rattle.frames.proofs.Threads.{takes_top}
 use Rattle.queries.specs.Seen.{Bare, depth_after}
 
 -- ---- by its number
@@ -151,7 +151,7 @@ pub ruleset late_cases = (placed, stay_83, rules)
 
 pub ruleset bare_cases = (bare_63, bare_68, bare_69, bare_75, bare_83, bare_out, rules)
 
-pub ruleset query_cases = (placed, bare_takes, takes_82, takes-top, rules)
+pub ruleset query_cases = (placed, bare_takes, takes_82, takes_top, rules)
 
 -- ---- how many frames are left
 pub one_less : (r : Outcome) (d : ℕ) {p : ℕ} → r ≡ Back p → d - 1 ≡ depth_after r d

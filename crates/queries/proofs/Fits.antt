@@ -21,9 +21,9 @@ roomy (f ∷ fs) k = omega arith
 -- thread t after k records, whose frames h holds, d of them
 module _ (file : List ℕ) (k t : ℕ) (h : ℕ → Frame) (d : ℕ) (o : ((after file k).bench.threads t).frames ≡ frames_of h t d) where
   -- what `leave` asks; and of the next record, what `enter` asks
-  pub few-fits : d ≤ 4
-  few-fits = few_frames h t d _ o (reach_frames file k t)
+  pub few_fits : d ≤ 4
+  few_fits = few_frames h t d _ o (reach_frames file k t)
 
   -- what `query` asks
-  pub query-fits : 60 ≤ ((after file k).bench.threads t).place → (d ≤ 4) × Room ((after file k).bench.threads t).place (frames_of h t d)
-  query-fits m = (few-fits, λ e l. roomy (frames_of h t d) (subst (λ fs. TopOf fs (λ f. length f.stack ≤ 86)) o (reach_entries file k t (omega arith) l)))
+  pub query_fits : 60 ≤ ((after file k).bench.threads t).place → (d ≤ 4) × Room ((after file k).bench.threads t).place (frames_of h t d)
+  query_fits m = (few_fits, λ e l. roomy (frames_of h t d) (subst (λ fs. TopOf fs (λ f. length f.stack ≤ 86)) o (reach_entries file k t (omega arith) l)))

@@ -34,49 +34,49 @@ module _ (ns : Shapes) (root : ℕ) (l : Link) (x k : ℕ) where
   never (suc (suc (suc i))) h = refl
 
   module _ (e : l ≡ Nil) where
-    pub root-hit : k ≡ 0 → root ≡ x → Hit Root ≡ probe (quarter_of k) l ns root x
+    pub root_hit : k ≡ 0 → root ≡ x → Hit Root ≡ probe (quarter_of k) l ns root x
     unfolding probe ite
-    root-hit d h = rw (eq-eqb _ _ h) at (as_probe e d)
+    root_hit d h = rw (eq-eqb _ _ h) at (as_probe e d)
 
-    pub root-miss : k ≡ 0 → (root ≡ x → ⊥) → Miss ≡ probe (quarter_of k) l ns root x
+    pub root_miss : k ≡ 0 → (root ≡ x → ⊥) → Miss ≡ probe (quarter_of k) l ns root x
     unfolding probe ite
-    root-miss d h = rw (ne_eqb _ _ h) at (as_probe e d)
+    root_miss d h = rw (ne_eqb _ _ h) at (as_probe e d)
 
     pub root_none : (k ≡ 0 → ⊥) → Miss ≡ probe (quarter_of k) l ns root x
     root_none h = never k h ∙ as_probe e refl
 
   -- the parent is p, and y is the child that the step compares
   module _ {p y : ℕ} (e : l ≡ To p) where
-    pub left-seen : k ≡ 0 → y ≡ (ns p).left → y ≡ x → Next SwapLeft ≡ probe (quarter_of k) l ns root x
+    pub left_seen : k ≡ 0 → y ≡ (ns p).left → y ≡ x → Next SwapLeft ≡ probe (quarter_of k) l ns root x
     unfolding probe ite
-    left-seen d i h = rw (eq-eqb _ _ (sym i ∙ h)) at (as_probe e d)
+    left_seen d i h = rw (eq-eqb _ _ (sym i ∙ h)) at (as_probe e d)
 
-    pub left-unseen : k ≡ 0 → y ≡ (ns p).left → (y ≡ x → ⊥) → Next ReadRight ≡ probe (quarter_of k) l ns root x
+    pub left_unseen : k ≡ 0 → y ≡ (ns p).left → (y ≡ x → ⊥) → Next ReadRight ≡ probe (quarter_of k) l ns root x
     unfolding probe ite
-    left-unseen d i h = rw (ne_eqb _ _ (λ z. h (i ∙ z))) at (as_probe e d)
+    left_unseen d i h = rw (ne_eqb _ _ (λ z. h (i ∙ z))) at (as_probe e d)
 
-    pub left-hit : k ≡ 1 → y ≡ (ns p).left → y ≡ x → Hit (Under p true) ≡ probe (quarter_of k) l ns root x
+    pub left_hit : k ≡ 1 → y ≡ (ns p).left → y ≡ x → Hit (Under p true) ≡ probe (quarter_of k) l ns root x
     unfolding probe ite
-    left-hit d i h = rw (eq-eqb _ _ (sym i ∙ h)) at (as_probe e d)
+    left_hit d i h = rw (eq-eqb _ _ (sym i ∙ h)) at (as_probe e d)
 
-    pub left-miss : k ≡ 1 → y ≡ (ns p).left → (y ≡ x → ⊥) → Miss ≡ probe (quarter_of k) l ns root x
+    pub left_miss : k ≡ 1 → y ≡ (ns p).left → (y ≡ x → ⊥) → Miss ≡ probe (quarter_of k) l ns root x
     unfolding probe ite
-    left-miss d i h = rw (ne_eqb _ _ (λ z. h (i ∙ z))) at (as_probe e d)
+    left_miss d i h = rw (ne_eqb _ _ (λ z. h (i ∙ z))) at (as_probe e d)
 
-    pub right-seen : k ≡ 2 → y ≡ (ns p).right → y ≡ x → Next SwapRight ≡ probe (quarter_of k) l ns root x
+    pub right_seen : k ≡ 2 → y ≡ (ns p).right → y ≡ x → Next SwapRight ≡ probe (quarter_of k) l ns root x
     unfolding probe ite
-    right-seen d i h = rw (eq-eqb _ _ (sym i ∙ h)) at (as_probe e d)
+    right_seen d i h = rw (eq-eqb _ _ (sym i ∙ h)) at (as_probe e d)
 
-    pub right-unseen : k ≡ 2 → y ≡ (ns p).right → (y ≡ x → ⊥) → Miss ≡ probe (quarter_of k) l ns root x
+    pub right_unseen : k ≡ 2 → y ≡ (ns p).right → (y ≡ x → ⊥) → Miss ≡ probe (quarter_of k) l ns root x
     unfolding probe ite
-    right-unseen d i h = rw (ne_eqb _ _ (λ z. h (i ∙ z))) at (as_probe e d)
+    right_unseen d i h = rw (ne_eqb _ _ (λ z. h (i ∙ z))) at (as_probe e d)
 
-    pub right-hit : (k ≡ 0 → ⊥) → (k ≡ 1 → ⊥) → (k ≡ 2 → ⊥) → y ≡ (ns p).right → y ≡ x → Hit (Under p false) ≡ probe (quarter_of k) l ns root x
+    pub right_hit : (k ≡ 0 → ⊥) → (k ≡ 1 → ⊥) → (k ≡ 2 → ⊥) → y ≡ (ns p).right → y ≡ x → Hit (Under p false) ≡ probe (quarter_of k) l ns root x
     unfolding probe ite
-    right-hit a b c i h = rw (eq-eqb _ _ (sym i ∙ h)) at (last ns root x _ k a b c ∙ as_probe e refl)
+    right_hit a b c i h = rw (eq-eqb _ _ (sym i ∙ h)) at (last ns root x _ k a b c ∙ as_probe e refl)
 
-    pub right-miss : (k ≡ 0 → ⊥) → (k ≡ 1 → ⊥) → (k ≡ 2 → ⊥) → y ≡ (ns p).right → (y ≡ x → ⊥) → Miss ≡ probe (quarter_of k) l ns root x
+    pub right_miss : (k ≡ 0 → ⊥) → (k ≡ 1 → ⊥) → (k ≡ 2 → ⊥) → y ≡ (ns p).right → (y ≡ x → ⊥) → Miss ≡ probe (quarter_of k) l ns root x
     unfolding probe ite
-    right-miss a b c i h = rw (ne_eqb _ _ (λ z. h (i ∙ z))) at (last ns root x _ k a b c ∙ as_probe e refl)
+    right_miss a b c i h = rw (ne_eqb _ _ (λ z. h (i ∙ z))) at (last ns root x _ k a b c ∙ as_probe e refl)
 
-pub ruleset look_cases = (root-hit, root-miss, root_none, left-seen, left-unseen, left-hit, left-miss, right-seen, right-unseen, right-hit, right-miss, rules)
+pub ruleset look_cases = (root_hit, root_miss, root_none, left_seen, left_unseen, left_hit, left_miss, right_seen, right_unseen, right_hit, right_miss, rules)

@@ -97,9 +97,9 @@ module _ (n : Shapes) (k : Stores) (x : ℕ) (f : Frame) (fs : List Frame) (p : 
   by_kind Neighbour e = by_stage Neighbour (n (n x).main).stage (n x).main e refl Check.Replaceable free
   by_kind Range e = by_store (k (n x).store) e
 
-  pub ride-alike : ride_turn (check n k x) f fs me ≡ ite (replaceable n k x) (goes (at (swap opening ReadLeft) me)) (riding (n x) f fs me)
+  pub ride_alike : ride_turn (check n k x) f fs me ≡ ite (replaceable n k x) (goes (at (swap opening ReadLeft) me)) (riding (n x) f fs me)
   unfolding check replaceable
-  ride-alike = by_kind (n x).kind refl
+  ride_alike = by_kind (n x).kind refl
 
 -- ---- the two swaps of a query by their numbers
 swap_open : (q : Quarter) → place_of (number (swap opening q)) ≡ swap opening q
@@ -147,17 +147,17 @@ probed s i l b c eb el = rw (el, eb)
 
 module _ (s : Sight) {h h' : ℕ → Frame} {j : ℕ} where
   -- ---- 60 to 62
-  pub at-60 : {h₁ : ℕ → Frame} {p : ℕ} → h₁ ≡ upd h j (with_stack [] (h j)) → Goes h₁ h' j p (first_turn s.nodes s.root) → Acts h h' j (Onward p Quiet) (step_at 60 s)
+  pub at_60 : {h₁ : ℕ → Frame} {p : ℕ} → h₁ ≡ upd h j (with_stack [] (h j)) → Goes h₁ h' j p (first_turn s.nodes s.root) → Acts h h' j (Onward p Quiet) (step_at 60 s)
   unfolding step_at step
-  at-60 e q = acts_as 60 (goes_acts (onward {d = λ f fs th. reached_first s.nodes s.root [] f fs th} _ e q (λ fs th. root_alike s.nodes s.root (h j) fs th))) (λ fs th. refl)
+  at_60 e q = acts_as 60 (goes_acts (onward {d = λ f fs th. reached_first s.nodes s.root [] f fs th} _ e q (λ fs th. root_alike s.nodes s.root (h j) fs th))) (λ fs th. refl)
 
-  pub at-61 : {p y l x : ℕ} → y ≡ top_of (h j).stack → l ≡ (h j).lower → x ≡ child_for l (s.nodes y) → Goes h h' j p (first_turn s.nodes x) → Acts h h' j (Onward p Quiet) (step_at 61 s)
+  pub at_61 : {p y l x : ℕ} → y ≡ top_of (h j).stack → l ≡ (h j).lower → x ≡ child_for l (s.nodes y) → Goes h h' j p (first_turn s.nodes x) → Acts h h' j (Onward p Quiet) (step_at 61 s)
   unfolding step_at step first_turn
-  at-61 ey el ex q = acts_as 61 (goes_acts q) (λ fs th. ap (λ (z : ℕ). reached_first s.nodes z (h j).stack (h j) fs (to_frames 61 (h j ∷ fs) th)) (ex ∙ ap₂ (λ (a b : ℕ). child_for a (s.nodes b)) el ey))
+  at_61 ey el ex q = acts_as 61 (goes_acts q) (λ fs th. ap (λ (z : ℕ). reached_first s.nodes z (h j).stack (h j) fs (to_frames 61 (h j ∷ fs) th)) (ex ∙ ap₂ (λ (a b : ℕ). child_for a (s.nodes b)) el ey))
 
-  pub at-62 : {r : Outcome} {b : ℕ} {c : Check} → b ≡ (h j).base → c ≡ check s.nodes s.stores b → Acts h h' j r (ride_turn c) → Acts h h' j r (step_at 62 s)
+  pub at_62 : {r : Outcome} {b : ℕ} {c : Check} → b ≡ (h j).base → c ≡ check s.nodes s.stores b → Acts h h' j r (ride_turn c) → Acts h h' j r (step_at 62 s)
   unfolding step_at step
-  at-62 eb ec q = acts_as 62 q (λ fs th. ap (λ (x : Check). ride_turn x (h j) fs (to_frames 62 (h j ∷ fs) th)) (ec ∙ ap (check s.nodes s.stores) eb) ∙ ride-alike s.nodes s.stores (h j).base (h j) fs 62 th)
+  at_62 eb ec q = acts_as 62 q (λ fs th. ap (λ (x : Check). ride_turn x (h j) fs (to_frames 62 (h j ∷ fs) th)) (ec ∙ ap (check s.nodes s.stores) eb) ∙ ride_alike s.nodes s.stores (h j).base (h j) fs 62 th)
 
   -- ---- 70 to 74, 76
   pub at_70 : {p y l k : ℕ} → y ≡ top_of (h j).stack → l ≡ (s.nodes y).left → k ≡ (s.nodes y).key → Goes h h' j p (left_turn l k) → Acts h h' j (Onward p Quiet) (step_at 70 s)
@@ -194,10 +194,10 @@ module _ (s : Sight) {h h' : ℕ → Frame} {j : ℕ} where
       ∙ (ap₂ (λ (y : Probe) (x : ℕ). opened_by y (s.nodes x) s (h j) fs (to_frames p (h j ∷ fs) th)) (ew ∙ probed s (p - 64) l b (h j).base eb el) eb
       ∙ ap (λ (y : Place). step y s (to_frames p (h j ∷ fs) th)) (sym (at_swap opening swap_open p m o))))
 
-  pub at-go-on : {r : Outcome} {b c : ℕ} {l : Link} {w : Probe} (p : ℕ) → b ≡ (h j).base → l ≡ (s.nodes b).parent → c ≡ (s.nodes b).container → 77 ≤ p → p < 81 → w ≡ probe (quarter_of (p - 77)) l s.nodes s.root b
+  pub at_go_on : {r : Outcome} {b c : ℕ} {l : Link} {w : Probe} (p : ℕ) → b ≡ (h j).base → l ≡ (s.nodes b).parent → c ≡ (s.nodes b).container → 77 ≤ p → p < 81 → w ≡ probe (quarter_of (p - 77)) l s.nodes s.root b
       → Acts h h' j r (go_on_turn w l c s.used) → Acts h h' j r (step_at p s)
   unfolding step_at step go_on_turn
-  at-go-on {r} {b} {c} {l} {w} p eb el ec m o ew k = acts_as p k (λ fs th. rw (el, ec) (next_alike w (s.nodes b) s (h j) fs (to_frames p (h j ∷ fs) th))
+  at_go_on {r} {b} {c} {l} {w} p eb el ec m o ew k = acts_as p k (λ fs th. rw (el, ec) (next_alike w (s.nodes b) s (h j) fs (to_frames p (h j ∷ fs) th))
       ∙ (ap₂ (λ (y : Probe) (x : ℕ). extended_by y (s.nodes x) s (h j) fs (to_frames p (h j ∷ fs) th)) (ew ∙ probed s (p - 77) l b (h j).base eb el) eb
       ∙ ap (λ (y : Place). step y s (to_frames p (h j ∷ fs) th)) (sym (at_swap next swap_next p m o))))
 

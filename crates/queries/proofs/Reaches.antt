@@ -52,9 +52,9 @@ found_as b f fs th e d g = rw (e, d, g) (found_alike f.store b f fs th)
 
 module _ {h : ℕ → Frame} {j : ℕ} (n : Shapes) (x : ℕ) where
   -- ---- 60, 61
-  pub first-route : {h' : ℕ → Frame} {k : Kind} {t : Bool} → k ≡ (n x).kind → t ≡ is_route k → t ≡ true → h' ≡ upd h j (pushed x (h j).stack (h j)) → Goes h h' j 61 (first_turn n x)
+  pub first_route : {h' : ℕ → Frame} {k : Kind} {t : Bool} → k ≡ (n x).kind → t ≡ is_route k → t ≡ true → h' ≡ upd h j (pushed x (h j).stack (h j)) → Goes h h' j 61 (first_turn n x)
   unfolding first_turn reached_first
-  first-route e d z q = went _ q (λ fs th. sym (chosen _ _ _ (ap is_route (sym e) ∙ (sym d ∙ z))))
+  first_route e d z q = went _ q (λ fs th. sym (chosen _ _ _ (ap is_route (sym e) ∙ (sym d ∙ z))))
 
   pub first_base : {h₁ h' : ℕ → Frame} {k : Kind} {t : Bool} {i c p : ℕ} → k ≡ (n x).kind → t ≡ is_route k → t ≡ false → h₁ ≡ upd h j (in_hand x (h j).stack (h j)) → i ≡ (n x).store → c ≡ (n x).container
       → Goes h₁ h' j p (found_turn k i c) → Goes h h' j p (first_turn n x)
@@ -62,15 +62,15 @@ module _ {h : ℕ → Frame} {j : ℕ} (n : Shapes) (x : ℕ) where
   first_base e d z q s c l = onward _ q l (λ fs th. found_as (n x) (in_hand x (h j).stack (h j)) fs th e s c ∙ sym (other _ _ _ (ap is_route (sym e) ∙ (sym d ∙ z))))
 
   -- ---- 71, 73
-  pub next-route : {h' : ℕ → Frame} {k : Kind} {t : Bool} → k ≡ (n x).kind → t ≡ is_route k → t ≡ true → h' ≡ upd h j (pushed x (h j).stack (h j)) → Goes h h' j 73 (next_turn n x)
+  pub next_route : {h' : ℕ → Frame} {k : Kind} {t : Bool} → k ≡ (n x).kind → t ≡ is_route k → t ≡ true → h' ≡ upd h j (pushed x (h j).stack (h j)) → Goes h h' j 73 (next_turn n x)
   unfolding next_turn reached_next
-  next-route e d z q = went _ q (λ fs th. sym (chosen _ _ _ (ap is_route (sym e) ∙ (sym d ∙ z))))
+  next_route e d z q = went _ q (λ fs th. sym (chosen _ _ _ (ap is_route (sym e) ∙ (sym d ∙ z))))
 
-  pub next-base : {h' : ℕ → Frame} {k : Kind} {t : Bool} → k ≡ (n x).kind → t ≡ is_route k → t ≡ false → h' ≡ upd h j (in_hand x (h j).stack (h j)) → Goes h h' j 74 (next_turn n x)
+  pub next_base : {h' : ℕ → Frame} {k : Kind} {t : Bool} → k ≡ (n x).kind → t ≡ is_route k → t ≡ false → h' ≡ upd h j (in_hand x (h j).stack (h j)) → Goes h h' j 74 (next_turn n x)
   unfolding next_turn reached_next
-  next-base e d z q = went _ q (λ fs th. sym (other _ _ _ (ap is_route (sym e) ∙ (sym d ∙ z))))
+  next_base e d z q = went _ q (λ fs th. sym (other _ _ _ (ap is_route (sym e) ∙ (sym d ∙ z))))
 
-pub ruleset reach_cases = (first-route, first_base, next-route, next-base, rules)
+pub ruleset reach_cases = (first_route, first_base, next_route, next_base, rules)
 
 -- ---- 60: a stack that was emptied has room
 pub cleared_room : (s b r v v' : List ℕ) (j : ℕ) → held s b r v' ≡ upd (held s b r v) j (with_stack [] (held s b r v j)) → stack_length v' j < 88

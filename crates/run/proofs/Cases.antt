@@ -21,7 +21,7 @@ use Rattle.steps.specs.declared.Notes.{Notes}
 use Rattle.steps.specs.Decision.{thread}
 use Rattle.run.specs.Standing.{row_of}
 use Rattle.run.specs.Query.{found_number, found_row}
-use Rattle.run.proofs.Room.{by-file, by_room, by-none}
+use Rattle.run.proofs.Room.{by_file, by_room, by_none}
 
 -- ---- a row
 
@@ -47,9 +47,9 @@ module _ (p : Page) (v t : ℕ) (th : Notes) (b : Answer) (d : ℕ) {a y : ℕ} 
   unfolding ite
   row_put z h = h ∙ rw (f, g, shown_number b, eq-eqb v 1 z)
 
-  pub wide-row-put : {q r : Page} {w : ℕ} → (v ≡ 1 → ⊥) → q ≡ put_all p (t ∷ a ∷ th.station ∷ y ∷ []) → w ≡ d → r ≡ put_all q (wider_row w 0) → r ≡ put_all p (row_of v t th b d)
+  pub wide_row_put : {q r : Page} {w : ℕ} → (v ≡ 1 → ⊥) → q ≡ put_all p (t ∷ a ∷ th.station ∷ y ∷ []) → w ≡ d → r ≡ put_all q (wider_row w 0) → r ≡ put_all p (row_of v t th b d)
   unfolding ite
-  wide-row-put z h j i = i ∙ rw (h, j, ← put_all_append, f, g, shown_number b, ne_eqb v 1 z)
+  wide_row_put z h j i = i ∙ rw (h, j, ← put_all_append, f, g, shown_number b, ne_eqb v 1 z)
 
 -- a row's bytes depend on the file's version alone, and on no frame: in version 1 the depth is not among them
 pub row_as : (file : List ℕ) (v t : ℕ) (th : Notes) (fs : List Frame) (b : Answer) (d d' : ℕ) → v ≡ version file → ((version file ≡ 1 → ⊥) → d ≡ d') → row_of v t th b d ≡ row_bytes file t (thread th fs) (row (shown b) d' 0)
@@ -79,13 +79,13 @@ found_some c e = rw (ne_eqb c 0 e)
 pub ruleset found_cases = (found_none, found_some)
 
 module _ (p : Page) (v t : ℕ) (th : Notes) (c : ℕ) {a y : ℕ} {q : Page} (f : a ≡ action_number th.action) (g : y ≡ found_number c) (h : q ≡ put_all p (t ∷ a ∷ th.station ∷ y ∷ [])) where
-  pub found-put : v ≡ 1 → q ≡ put_all p (found_row v t th c)
+  pub found_put : v ≡ 1 → q ≡ put_all p (found_row v t th c)
   unfolding ite
-  found-put z = h ∙ rw (f, g, eq-eqb v 1 z)
+  found_put z = h ∙ rw (f, g, eq-eqb v 1 z)
 
-  pub wide-found-put : {i j : Page} → (v ≡ 1 → ⊥) → i ≡ put_all q (0 ∷ 0 ∷ []) → j ≡ put_all i (bytes_of 8 c) → j ≡ put_all p (found_row v t th c)
+  pub wide_found_put : {i j : Page} → (v ≡ 1 → ⊥) → i ≡ put_all q (0 ∷ 0 ∷ []) → j ≡ put_all i (bytes_of 8 c) → j ≡ put_all p (found_row v t th c)
   unfolding ite
-  wide-found-put z k l = l ∙ (ap (λ (w : Page). put_all w (bytes_of 8 c)) (k ∙ ap (λ (w : Page). put_all w (0 ∷ 0 ∷ [])) h) ∙ rw (f, g, ne_eqb v 1 z, ← put_all_append, ← put_all_append))
+  wide_found_put z k l = l ∙ (ap (λ (w : Page). put_all w (bytes_of 8 c)) (k ∙ ap (λ (w : Page). put_all w (0 ∷ 0 ∷ [])) h) ∙ rw (f, g, ne_eqb v 1 z, ← put_all_append, ← put_all_append))
 
 pub found_as : (file : List ℕ) (v t : ℕ) (th : Notes) (fs : List Frame) (c : ℕ) → v ≡ version file → found_row v t th c ≡ row_bytes file t (thread th fs) (row (said (not (eqb c 0))) 0 c)
 found_as file v t th fs c w = rw w
@@ -102,14 +102,14 @@ room_two v count z = rw (ne_eqb v 1 z)
 pub ruleset room_cases = (room_one, room_two)
 
 module _ (file : List ℕ) (room : ℕ) {bad : ℕ} (e : bad ≡ file_refusal file) where
-  pub refusal-file : (bad ≡ 0 → ⊥) → bad ≡ run_refusal file room
+  pub refusal_file : (bad ≡ 0 → ⊥) → bad ≡ run_refusal file room
   unfolding run_refusal
-  refusal-file z = by-file room _ 5 e z
+  refusal_file z = by_file room _ 5 e z
 
-  pub refusal-room : {count needed : ℕ} → bad ≡ 0 → count ≡ count_of file → needed ≡ row_room file count → room < needed → 5 ≡ run_refusal file room
+  pub refusal_room : {count needed : ℕ} → bad ≡ 0 → count ≡ count_of file → needed ≡ row_room file count → room < needed → 5 ≡ run_refusal file room
   unfolding run_refusal
-  refusal-room z d i l = by_room room _ 5 e z (rw (i, d) at l)
+  refusal_room z d i l = by_room room _ 5 e z (rw (i, d) at l)
 
   pub refusal_none : {count needed : ℕ} → bad ≡ 0 → count ≡ count_of file → needed ≡ row_room file count → needed ≤ room → 0 ≡ run_refusal file room
   unfolding run_refusal
-  refusal_none z d i l = by-none room _ 5 e z (rw (i, d) at l)
+  refusal_none z d i l = by_none room _ 5 e z (rw (i, d) at l)

@@ -15,7 +15,7 @@ use Rattle.steps.specs.declared.Notes.{Notes}
 use Rattle.steps.specs.declared.Decision.{Decision}
 use Rattle.steps.specs.Decision.{Decides, read_at, finding}
 use Rattle.run.specs.Threads.{recounted}
-use Rattle.run.proofs.Decided.{reread, Decided, decided-find}
+use Rattle.run.proofs.Decided.{reread, Decided, decided_find}
 
 -- `threads'` has in its place t the notes of `threads` with r routes read
 pub record Rereads (t r : ℕ) (end : Notes) (threads threads' : List Notes) : Type 0 where
@@ -35,14 +35,14 @@ reread_place t r end threads i e = rw e (ap (λ (v : Notes). v.place) (get_or-se
 
 -- the count after a step at the place p
 module _ (p c : ℕ) where
-  pub count-four : p ≡ 4 → c + 1 ≡ recounted p c
-  count-four e = rw (eq-eqb p 4 e)
+  pub count_four : p ≡ 4 → c + 1 ≡ recounted p c
+  count_four e = rw (eq-eqb p 4 e)
 
-  pub count-five : p ≡ 5 → c - 1 ≡ recounted p c
-  count-five e = rw e
+  pub count_five : p ≡ 5 → c - 1 ≡ recounted p c
+  count_five e = rw e
 
-  pub count-other : (p ≡ 4 → ⊥) → (p ≡ 5 → ⊥) → c ≡ recounted p c
-  count-other g h = rw (ne_eqb p 4 g, ne_eqb p 5 h)
+  pub count_other : (p ≡ 4 → ⊥) → (p ≡ 5 → ⊥) → c ≡ recounted p c
+  count_other g h = rw (ne_eqb p 4 g, ne_eqb p 5 h)
 
 -- after a step at the place p the count in c' is the one in c, one more or one less; the numbers of frames stay
 pub record Recounts (p : ℕ) (c c' : List ℕ) : Type 0 where
@@ -51,15 +51,15 @@ pub record Recounts (p : ℕ) (c c' : List ℕ) : Type 0 where
   pub count : get_or c' 4 0 ≡ recounted p (get_or c 4 0)
 
 module _ (p : ℕ) (c : List ℕ) where
-  pub recount-none : (p ≡ 4 → ⊥) → (p ≡ 5 → ⊥) → Recounts p c c
-  recount-none g h = record { size = refl; each = λ u i. refl; count = rw (ne_eqb p 4 g, ne_eqb p 5 h) }
+  pub recount_none : (p ≡ 4 → ⊥) → (p ≡ 5 → ⊥) → Recounts p c c
+  recount_none g h = record { size = refl; each = λ u i. refl; count = rw (ne_eqb p 4 g, ne_eqb p 5 h) }
 
   module _ (i : length c ≡ 5) where
     apart : (m u : ℕ) → u < 4 → get_or (set c 4 m) u 0 ≡ get_or c u 0
     apart m u j = get_or-set_other c 4 u m 0 (λ e. omega arith)
 
-    pub recount-put : Recounts p c (set c 4 (recounted p (get_or c 4 0)))
-    recount-put = record { size = length-set c 4 _; each = apart _; count = get_or-set_same c 4 (recounted p (get_or c 4 0)) 0 (omega arith) }
+    pub recount_put : Recounts p c (set c 4 (recounted p (get_or c 4 0)))
+    recount_put = record { size = length-set c 4 _; each = apart _; count = get_or-set_same c 4 (recounted p (get_or c 4 0)) 0 (omega arith) }
 
 -- the same with m frames for thread t
 pub recount_set : {p : ℕ} {c c' : List ℕ} → Recounts p c c' → (t m : ℕ) → t < length c → (u : ℕ) → u < 4 → get_or (set c' t m) u 0 ≡ get_or (set c t m) u 0
@@ -83,20 +83,20 @@ begun_at t end threads q e = rw e (record { decided = q; rereads = reread_none t
 module _ (n : Shapes) (root used : ℕ) (k : Stores) (shown : ℕ) (on : Bool) (c t : ℕ) (end : Notes) (threads : List Notes) {threads' : List Notes} {d : Decision}
     (g : 0 < (get_or threads t end).place) (h : (get_or threads t end).place < 3)
     (i : Decides (get_or threads' t end) d (finding (get_or threads' t end).place on n root)) where
-  pub begun-off : on ≡ false → threads' ≡ threads → Begun (sight n root used k shown (stop on c)) t end threads threads' d
-  begun-off o e =
+  pub begun_off : on ≡ false → threads' ≡ threads → Begun (sight n root used k shown (stop on c)) t end threads threads' d
+  begun_off o e =
       let th : Notes = get_or threads t end in
       let j : Decides th d (finding th.place on n root) = rw e at i in
-      begun_at t end threads (decided-find n root used k shown on c th (rw o) g h j) e
+      begun_at t end threads (decided_find n root used k shown on c th (rw o) g h j) e
 
-  pub begun-on : {r : ℕ} → on ≡ true → t < length threads → r ≡ read_at (get_or threads t end).place (get_or threads t end).read → threads' ≡ set threads t (reread r (get_or threads t end))
+  pub begun_on : {r : ℕ} → on ≡ true → t < length threads → r ≡ read_at (get_or threads t end).place (get_or threads t end).read → threads' ≡ set threads t (reread r (get_or threads t end))
       → Begun (sight n root used k shown (stop on c)) t end threads threads' d
-  begun-on {r} o l f e =
+  begun_on {r} o l f e =
       let th : Notes = get_or threads t end in
       let own : get_or threads' t end ≡ reread r th = rw e (get_or-set_same threads t (reread r th) end l) in
       let j : Decides (reread r th) d (finding th.place on n root) = subst (λ (v : Notes). Decides v d (finding v.place on n root)) own i in
       let same : (get_or threads' t end).read ≡ r = ap (λ (v : Notes). v.read) own in
       record {
-        decided = rw same (decided-find n root used k shown on c th (rw (o, f)) g h j);
+        decided = rw same (decided_find n root used k shown on c th (rw (o, f)) g h j);
         rereads = rw (same, e) (reread_one t r end threads l);
       }

@@ -18,8 +18,8 @@ use Rattle.definitions.specs.Places.{place_of}
 use Rattle.definitions.specs.Steps.{step}
 use Rattle.definitions.specs.Versions.{stop_of}
 use Rattle.run.specs.Threads.{recounted}
-use Rattle.run.proofs.Decided.{Decided, decided_at, decided-count}
-use Rattle.run.proofs.Changed.{Recounts, recount-none, recount-put}
+use Rattle.run.proofs.Decided.{Decided, decided_at, decided_count}
+use Rattle.run.proofs.Changed.{Recounts, recount_none, recount_put}
 use Rattle.run.proofs.Sought.{sought_count}
 use Rattle.run.proofs.Turn.{seen, Asking}
 use Rattle.run.proofs.Queried.{searching}
@@ -42,12 +42,12 @@ module _ {file : List ℕ} {k x y e : ℕ} {n : Shapes} {l : List ℕ} {s : Stor
       → Decides (seen threads x end) d' (step (place_of (seen threads x end).place) (sight n root used s shown (stop on (get_or counts 4 0)))) → Chosen d counts'
   chosen_at {d' = d'} f g o c u i =
       let j : Decides (seen threads x end) d' (step (place_of (seen threads x end).place) (sight n root used s shown (stop (stop_of file) (get_or counts 4 0)))) = rw o at i in
-      rw (c, u) (record { decided = decided_at _ _ f g j; recounts = recount-none _ _ f g; kept = λ o. refl })
+      rw (c, u) (record { decided = decided_at _ _ f g j; recounts = recount_none _ _ f g; kept = λ o. refl })
 
-  pub chosen-count : {d d' : Decision} {counts' : List ℕ} {m : ℕ} → a ≡ 0 → 3 < (seen threads x end).place → (seen threads x end).place < 10
+  pub chosen_count : {d d' : Decision} {counts' : List ℕ} {m : ℕ} → a ≡ 0 → 3 < (seen threads x end).place → (seen threads x end).place < 10
       → m ≡ recounted (seen threads x end).place (get_or counts 4 0) → counts' ≡ set counts 4 m → d ≡ d'
       → Decides (seen threads x end) d' (counting (seen threads x end).place n) → Chosen d counts'
-  chosen-count {d' = d'} z f g u c v i = rw (c, u, v) (record { decided = decided-count _ _ f g i; recounts = recount-put _ _ q.each; kept = stays })
+  chosen_count {d' = d'} z f g u c v i = rw (c, u, v) (record { decided = decided_count _ _ f g i; recounts = recount_put _ _ q.each; kept = stays })
     where
       stays : d'.what ≡ 2 → set counts 4 (recounted (seen threads x end).place (get_or counts 4 0)) ≡ counts
       stays o = elim (dec_lt (seen threads x end).place 6) [

@@ -25,7 +25,7 @@ use Rattle.steps.specs.declared.Notes.{Notes}
 use Rattle.steps.specs.declared.Decision.{Decision}
 use Rattle.steps.specs.Decision.{thread, written, turn_by, turn_of, top_after, Decides, read_at, finding, counting}
 use Rattle.run.specs.Threads.{recounted}
-use Rattle.run.proofs.Numbers.{back-moves}
+use Rattle.run.proofs.Numbers.{back_moves}
 
 -- ---- a decision, and what it stands for
 
@@ -81,7 +81,7 @@ effect_by : (m : ℕ) (th v : Thread) (e : Effect) (a : Answer) → (m ≡ 2 →
 effect_by zero th v e a o = refl
 effect_by (suc zero) th v e a o = refl
 effect_by (suc (suc zero)) th v e a o = absurd (o refl)
-effect_by (suc (suc (suc m))) th v e a o = back-moves (λ t. effect_in t ≡ e) e th (λ w i. refl)
+effect_by (suc (suc (suc m))) th v e a o = back_moves (λ t. effect_in t ≡ e) e th (λ w i. refl)
 
 top_tallied : (p : ℕ) (t : Turn) → top_after (tallied p t) ≡ top_after t
 top_tallied p (Moves th e) = refl
@@ -125,9 +125,9 @@ module _ (n : Shapes) (root used : ℕ) (k : Stores) (shown : ℕ) (on : Bool) (
   find_as (suc (suc zero)) g h fs = refl
   find_as (suc (suc (suc p))) g h fs = absurd (omega arith)
 
-  pub decided-find : {m : ℕ} {d : Decision} → m ≡ read_by on th → 0 < th.place → th.place < 3 → Decides (reread m th) d (finding th.place on n root)
+  pub decided_find : {m : ℕ} {d : Decision} → m ≡ read_by on th → 0 < th.place → th.place < 3 → Decides (reread m th) d (finding th.place on n root)
       → Decided (sight n root used k shown (stop on c)) th m d
-  decided-find {m} {d} e g h i = decide (finding th.place on n root) i
+  decided_find {m} {d} e g h i = decide (finding th.place on n root) i
       (λ fs. find_as th.place g h fs ∙ (ap (λ (j : ℕ). finding th.place on n root (thread (reread j th) fs)) (sym e) ∙ tallied_same th.place _ (λ q. omega arith) (λ q. omega arith)))
       (λ q. absurd (⊎_elim {C = ⊥} (λ j. omega arith) (λ j. omega arith) q))
 
@@ -178,8 +178,8 @@ module _ (s : Sight) where
   quiet_count p th (inl e) = rw e (quiet_pass (is_route (s.nodes th.route).kind) _ _)
   quiet_count p th (inr e) = rw e (quiet_leaf th.action th)
 
-  pub decided-count : (th : Notes) {d : Decision} → 3 < th.place → th.place < 10 → Decides th d (counting th.place s.nodes) → Decided s th th.read d
-  decided-count th g h i = decide (counting th.place s.nodes) i (λ fs. count_as th.place g h (thread th fs)) (quiet_count th.place (thread th []))
+  pub decided_count : (th : Notes) {d : Decision} → 3 < th.place → th.place < 10 → Decides th d (counting th.place s.nodes) → Decided s th th.read d
+  decided_count th g h i = decide (counting th.place s.nodes) i (λ fs. count_as th.place g h (thread th fs)) (quiet_count th.place (thread th []))
 
 -- ---- the store after it: what is written is written, and the count is c' then
 pub count_stored : (p : ℕ) (e : Effect) (m : Nodes) (o u : ℕ) (k : Stores) (j : ℕ) (on : Bool) (c c' : ℕ) → (Counting p → e ≡ Quiet) → c' ≡ recounted p c

@@ -144,27 +144,27 @@ spare_all file = inr (record { results = length-replicate {A = ℕ} 256 0; stack
 
 -- ---- all records carried out
 module _ (file first : List ℕ) {n : Shapes} {l : List ℕ} {k : Stores} {s : Standing} {buffer : List ℕ} {count : ℕ} (d : count ≡ count_of file) (h : Carried file count n l k s first buffer) where
-  pub ended-report : {x y : ℕ} → x ≡ set_below 63 n s.root all → y ≡ count_below 63 n s.root all
+  pub ended_report : {x y : ℕ} → x ≡ set_below 63 n s.root all → y ≡ count_below 63 n s.root all
       → record { refusal = s.refusal; records = s.done; rows = s.finished; set = x; stored = y; used = s.used } ≡ report_of (ended file)
-  ended-report f g = rw (← d, f, g, set_at h, stored_at h, h.refusal, h.done, h.finished, used_at h)
+  ended_report f g = rw (← d, f, g, set_at h, stored_at h, h.refusal, h.done, h.finished, used_at h)
 
-  pub ended-buffer : row_room file (count_of file) ≤ length first → buffer ≡ overlay (ended file).rows first
-  ended-buffer r = let m : row_room file count ≤ length first = rw (← d) at r in rw (← d) (overlaid (after file count) h (omega (arith, rows_fit file count, m)))
+  pub ended_buffer : row_room file (count_of file) ≤ length first → buffer ≡ overlay (ended file).rows first
+  ended_buffer r = let m : row_room file count ≤ length first = rw (← d) at r in rw (← d) (overlaid (after file count) h (omega (arith, rows_fit file count, m)))
 
 -- ---- the answer
 module _ (file first : List ℕ) {bad : ℕ} (e : bad ≡ run_refusal file (length first)) where
-  pub refused-report : (bad ≡ 0 → ⊥) → record { refusal = bad; records = 0; rows = 0; set = 0; stored = 0; used = 0 } ≡ run_report file (length first)
+  pub refused_report_lem : (bad ≡ 0 → ⊥) → record { refusal = bad; records = 0; rows = 0; set = 0; stored = 0; used = 0 } ≡ run_report file (length first)
   unfolding run_report ite
-  refused-report z = rw (← e, ne_eqb _ _ z)
+  refused_report_lem z = rw (← e, ne_eqb _ _ z)
 
-  pub refused-buffer : (bad ≡ 0 → ⊥) → first ≡ run_buffer file first
+  pub refused_buffer : (bad ≡ 0 → ⊥) → first ≡ run_buffer file first
   unfolding run_buffer ite
-  refused-buffer z = rw (← e, ne_eqb _ _ z)
+  refused_buffer z = rw (← e, ne_eqb _ _ z)
 
-  pub passed-report : {r : Report} → bad ≡ 0 → r ≡ report_of (ended file) → r ≡ run_report file (length first)
+  pub passed_report : {r : Report} → bad ≡ 0 → r ≡ report_of (ended file) → r ≡ run_report file (length first)
   unfolding run_report ite
-  passed-report z f = rw (← e, eq-eqb _ _ z) f
+  passed_report z f = rw (← e, eq-eqb _ _ z) f
 
-  pub passed-buffer : {buffer : List ℕ} → bad ≡ 0 → buffer ≡ overlay (ended file).rows first → buffer ≡ run_buffer file first
+  pub passed_buffer : {buffer : List ℕ} → bad ≡ 0 → buffer ≡ overlay (ended file).rows first → buffer ≡ run_buffer file first
   unfolding run_buffer ite
-  passed-buffer z f = rw (← e, eq-eqb _ _ z) f
+  passed_buffer z f = rw (← e, eq-eqb _ _ z) f

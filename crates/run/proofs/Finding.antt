@@ -46,7 +46,7 @@ use Rattle.steps.specs.declared.Note.TheVariants.{Opened}
 use Rattle.steps.specs.declared.Decision.{Decision}
 use Rattle.steps.specs.Decision.{thread, noted, written, turn_by, top_of, top_after}
 use Rattle.run.specs.Query.{helping}
-use Rattle.run.proofs.Numbers.{below, below_60, fork, back-moves}
+use Rattle.run.proofs.Numbers.{below, below_60, fork, back_moves}
 use Rattle.run.proofs.Decided.{reread, counted, tallied, Decided}
 
 -- ---- what is known of a turn
@@ -136,7 +136,7 @@ module _ (s : Sight) (th : Thread) where
   either = fork Here
 
   return : (e : Effect) → Here (back e th)
-  return e = back-moves Here e th (λ v i. inl i)
+  return e = back_moves Here e th (λ v i. inl i)
 
   -- with k routes read, or as many as before
   module _ (b : Bool) (k : ℕ) where
@@ -343,8 +343,8 @@ module _ (s : Sight) (th : Notes) (h : th.place < 60) (k : ℕ) (d : Decision) (
       by false false e f = inr refl
 
   -- the depth that it finds
-  pub depth-still : (n : Shapes) (r : Rows) (t : ℕ) → d.what ≡ 1 → depth_by d.answer (deepened effect n r) t ≡ depth_in d.answer (full n r) t
-  depth-still n r t e = by (quiet_or (λ z. omega arith))
+  pub depth_still : (n : Shapes) (r : Rows) (t : ℕ) → d.what ≡ 1 → depth_by d.answer (deepened effect n r) t ≡ depth_in d.answer (full n r) t
+  depth_still n r t e = by (quiet_or (λ z. omega arith))
     where
       by : (effect ≡ Quiet) ⊎ (counted th.place effect ≡ effect) → depth_by d.answer (deepened effect n r) t ≡ depth_in d.answer (full n r) t
       by (inl i) = found_after d.answer effect n r t (rw i (quiet d.answer))

@@ -20,8 +20,8 @@ use Rattle.definitions.specs.Schedule.{Rec, record_at}
 use Rattle.definitions.specs.Run.{Progress, advance_by, advance, after}
 use Rattle.answers.proofs.SameOperation.{Same, same_op}
 use Rattle.answers.proofs.RunSet.{run_ends}
-use Rattle.answers.proofs.ReadPlaces.{know-now}
-use Rattle.run.proofs.FramedSteps.{Some, Framed, other, Leaves, step-leaves}
+use Rattle.answers.proofs.ReadPlaces.{know_now}
+use Rattle.run.proofs.FramedSteps.{Some, Framed, other, Leaves, step_leaves}
 
 -- ---- a record
 abbrev Keeps : Result → Type 0
@@ -54,7 +54,7 @@ module _ (b : Bench) (h : (u : ℕ) → Framed (b.threads u)) (t y d : ℕ) wher
   stepped_keeps =
       let th = b.threads t in
       let s = sight_of b.store in
-      choice _ _ _ (choice _ _ _ (choice _ _ _ tt (taken_keeps _ (same_op s th (place_of th.place)) (λ z. step-leaves s th z (h t z) (place_of th.place)))) tt) tt
+      choice _ _ _ (choice _ _ _ (choice _ _ _ tt (taken_keeps _ (same_op s th (place_of th.place)) (λ z. step_leaves s th z (h t z) (place_of th.place)))) tt) tt
 
   asked_keeps : Keeps (asked b t y d)
   unfolding asked
@@ -99,9 +99,9 @@ bare file k t e z = subst Some e (query_framed file k t z)
 -- a thread at 1, 2, 4 or 5 is no query's
 pub no_query : (file : List ℕ) (k t p : ℕ) → ((after file k).bench.threads t).place ≡ p → 0 < p → p < 6 → (p ≡ 3 → ⊥) → ((after file k).bench.threads t).action ≡ Query → ⊥
 no_query file k t zero e g h o = absurd (omega arith)
-no_query file k t (suc zero) e g h o = bare file k t (know-now (run_ends file k).inv t p1 (ap place_of e))
-no_query file k t (suc (suc zero)) e g h o = bare file k t (know-now (run_ends file k).inv t p2 (ap place_of e)).2
+no_query file k t (suc zero) e g h o = bare file k t (know_now (run_ends file k).inv t p1 (ap place_of e))
+no_query file k t (suc (suc zero)) e g h o = bare file k t (know_now (run_ends file k).inv t p2 (ap place_of e)).2
 no_query file k t (suc (suc (suc zero))) e g h o = absurd (o refl)
-no_query file k t (suc (suc (suc (suc zero)))) e g h o = bare file k t (know-now (run_ends file k).inv t p4 (ap place_of e)).2
-no_query file k t (suc (suc (suc (suc (suc zero))))) e g h o = bare file k t (know-now (run_ends file k).inv t p5 (ap place_of e)).3
+no_query file k t (suc (suc (suc (suc zero)))) e g h o = bare file k t (know_now (run_ends file k).inv t p4 (ap place_of e)).2
+no_query file k t (suc (suc (suc (suc (suc zero))))) e g h o = bare file k t (know_now (run_ends file k).inv t p5 (ap place_of e)).3
 no_query file k t (suc (suc (suc (suc (suc (suc p)))))) e g h o = absurd (omega arith)

@@ -44,24 +44,24 @@ use Rattle.run.proofs.Ranging.{ranged}
 -- ---- what is written
 
 module _ (l : List ℕ) (x y : ℕ) where
-  pub lay-lent : {l' : List ℕ} → rows l' ≡ upd (rows l) y (rows l x) → Laid l x y l'
-  lay-lent q = record { rows = λ _. q }
+  pub lay_lent : {l' : List ℕ} → rows l' ≡ upd (rows l) y (rows l x) → Laid l x y l'
+  lay_lent q = record { rows = λ _. q }
 
-  pub lay-unlent : (length l ≡ 16384 → ⊥) → Laid l x y l
-  lay-unlent h = record { rows = λ k. absurd (h k) }
+  pub lay_unlent : (length l ≡ 16384 → ⊥) → Laid l x y l
+  lay_unlent h = record { rows = λ k. absurd (h k) }
 
-pub ruleset lay_cases = (lay-lent, lay-unlent)
+pub ruleset lay_cases = (lay_lent, lay_unlent)
 
 abbrev counts : ℕ → ℕ → ℕ → Counts
 counts o u j = record { root = o; used = u; shown = j }
 
 module _ (t : Shapes) (l : List ℕ) (k : Stores) (o u j : ℕ) {e : Effect} where
-  pub write-ask : {t' : Shapes} {l' : List ℕ} {y m : ℕ} (v : Spot) (x : ℕ) (p : Link) (z a b i : ℕ) (new : Bool) → e ≡ Ask v x p z a b i new → Laid l z x l'
+  pub write_ask : {t' : Shapes} {l' : List ℕ} {y m : ℕ} (v : Spot) (x : ℕ) (p : Link) (z a b i : ℕ) (new : Bool) → e ≡ Ask v x p z a b i new → Laid l z x l'
       → Asks t o v x p z a b i t' y → m ≡ cond new (i + 1) j → Wrote t l k o u j e t' l' k (counts y (x + 1) m)
-  write-ask v x p z a b i new q g h w = record { enacted = record { nodes = rw q (h u new k j); depths = record { rows = λ n. rw q (g.rows n) } }; used = rw q; shown = w ∙ rw q }
+  write_ask v x p z a b i new q g h w = record { enacted = record { nodes = rw q (h u new k j); depths = record { rows = λ n. rw q (g.rows n) } }; used = rw q; shown = w ∙ rw q }
 
-  pub write-fill : {k' : Stores} (i c : ℕ) → e ≡ Fill i c → k' ≡ upd k i (Set c) → Wrote t l k o u j e t l k' (counts o u j)
-  write-fill i c q h = record { enacted = record { nodes = record { stored = λ d z. rw (q, h) }; depths = record { rows = λ _. rw q } }; used = rw q; shown = rw q }
+  pub write_fill : {k' : Stores} (i c : ℕ) → e ≡ Fill i c → k' ≡ upd k i (Set c) → Wrote t l k o u j e t l k' (counts o u j)
+  write_fill i c q h = record { enacted = record { nodes = record { stored = λ d z. rw (q, h) }; depths = record { rows = λ _. rw q } }; used = rw q; shown = rw q }
 
 -- nothing: the effect is neither of the two
 pub write_none : (t : Shapes) (l : List ℕ) (k : Stores) (o u j : ℕ) (e : Effect) → Ranged e → OneOf (0 ∷ 1 ∷ 2 ∷ 3 ∷ 4 ∷ 5 ∷ 6 ∷ 7 ∷ 8 ∷ 9 ∷ []) (tag_of effect.the_type e) → Wrote t l k o u j e t l k (counts o u j)
@@ -98,8 +98,8 @@ module _ (t : Shapes) (k : Stores) (o u j : ℕ) (h h' : ℕ → Frame) (i n : �
       ∙ (ap (λ (v : Store). taken b i (step (place_of th.place) (sight_of v) (thread th (frames_of h i n)))) s ∙ ap (taken b i) (blind t o u k j z (stop false 0) (thread th (frames_of h i n)) th.place above ∙ sym (told e)))
 
   -- it writes nothing but nodes and results of its own
-  pub turn-ranged : {p : ℕ} {e : Effect} → r ≡ Onward p e → Ranged e
-  turn-ranged e = ranged (sight t o u k j (stop false 0)) (thread th (frames_of h i n)) th.place above (told e)
+  pub turn_ranged : {p : ℕ} {e : Effect} → r ≡ Onward p e → Ranged e
+  turn_ranged e = ranged (sight t o u k j (stop false 0)) (thread th (frames_of h i n)) th.place above (told e)
 
   module _ (l : List ℕ) where
     -- it goes on, and w is what it wrote
@@ -134,18 +134,18 @@ module _ (t : Shapes) (k : Stores) (o u j : ℕ) (h h' : ℕ → Frame) (i n : �
     }
 
     module _ {c : ℕ} (f : c ≡ depth_after r n) where
-      pub turn-blocked : {x : ℕ} → r ≡ Blocked x → Leaves t l k o u j h i n th t l k h' (left 0 o u j 15 x c 0)
+      pub turn_blocked : {x : ℕ} → r ≡ Blocked x → Leaves t l k o u j h i n th t l k h' (left 0 o u j 15 x c 0)
       unfolding taken
-      turn-blocked {x} a = moves 15 x n a (f ∙ ap (λ (v : Outcome). depth_after v n) a) (λ b. refl)
+      turn_blocked {x} a = moves 15 x n a (f ∙ ap (λ (v : Outcome). depth_after v n) a) (λ b. refl)
 
-      pub turn-back : {p : ℕ} → r ≡ Back p → Leaves t l k o u j h i n th t l k h' (left 0 o u j p th.base c 0)
+      pub turn_back : {p : ℕ} → r ≡ Back p → Leaves t l k o u j h i n th t l k h' (left 0 o u j p th.base c 0)
       unfolding taken
-      turn-back {p} a = moves p th.base (n - 1) a (f ∙ ap (λ (v : Outcome). depth_after v n) a) (λ b. refl)
+      turn_back {p} a = moves p th.base (n - 1) a (f ∙ ap (λ (v : Outcome). depth_after v n) a) (λ b. refl)
 
     module _ (p x c : ℕ) where
-      pub turn-found : {m : ℕ} → r ≡ Found m → Leaves t l k o u j h i n th t l k h' (left 1 o u j p x c m)
+      pub turn_found : {m : ℕ} → r ≡ Found m → Leaves t l k o u j h i n th t l k h' (left 1 o u j p x c m)
       unfolding taken
-      turn-found {m} a = record {
+      turn_found {m} a = record {
         effect = Quiet;
         turn = λ b d z s y. told_in_lem a b d z s y ∙ ap (λ (v : Store). carried (bench v (upd b.threads i idle)) (row (said (not (eqb m 0))) 0 m)) s;
         depths = λ _. refl;
@@ -153,10 +153,10 @@ module _ (t : Shapes) (k : Stores) (o u j : ℕ) (h h' : ℕ → Frame) (i n : �
         same = λ z. absurd (omega arith);
       }
 
-      pub turn-nodes : r ≡ NodesOut → Leaves t l k o u j h i n th t l k h' (left 13 o u j p x c 0)
+      pub turn_nodes : r ≡ NodesOut → Leaves t l k o u j h i n th t l k h' (left 13 o u j p x c 0)
       unfolding taken
-      turn-nodes a = record { effect = Quiet; turn = λ b d z s y. told_in_lem a b d z s y; depths = λ _. refl; others = q.others; same = λ _. (refl, (refl, (refl, q.same (rw a tt)))) }
+      turn_nodes a = record { effect = Quiet; turn = λ b d z s y. told_in_lem a b d z s y; depths = λ _. refl; others = q.others; same = λ _. (refl, (refl, (refl, q.same (rw a tt)))) }
 
-      pub turn-stores : r ≡ StoresOut → Leaves t l k o u j h i n th t l k h' (left 16 o u j p x c 0)
+      pub turn_stores : r ≡ StoresOut → Leaves t l k o u j h i n th t l k h' (left 16 o u j p x c 0)
       unfolding taken
-      turn-stores a = record { effect = Quiet; turn = λ b d z s y. told_in_lem a b d z s y; depths = λ _. refl; others = q.others; same = λ _. (refl, (refl, (refl, q.same (rw a tt)))) }
+      turn_stores a = record { effect = Quiet; turn = λ b d z s y. told_in_lem a b d z s y; depths = λ _. refl; others = q.others; same = λ _. (refl, (refl, (refl, q.same (rw a tt)))) }

@@ -161,27 +161,27 @@ above_60 p h = ap above (dropped 60 places (p - 60) p (omega arith)) ∙ all_pas
 
 -- ---- a step that goes on, back or next, writes what it was to write and keeps the number of frames
 module _ (P : Turn → Type 0) where
-  pub next-moves : (s : List ℕ) (e : Effect) (f : Frame) (fs : List Frame) (th : Thread) → ((v : Thread) → length v.frames ≡ suc (length fs) → P (Moves v e)) → P (next_from s e f fs th)
-  next-moves [] e f fs th q = q _ refl
-  next-moves (x ∷ []) e f fs th q = q _ refl
-  next-moves (x ∷ y ∷ s) e f fs th q = q _ refl
+  pub next_moves : (s : List ℕ) (e : Effect) (f : Frame) (fs : List Frame) (th : Thread) → ((v : Thread) → length v.frames ≡ suc (length fs) → P (Moves v e)) → P (next_from s e f fs th)
+  next_moves [] e f fs th q = q _ refl
+  next_moves (x ∷ []) e f fs th q = q _ refl
+  next_moves (x ∷ y ∷ s) e f fs th q = q _ refl
 
   pub fork : (c : Bool) (o o' : Turn) → P o → P o' → P (ite c o o')
   unfolding ite
   fork true o o' p q = p
   fork false o o' p q = q
 
-  pub add-moves : (e : Effect) (c : ℕ) (f : Frame) (fs : List Frame) (th : Thread) → ((v : Thread) → length v.frames ≡ suc (length fs) → P (Moves v e)) → P (adding e c f fs th)
+  pub add_moves : (e : Effect) (c : ℕ) (f : Frame) (fs : List Frame) (th : Thread) → ((v : Thread) → length v.frames ≡ suc (length fs) → P (Moves v e)) → P (adding e c f fs th)
   unfolding adding
-  add-moves e c f fs th q = fork _ _ _ (q _ refl) (next-moves f.stack e (adds c f) fs th q)
+  add_moves e c f fs th q = fork _ _ _ (q _ refl) (next_moves f.stack e (adds c f) fs th q)
 
   pub back_in_lem : (fs : List Frame) (e : Effect) (th : Thread) → ((v : Thread) → length v.frames ≡ length fs → P (Moves v e)) → P (back_in fs e th)
   back_in_lem [] e th q = q _ refl
-  back_in_lem (f ∷ fs) e th q = fork f.begun _ _ (next-moves f.backup e f fs th q) (q _ refl)
+  back_in_lem (f ∷ fs) e th q = fork f.begun _ _ (next_moves f.backup e f fs th q) (q _ refl)
 
-  pub back-moves : (e : Effect) (th : Thread) → ((v : Thread) → length v.frames ≡ length th.frames → P (Moves v e)) → P (back e th)
+  pub back_moves : (e : Effect) (th : Thread) → ((v : Thread) → length v.frames ≡ length th.frames → P (Moves v e)) → P (back e th)
   unfolding back
-  back-moves e th q = back_in_lem th.frames e th q
+  back_moves e th q = back_in_lem th.frames e th q
 
 -- ---- the arm of a match that takes several variants: its number is below n if theirs are
 abbrev all_below : ℕ → List ℕ → Bool

@@ -52,9 +52,9 @@ module _ (b : Bench) (t : ℕ) (th : Notes) (k : ℕ) (fs : List Frame) (d : Dec
   finishes e = so e ∙ rw own
 
   -- 2
-  pub runs-out : d.what ≡ 2 → outcome ≡ refused 13
+  pub runs_out : d.what ≡ 2 → outcome ≡ refused 13
   unfolding taken
-  runs-out e = so e
+  runs_out e = so e
 
   back_by : (m : ℕ) (v w : Thread) (e : Effect) (a : Answer) → 2 < m → turn_by m w v e a ≡ back e w
   back_by zero v w e a l = absurd (omega arith)

@@ -21,7 +21,7 @@ use Rattle.definitions.specs.Bench.{Sight}
 use Rattle.definitions.specs.Places.{own, found, united, opening, next, Place, nowhere, p1, p2, p3, p4, p5, p15, p16, p19, p20, p21, p22, p23, p24, p25, p30, p31, p32, p33, p34, p35, p36, p37, p38, p40, p45, p46, p47, p48, p49, p50, p51, p60, p61, p62, p70, p71, p72, p73, p74, p76, p81, p82, swap, place_of}
 use Rattle.definitions.specs.Steps.{probe, step}
 use Rattle.run.specs.Query.{Ranged}
-use Rattle.run.proofs.Numbers.{above, above_60, fork, add-moves, back_in_lem, back-moves}
+use Rattle.run.proofs.Numbers.{above, above_60, fork, add_moves, back_in_lem, back_moves}
 
 abbrev Ranging : Turn → Type 0
 Ranging (Moves th e) = Ranged e
@@ -41,7 +41,7 @@ module _ (s : Sight) (th : Thread) where
 
   first : (l : Link) (b : Node) (f : Frame) (fs : List Frame) → Ranging (found_first l b f fs th)
   first Nil b f fs = tt
-  first (To k) b f fs = either _ _ _ (add-moves Ranging Quiet b.container f fs th (λ v i. tt)) tt
+  first (To k) b f fs = either _ _ _ (add_moves Ranging Quiet b.container f fs th (λ v i. tt)) tt
 
   reach_first : (x : ℕ) (t : List ℕ) (f : Frame) (fs : List Frame) → Ranging (reached_first s.nodes x t f fs th)
   unfolding reached_first
@@ -52,14 +52,14 @@ module _ (s : Sight) (th : Thread) where
   reach_next x f fs = either _ _ _ tt tt
 
   opens : (o : Probe) (b : Node) (f : Frame) (fs : List Frame) → Ranging (opened_by o b s f fs th)
-  opens (Hit v) b f fs = either _ _ _ (either _ _ _ (add-moves Ranging _ b.container _ fs th (λ w i. tt)) tt) tt
+  opens (Hit v) b f fs = either _ _ _ (either _ _ _ (add_moves Ranging _ b.container _ fs th (λ w i. tt)) tt) tt
   opens (Next q) b f fs = tt
   opens Miss b f fs = tt
 
   extends : (o : Probe) (b : Node) (f : Frame) (fs : List Frame) → Ranging (extended_by o b s f fs th)
-  extends (Hit v) b f fs = either _ _ _ (add-moves Ranging _ b.container _ fs th (λ w i. tt)) tt
+  extends (Hit v) b f fs = either _ _ _ (add_moves Ranging _ b.container _ fs th (λ w i. tt)) tt
   extends (Next q) b f fs = tt
-  extends Miss b f fs = back-moves Ranging Quiet th (λ v i. tt)
+  extends Miss b f fs = back_moves Ranging Quiet th (λ v i. tt)
 
   pops : (t : List ℕ) (f : Frame) (fs : List Frame) → Ranging (pop_on t f fs th)
   pops [] f fs = tt
@@ -67,7 +67,7 @@ module _ (s : Sight) (th : Thread) where
 
   meets : (r : Shared) (b : Node) (f : Frame) (fs : List Frame) → Ranging (met_by r b f fs th)
   meets (Set _) b f fs = tt
-  meets Unset b f fs = either _ _ _ (add-moves Ranging Quiet b.container f fs th (λ v i. tt)) tt
+  meets Unset b f fs = either _ _ _ (add_moves Ranging Quiet b.container f fs th (λ v i. tt)) tt
 
   fills : (r : Shared) (f : Frame) → Ranging (filling r f th)
   fills Unset f = tt

@@ -17,9 +17,9 @@ use Rattle.run.proofs.Turn.{Reads}
 
 -- ---- the records of a proper file
 module _ (file : List ℕ) (h : Proper file) (k : ℕ) where
-  pub before-end : 3 + width file * k < length file → k < count_of file
+  pub before_end : 3 + width file * k < length file → k < count_of file
   unfolding ite
-  before-end = by (eqb (version file) 1) h.whole
+  before_end = by (eqb (version file) 1) h.whole
     where
       by : (v : Bool) → length file ≡ 3 + ite v 2 4 * count_of file → 3 + ite v 2 4 * k < length file → k < count_of file
       by true e l = omega arith

@@ -37,13 +37,13 @@ use Rattle.run.specs.Standing.{row_of, Stands}
 use Rattle.run.specs.Query.{goes_to, refused_with, Still, Rounds, found_row}
 use Rattle.run.specs.declared.query.Left.{Left}
 use Rattle.run.proofs.Decided.{reread, Decided}
-use Rattle.run.proofs.Changed.{Rereads, Recounts, recount-none, Begun}
+use Rattle.run.proofs.Changed.{Rereads, Recounts, recount_none, Begun}
 use Rattle.run.proofs.Sought.{Sought, sought_find}
 use Rattle.run.proofs.Chosen.{set_own}
 use Rattle.run.proofs.Noting.{placed, unopened_still}
-use Rattle.run.proofs.Turn.{seen, stand, Asking, few, awake, queries, noted-on, said-on, opened-on, opens-few, back_on}
-use Rattle.run.proofs.Queried.{searching, asking-on, stack-fits, left-on, left-found, left-refused}
-use Rattle.run.proofs.Wide.{wide-turn, wide_back, wide-start, wide-open}
+use Rattle.run.proofs.Turn.{seen, stand, Asking, few, awake, queries, noted_on, said_on, opened_on, opens_few, back_on}
+use Rattle.run.proofs.Queried.{searching, asking_on, stack_fits, left_on, left_found, left_refused}
+use Rattle.run.proofs.Wide.{wide_turn, wide_back, wide_start, wide_open}
 
 -- record k has been carried out
 abbrev pub Next : List ℕ → ℕ → Shapes → List ℕ → Stores → List Notes → List ℕ → (ℕ → Frame) → ℕ → ℕ → ℕ → ℕ → ℕ → List ℕ → List ℕ → Type 0
@@ -102,8 +102,8 @@ module _ {file : List ℕ} {k x : ℕ} {n : Shapes} {l : List ℕ} {s : Stores} 
   pub is_row : job ≡ 5 → Answering file k x n l s threads counts h root used shown finished at first buffer end job answer
   is_row z = ⊎_elim (λ d. absurd (omega (arith, d.none))) (⊎_elim (λ d. d) (λ d. absurd (d.other z))) g.stage
 
-  pub is-round : (job ≡ 5 → ⊥) → (job ≡ 0 → ⊥) → Rounding file k x n l s threads counts h root used shown finished at first buffer end job
-  is-round u v = ⊎_elim (λ d. absurd (v d.none)) (⊎_elim (λ d. absurd (u d.five)) (λ d. d)) g.stage
+  pub is_round : (job ≡ 5 → ⊥) → (job ≡ 0 → ⊥) → Rounding file k x n l s threads counts h root used shown finished at first buffer end job
+  is_round u v = ⊎_elim (λ d. absurd (v d.none)) (⊎_elim (λ d. absurd (u d.five)) (λ d. d)) g.stage
 
 -- the nodes of equal arrays
 pub tables : {c c' b b' : List ℕ} → c' ≡ c → b' ≡ b → table c' b' ≡ table c b
@@ -124,18 +124,18 @@ goes_on_lem e = ap (λ (v : Left). v.what) e
 module _ {file : List ℕ} {k x y e : ℕ} {n : Shapes} {l : List ℕ} {s : Stores} {threads : List Notes} {counts : List ℕ} {h : ℕ → Frame} {root used shown finished at : ℕ}
     {first buffer : List ℕ} {a : ℕ} {end : Notes} (q : Asking file k x y e n l s threads counts h root used shown finished at first buffer a end) where
   -- 4: a step at a place from 60 on
-  pub round-step : a ≡ 0 → 60 ≤ (seen threads x end).place → Rounding file k x n l s threads counts h root used shown finished at first buffer end 4
-  round-step z m = record {
+  pub round_step : a ≡ 0 → 60 ≤ (seen threads x end).place → Rounding file k x n l s threads counts h root used shown finished at first buffer end 4
+  round_step z m = record {
     some = λ i. omega arith;
     other = λ i. omega arith;
     frames = few q (x / 16 % 4) (omega arith);
-    wide = λ _ _. wide-turn q m;
+    wide = λ _ _. wide_turn q m;
     more = λ i. absurd (omega arith);
-    room = λ _ _ _ _. (m, stack-fits q m);
+    room = λ _ _ _ _. (m, stack_fits q m);
     on = λ same g. record {
-      goes = λ o u f. left-on q z g u same o f;
-      finds = λ o m i j v ro. left-found q z g m same o i j v ro;
-      refuses = left-refused q z g;
+      goes = λ o u f. left_on q z g u same o f;
+      finds = λ o m i j v ro. left_found q z g m same o i j v ro;
+      refuses = left_refused q z g;
     };
   }
 
@@ -151,8 +151,8 @@ module _ {file : List ℕ} {k x y e : ℕ} {n : Shapes} {l : List ℕ} {s : Stor
     stays (suc (suc (suc (suc zero)))) j b d f = absurd (omega arith)
     stays (suc (suc (suc (suc (suc v))))) j b d f = f
 
-    pub round-refused : Rounding file k x n l s threads' counts' h root used shown finished at first buffer end m
-    round-refused = rw (g, c)
+    pub round_refused : Rounding file k x n l s threads' counts' h root used shown finished at first buffer end m
+    round_refused = rw (g, c)
         (record {
           some = λ j. omega arith;
           other = λ j. omega arith;
@@ -186,12 +186,12 @@ module _ {file : List ℕ} {k x y e : ℕ} {n : Shapes} {l : List ℕ} {s : Stor
     unfolding starting ite
     extra = ap (λ (t : Thread). t.extra) f ∙ rw (eq-eqb (x % 16) 6 (queries q z))
 
-    pub round-start : Rounding file k x n l s (set threads (x / 16 % 4) w) (set counts (x / 16 % 4) 0) h root used shown finished at first buffer end 1
-    round-start = record {
+    pub round_start : Rounding file k x n l s (set threads (x / 16 % 4) w) (set counts (x / 16 % 4) 0) h root used shown finished at first buffer end 1
+    round_start = record {
       some = λ i. omega arith;
       other = λ i. omega arith;
       frames = omega (arith, bare);
-      wide = λ _ _. wide-start q z;
+      wide = λ _ _. wide_start q z;
       more = λ i. absurd (omega arith);
       room = λ _ i _ _. absurd (i refl);
       on = λ {n'} {l'} {s'} {h'} {r} same g.
@@ -199,7 +199,7 @@ module _ {file : List ℕ} {k x y e : ℕ} {n : Shapes} {l : List ℕ} {s : Stor
           let opens : Opens h h' (x / 16 % 4) 0 _ = rw (begins, station, extra) at g.0 in
           record {
             goes = λ _ u {v} i. rw (to, g.1.0.nodes, g.1.0.depths, g.1.0.stores, set-set, set-set, set-set)
-                (asking-on q z (rw (begins, to) at (i []) ∙ f) opens);
+                (asking_on q z (rw (begins, to) at (i []) ∙ f) opens);
             finds = λ i. absurd (omega (arith, goes_on_lem to));
             refuses = λ i. absurd (omega (arith, goes_on_lem to));
           };
@@ -210,28 +210,28 @@ module _ {file : List ℕ} {k x y e : ℕ} {n : Shapes} {l : List ℕ} {s : Stor
       {n' : Shapes} (l' : List ℕ) {root' used' : ℕ} {threads' : List Notes} {counts' : List ℕ} (w : Applied n root used s shown (written d.writes d.effect) n' root' s)
       (g : length l' ≡ 16384 → rows l' ≡ deepened (written d.writes d.effect) n q.stands.deep) (u : used' ≡ used_after used (written d.writes d.effect))
       (b : Rereads (x / 16 % 4) r end threads threads') (c : Recounts (seen threads x end).place counts counts') where
-    few-still : get_or counts' (x / 16 % 4) 0 ≡ get_or counts (x / 16 % 4) 0
-    few-still = c.each (x / 16 % 4) (omega arith)
+    few_still : get_or counts' (x / 16 % 4) 0 ≡ get_or counts (x / 16 % 4) 0
+    few_still = c.each (x / 16 % 4) (omega arith)
 
-    few-then : get_or counts' (x / 16 % 4) 0 ≤ 4
-    few-then = omega (arith, few-still, few q (x / 16 % 4) (omega arith))
+    few_then : get_or counts' (x / 16 % 4) 0 ≤ 4
+    few_then = omega (arith, few_still, few q (x / 16 % 4) (omega arith))
 
     -- 0: nothing is left once it has noted v, but for frames that stay
-    pub noted-done : {v : Notes} → d.what ≡ 0 → Noted (seen threads' x end) v d.note d.place d.value → (d.note ≡ Opened → ⊥)
+    pub noted_done : {v : Notes} → d.what ≡ 0 → Noted (seen threads' x end) v d.note d.place d.value → (d.note ≡ Opened → ⊥)
         → Done file k x n' l' s (set threads' (x / 16 % 4) v) counts' h root' used' shown finished at first buffer end 0
-    noted-done o f m = record { none = refl; next = noted-on q z d low i l' w g u b c o f (unopened_still d.note _ _ m) }
+    noted_done o f m = record { none = refl; next = noted_on q z d low i l' w g u b c o f (unopened_still d.note _ _ m) }
 
     -- 5: with an answer
-    pub answer-row : d.what ≡ 1 → Answering file k x n' l' s threads' counts' h root' used' shown finished at first buffer end 5 d.answer
-    answer-row o = record { five = refl; on = λ m f j v len ro. said-on q z d low i l' w g u b c m o f j v len ro }
+    pub answer_row : d.what ≡ 1 → Answering file k x n' l' s threads' counts' h root' used' shown finished at first buffer end 5 d.answer
+    answer_row o = record { five = refl; on = λ m f j v len ro. said_on q z d low i l' w g u b c m o f j v len ro }
 
     -- 3: back
-    pub round-back : 2 < d.what → Rounding file k x n' l' s threads' counts' h root' used' shown finished at first buffer end 3
-    round-back o = record {
+    pub round_back : 2 < d.what → Rounding file k x n' l' s threads' counts' h root' used' shown finished at first buffer end 3
+    round_back o = record {
       some = λ i. omega arith;
       other = λ i. omega arith;
-      frames = few-then;
-      wide = λ _ f. wide_back q (λ j. f refl (few-still ∙ j));
+      frames = few_then;
+      wide = λ _ f. wide_back q (λ j. f refl (few_still ∙ j));
       more = λ f. absurd (omega arith);
       room = λ _ _ _ f. absurd (f refl);
       on = λ {n' = n''} {l' = l''} {s' = s''} {h'} {r = p} same f.
@@ -245,24 +245,24 @@ module _ {file : List ℕ} {k x y e : ℕ} {n : Shapes} {l : List ℕ} {s : Stor
     }
 
     -- 2: a new frame, once its place is noted
-    pub round-open : d.what ≡ 0 → d.note ≡ Opened
+    pub round_open : d.what ≡ 0 → d.note ≡ Opened
         → Rounding file k x n' l' s (set threads' (x / 16 % 4) (placed d.place (seen threads' x end))) counts' h root' used' shown finished at first buffer end 2
-    round-open o m =
+    round_open o m =
         let t : ℕ = x / 16 % 4 in
         let put : Notes = placed d.place (seen threads' x end) in
         let there : get_or (set threads' t put) t end ≡ put = get_or-set_same threads' t put end (omega (arith, b.size, q.four)) in
         record {
           some = λ i. omega arith;
           other = λ i. omega arith;
-          frames = few-then;
-          wide = λ _ _. wide-open q z d low i o m;
-          more = λ _. omega (arith, few-still, opens-few q z d low i o m);
+          frames = few_then;
+          wide = λ _ _. wide_open q z d low i o m;
+          more = λ _. omega (arith, few_still, opens_few q z d low i o m);
           room = λ _ _ f _. absurd (f refl);
           on = λ {n' = n''} {l' = l''} {s' = s''} {h'} {r = p} same f.
               let to : p ≡ goes_to root' used' shown d.place (seen threads' x end).base (get_or counts' t 0 + 1) = rw there at f.1.1 in
               record {
                 goes = λ _ _ {v = j} e. rw (to, f.1.0.nodes, f.1.0.depths, f.1.0.stores, set-set, set-set)
-                    (opened-on q z d low i l' w g u b c o m (record { after = λ fr fs. rw m (rw (there, to) at (e (fr ∷ fs))) }) (rw there at f.0));
+                    (opened_on q z d low i l' w g u b c o m (record { after = λ fr fs. rw m (rw (there, to) at (e (fr ∷ fs))) }) (rw there at f.0));
                 finds = λ j. absurd (omega (arith, goes_on_lem to));
                 refuses = λ j. absurd (omega (arith, goes_on_lem to));
               };
@@ -279,26 +279,26 @@ module _ {file : List ℕ} {k x y e : ℕ} {n : Shapes} {l : List ℕ} {s : Stor
         let same : (seen threads' x end).action ≡ (seen threads x end).action = ap (λ (v : Notes). v.action) own in
         sought_find on n root (omega (arith, at, awake q z)) (omega (arith, at, low)) (λ w. searching q z (omega arith) (λ v. omega arith) (sym same ∙ w)) j
 
-    nodes-still : Applied n root used s shown (written d.writes d.effect) n root s
-    nodes-still = rw found.silent (record { stored = λ _ _. refl })
+    nodes_still : Applied n root used s shown (written d.writes d.effect) n root s
+    nodes_still = rw found.silent (record { stored = λ _ _. refl })
 
-    depths-still : length l ≡ 16384 → rows l ≡ deepened (written d.writes d.effect) n q.stands.deep
-    depths-still m = rw found.silent (q.stands.depths m)
+    depths_still : length l ≡ 16384 → rows l ≡ deepened (written d.writes d.effect) n q.stands.deep
+    depths_still m = rw found.silent (q.stands.depths m)
 
-    used-still : used ≡ used_after used (written d.writes d.effect)
-    used-still = rw found.silent
+    used_still : used ≡ used_after used (written d.writes d.effect)
+    used_still = rw found.silent
 
-    counts-still : Recounts (seen threads x end).place counts counts
-    counts-still = recount-none _ _ (λ m. omega arith) (λ m. omega arith)
+    counts_still : Recounts (seen threads x end).place counts counts
+    counts_still = recount_none _ _ (λ m. omega arith) (λ m. omega arith)
 
-    pub found-done : {v : Notes} → d.what ≡ 0 → Noted (seen threads' x end) v d.note d.place d.value
+    pub found_done : {v : Notes} → d.what ≡ 0 → Noted (seen threads' x end) v d.note d.place d.value
         → Done file k x n l s (set threads' (x / 16 % 4) v) counts h root used shown finished at first buffer end 0
-    found-done o m = noted-done z d (omega arith) i.decided l nodes-still depths-still used-still i.rereads counts-still o m (found.same o)
+    found_done o m = noted_done z d (omega arith) i.decided l nodes_still depths_still used_still i.rereads counts_still o m (found.same o)
 
     -- in two stores
-    pub found-twice : (u : Notes) {v : Notes} → d.what ≡ 0 → Noted (seen threads' x end) v d.note d.place d.value
+    pub found_twice : (u : Notes) {v : Notes} → d.what ≡ 0 → Noted (seen threads' x end) v d.note d.place d.value
         → Done file k x n l s (set (set threads' (x / 16 % 4) u) (x / 16 % 4) v) counts h root used shown finished at first buffer end 0
-    found-twice u o m = rw set-set (found-done o m)
+    found_twice u o m = rw set-set (found_done o m)
 
     pub found_row_lem : (d.what ≡ 0 → ⊥) → Answering file k x n l s threads' counts h root used shown finished at first buffer end 5 d.answer
-    found_row_lem o = answer-row z d (omega arith) i.decided l nodes-still depths-still used-still i.rereads counts-still (⊎_elim (λ m. absurd (o m)) (λ m. m) found.ways)
+    found_row_lem o = answer_row z d (omega arith) i.decided l nodes_still depths_still used_still i.rereads counts_still (⊎_elim (λ m. absurd (o m)) (λ m. m) found.ways)

@@ -75,8 +75,8 @@ module _ (l : List Notes) (c : List ℕ) (h h' : ℕ → Frame) (t : ℕ) (v : N
       at k false e = rw (get_or-set_other l t k v none (eqb-false k t e), get_or-set_other c t k n 0 (eqb-false k t e), q k (framed c k) (few k) (eqb-false k t e))
 
   -- and as many frames as before
-  pub put-notes : threads_of (set l t v) c h' ≡ upd (threads_of l c h) t (thread v (frames_of h' t (get_or c t 0)))
-  put-notes = fun_ext (λ k. at k (eqb k t) refl)
+  pub put_notes_lem : threads_of (set l t v) c h' ≡ upd (threads_of l c h) t (thread v (frames_of h' t (get_or c t 0)))
+  put_notes_lem = fun_ext (λ k. at k (eqb k t) refl)
     where
       at : (k : ℕ) (b : Bool) → eqb k t ≡ b → threads_of (set l t v) c h' k ≡ cond b (thread v (frames_of h' t (get_or c t 0))) (threads_of l c h k)
       at k true e = rw (eqb-true k t e, get_or-set_same l t v none i, lt-ltb t 4 i')
@@ -122,17 +122,17 @@ module _ {r : List ℕ} {s b n w : List (List ℕ)} (z : Sizes 256 1 r s b n w) 
   held_but = rw (get_or-set_same s 0 s' [] (omega (arith, z.stacks)), get_or-set_same n 0 n' [] (omega (arith, z.notes)), get_or-set_same w 0 w' [] (omega (arith, z.words)))
 
   -- what a call does to the frames, done in the lists
-  pub opens-then : {h : ℕ → Frame} {t d : ℕ} {f : Frame} → Opens h (held s' b' n' w') t d f → Opens h (held_in (set s 0 s') (set b 0 b') (set n 0 n') (set w 0 w')) t d f
-  opens-then {h} {t} {d} {f} p = subst (λ (i : ℕ → Frame). Opens h i t d f) (sym held_set) p
+  pub opens_then : {h : ℕ → Frame} {t d : ℕ} {f : Frame} → Opens h (held s' b' n' w') t d f → Opens h (held_in (set s 0 s') (set b 0 b') (set n 0 n') (set w 0 w')) t d f
+  opens_then {h} {t} {d} {f} p = subst (λ (i : ℕ → Frame). Opens h i t d f) (sym held_set) p
 
-  pub leaves-then : {o u j i m : ℕ} {l l' : List ℕ} {t t' : Shapes} {k k' : Stores} {h : ℕ → Frame} {th : Notes} {x : Left}
+  pub leaves_then : {o u j i m : ℕ} {l l' : List ℕ} {t t' : Shapes} {k k' : Stores} {h : ℕ → Frame} {th : Notes} {x : Left}
       → Leaves t l k o u j h i m th t' l' k' (held s' b' n' w') x → Leaves t l k o u j h i m th t' l' k' (held_in (set s 0 s') (set b 0 b') (set n 0 n') (set w 0 w')) x
-  leaves-then {o} {u} {j} {i} {m} {l} {l'} {t} {t'} {k} {k'} {h} {th} {x} p = subst (λ (v : ℕ → Frame). Leaves t l k o u j h i m th t' l' k' v x) (sym held_set) p
+  leaves_then {o} {u} {j} {i} {m} {l} {l'} {t} {t'} {k} {k'} {h} {th} {x} p = subst (λ (v : ℕ → Frame). Leaves t l k o u j h i m th t' l' k' v x) (sym held_set) p
 
 -- the same where the backups are only read
 module _ {r : List ℕ} {s b n w : List (List ℕ)} (z : Sizes 256 1 r s b n w) (s' n' w' : List ℕ) where
-  pub backs-then : {h : ℕ → Frame} {t d p : ℕ} → Backs h (held s' (get_or b 0 []) n' w') t d p → Backs h (held_in (set s 0 s') b (set n 0 n') (set w 0 w')) t d p
-  backs-then {h} {t} {d} {p} q = subst (λ (i : ℕ → Frame). Backs h i t d p) (sym (held_but z s' [] n' w')) q
+  pub backs_then : {h : ℕ → Frame} {t d p : ℕ} → Backs h (held s' (get_or b 0 []) n' w') t d p → Backs h (held_in (set s 0 s') b (set n 0 n') (set w 0 w')) t d p
+  backs_then {h} {t} {d} {p} q = subst (λ (i : ℕ → Frame). Backs h i t d p) (sym (held_but z s' [] n' w')) q
 
 -- all that is lent keeps its size: depths l, results r, arrays s, b, n, w
 pub record Kept (l r : List ℕ) (s b n w : List (List ℕ)) (l' r' : List ℕ) (s' b' n' w' : List (List ℕ)) : Type 0 where
@@ -147,12 +147,12 @@ pub all_kept : {l r : List ℕ} {s b n w : List (List ℕ)} → Kept l r s b n w
 all_kept = record { depths = refl; results = refl; stacks = refl; backups = refl; notes = refl; words = refl }
 
 module _ {l r : List ℕ} {s b n w : List (List ℕ)} {l' r' : List ℕ} {s' b' n' w' : List (List ℕ)} (q : Kept l r s b n w l' r' s' b' n' w') where
-  pub kept-sizes : (file : List ℕ) → Spare file r s b n w → (Unasked file → ⊥) → Sizes 256 1 r' s' b' n' w'
-  kept-sizes file (inl o) v = absurd (v o)
-  kept-sizes file (inr z) v = record { results = q.results ∙ z.results; stacks = q.stacks ∙ z.stacks; backups = q.backups ∙ z.backups; notes = q.notes ∙ z.notes; words = q.words ∙ z.words }
+  pub kept_sizes : (file : List ℕ) → Spare file r s b n w → (Unasked file → ⊥) → Sizes 256 1 r' s' b' n' w'
+  kept_sizes file (inl o) v = absurd (v o)
+  kept_sizes file (inr z) v = record { results = q.results ∙ z.results; stacks = q.stacks ∙ z.stacks; backups = q.backups ∙ z.backups; notes = q.notes ∙ z.notes; words = q.words ∙ z.words }
 
-  pub kept-deep : {l'' : List ℕ} → length l'' ≡ length l' → Kept l r s b n w l'' r' s' b' n' w'
-  kept-deep e = record { depths = e ∙ q.depths; results = q.results; stacks = q.stacks; backups = q.backups; notes = q.notes; words = q.words }
+  pub kept_deep : {l'' : List ℕ} → length l'' ≡ length l' → Kept l r s b n w l'' r' s' b' n' w'
+  kept_deep e = record { depths = e ∙ q.depths; results = q.results; stacks = q.stacks; backups = q.backups; notes = q.notes; words = q.words }
 
   -- an array of each kind is put
   pub kept_on : {l'' r'' : List ℕ} {s'' b'' n'' w'' : List (List ℕ)} → Kept l' r' s' b' n' w' l'' r'' s'' b'' n'' w'' → Kept l r s b n w l'' r'' s'' b'' n'' w''

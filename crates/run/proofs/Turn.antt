@@ -21,7 +21,7 @@ use Rattle.frames.specs.Turns.{Backs}
 use Rattle.frames.specs.Outcomes.{Opens}
 use Rattle.answers.proofs.Reach.{reach_frames}
 use Rattle.answers.proofs.Counted.{reach_count, reach_take}
-use Rattle.queries.proofs.Fits.{few-fits}
+use Rattle.queries.proofs.Fits.{few_fits}
 use Rattle.steps.specs.declared.Notes.{Notes}
 use Rattle.steps.specs.declared.Note.{Note}
 use Rattle.steps.specs.declared.Note.TheVariants.{Nothing, Opened}
@@ -55,11 +55,11 @@ use Rattle.run.specs.declared.Standing.{Standing}
 use Rattle.run.proofs.Cases.{row_as}
 use Rattle.run.proofs.Noting.{opened_noted}
 use Rattle.run.proofs.Decided.{reread, counted, Decided, count_stored}
-use Rattle.run.proofs.Outcome.{outcome, goes_on_lem, finishes, runs-out, goes_back}
-use Rattle.run.proofs.Finding.{depth-still, opened}
+use Rattle.run.proofs.Outcome.{outcome, goes_on_lem, finishes, runs_out, goes_back}
+use Rattle.run.proofs.Finding.{depth_still, opened}
 use Rattle.run.proofs.Changed.{Rereads, Recounts, recount_set}
 use Rattle.run.proofs.Joint.{busy, high}
-use Rattle.run.proofs.Threads.{at_own, framed_own, same_counts, put, put-notes, frames_count}
+use Rattle.run.proofs.Threads.{at_own, framed_own, same_counts, put, put_notes_lem, frames_count}
 
 -- ---- one record more
 -- only a record of one of the four threads is carried out
@@ -130,11 +130,11 @@ module _ {file : List ℕ} {k x y e : ℕ} {n : Shapes} {l : List ℕ} {s : Stor
   abbrev pub here : Bench
   here = bench (store (full n q.stands.deep) root used s shown (stop (stop_of file) (get_or counts 4 0))) (threads_of threads counts h)
 
-  abbrev pub own-frames : List Frame
-  own-frames = frames_of h (x / 16 % 4) (get_or counts (x / 16 % 4) 0)
+  abbrev pub own_frames : List Frame
+  own_frames = frames_of h (x / 16 % 4) (get_or counts (x / 16 % 4) 0)
 
   -- its thread
-  pub own : threads_of threads counts h (x / 16 % 4) ≡ thread (seen threads x end) own-frames
+  pub own : threads_of threads counts h (x / 16 % 4) ≡ thread (seen threads x end) own_frames
   own = at_own threads counts h (x / 16 % 4) end q.four (omega arith)
 
   one_on : after file (k + 1) ≡ advance_by file (after file k) (x / 16) (record_step (after file k).bench (last_action file) x y e)
@@ -143,7 +143,7 @@ module _ {file : List ℕ} {k x y e : ℕ} {n : Shapes} {l : List ℕ} {s : Stor
 
   -- what the code relies on: each thread has at most four frames
   each_few : (u : ℕ) → framed counts u ≤ 4
-  each_few u = few-fits file k u h (framed counts u) (sym (ap (λ (b : Bench). (b.threads u).frames) q.stands.bench))
+  each_few u = few_fits file k u h (framed counts u) (sym (ap (λ (b : Bench). (b.threads u).frames) q.stands.bench))
 
   pub few : (u : ℕ) → u < 4 → get_or counts u 0 ≤ 4
   few u i = omega (arith, each_few u, framed_own counts u i)
@@ -155,8 +155,8 @@ module _ {file : List ℕ} {k x y e : ℕ} {n : Shapes} {l : List ℕ} {s : Stor
   pub count_few : get_or counts 4 0 ≤ 4
   count_few = omega (arith, count_at, reach_count file k)
 
-  pub count-some : (seen threads x end).place ≡ 5 → 0 < get_or counts 4 0
-  count-some e =
+  pub count_some_lem : (seen threads x end).place ≡ 5 → 0 < get_or counts 4 0
+  count_some_lem e =
       let at : ((after file k).bench.threads (x / 16 % 4)).place ≡ 5 = sym (ap (λ (b : Bench). (b.threads (x / 16 % 4)).place) q.stands.bench) ∙ (ap (λ (t : Thread). t.place) own ∙ e) in
       omega (arith, count_at, reach_take file k (x / 16 % 4) (omega arith) at)
 
@@ -169,13 +169,13 @@ module _ {file : List ℕ} {k x y e : ℕ} {n : Shapes} {l : List ℕ} {s : Stor
       → threads' ≡ upd (threads_of threads counts h) (x / 16 % 4) th → get_or c 4 0 ≡ count
       → record_step here (last_action file) x y e ≡ carried (bench (store (full n' deep') root' used' s' shown' (stop (stop_of file) count)) (upd (threads_of threads counts h) (x / 16 % 4) th)) w
       → (length l' ≡ 16384 → rows l' ≡ deep')
-      → finished' ≡ row_count w + finished → page buffer' at' ≡ put_all (page buffer at) (row_bytes file (x / 16 % 4) (thread (seen threads x end) own-frames) w)
+      → finished' ≡ row_count w + finished → page buffer' at' ≡ put_all (page buffer at) (row_bytes file (x / 16 % 4) (thread (seen threads x end) own_frames) w)
       → Stands n' l' s' (stop (stop_of file) (get_or c 4 0)) threads' (stand root' used' shown' 0 (k + 1) finished' at') first buffer' (after file (k + 1))
   carried_on {n'} {l'} {s'} {threads'} {deep'} c th w t j f g m ro =
       let p : Progress = after file k in
       let done : record_step p.bench (last_action file) x y e ≡ carried _ w = rw q.stands.bench at f in
       let mine : x / 16 % 4 ≡ x / 16 = omega (arith, named p.bench (last_action file) x y e done) in
-      let at-mine : thread (seen threads x end) own-frames ≡ p.bench.threads (x / 16) =
+      let at-mine : thread (seen threads x end) own_frames ≡ p.bench.threads (x / 16) =
       sym own ∙ (ap (threads_of threads counts h) mine ∙ ap (λ (b : Bench). b.threads (x / 16)) q.stands.bench) in
       rw (one_on, done)
       (record {
@@ -185,59 +185,59 @@ module _ {file : List ℕ} {k x y e : ℕ} {n : Shapes} {l : List ℕ} {s : Stor
         refusal = refl;
         done = omega (arith, q.stands.done);
         finished = rw (m, q.stands.finished);
-        rows = ro ∙ (ap (λ (i : ℕ). put_all (page buffer at) (row_bytes file i (thread (seen threads x end) own-frames) w)) mine
+        rows = ro ∙ (ap (λ (i : ℕ). put_all (page buffer at) (row_bytes file i (thread (seen threads x end) own_frames) w)) mine
             ∙ (ap (λ (v : Thread). put_all (page buffer at) (row_bytes file (x / 16) v w)) at-mine ∙ rw (q.stands.rows, ← put_all_append)));
       })
 
   -- or it is refused
-  pub refused-at : (m : ℕ) → record_step here (last_action file) x y e ≡ refused m
+  pub refused_at : (m : ℕ) → record_step here (last_action file) x y e ≡ refused m
       → Stands n l s (stop (stop_of file) (get_or counts 4 0)) (threads_of threads counts h) (stand root used shown m k finished at) first buffer (after file (k + 1))
-  refused-at m f =
+  refused_at m f =
       let done : record_step (after file k).bench (last_action file) x y e ≡ refused m = rw q.stands.bench at f in
       rw (one_on, done)
       (record { deep = q.stands.deep; bench = q.stands.bench; depths = q.stands.depths; refusal = refl; done = q.stands.done; finished = q.stands.finished; rows = q.stands.rows })
 
-  pub next-bench : {b : Bench} {w : Row} → record_step here (last_action file) x y e ≡ carried b w → (after file (k + 1)).bench ≡ b
-  next-bench f = ap (λ (p : Progress). p.bench) (one_on ∙ ap (advance_by file (after file k) (x / 16)) (ap (λ (b : Bench). record_step b (last_action file) x y e) (sym q.stands.bench) ∙ f))
+  pub next_bench : {b : Bench} {w : Row} → record_step here (last_action file) x y e ≡ carried b w → (after file (k + 1)).bench ≡ b
+  next_bench f = ap (λ (p : Progress). p.bench) (one_on ∙ ap (advance_by file (after file k) (x / 16)) (ap (λ (b : Bench). record_step b (last_action file) x y e) (sym q.stands.bench) ∙ f))
 
   -- what it asks decides
   abbrev pub wants : ℕ
   wants = asked (last_action file) x y e (seen threads x end).place
 
-  pub asked-on : {m : ℕ} → wants ≡ m → record_step here (last_action file) x y e ≡ answered m here (x / 16 % 4) (x % 16) y e
-  asked-on f = asked_so here (x / 16 % 4) (last_action file) x y e (last_few file) (λ small. omega arith)
+  pub asked_on : {m : ℕ} → wants ≡ m → record_step here (last_action file) x y e ≡ answered m here (x / 16 % 4) (x % 16) y e
+  asked_on f = asked_so here (x / 16 % 4) (last_action file) x y e (last_few file) (λ small. omega arith)
       ∙ ap (λ (m : ℕ). answered m here (x / 16 % 4) (x % 16) y e) (ap (λ (t : Thread). asked (last_action file) x y e t.place) own ∙ f)
 
-  pub wants-step : a ≡ 0 → wants ≡ 0
-  wants-step z = sym q.asks ∙ z
+  pub wants_step : a ≡ 0 → wants ≡ 0
+  wants_step z = sym q.asks ∙ z
 
-  pub wants-start : a ≡ 1 → wants ≡ 1
-  wants-start z = sym q.asks ∙ z
+  pub wants_start : a ≡ 1 → wants ≡ 1
+  wants_start z = sym q.asks ∙ z
 
   -- a query's start, which has the query's number
-  pub wants-query : a ≡ 2 → wants ≡ 2
-  wants-query z = sym q.asks ∙ z
+  pub wants_query : a ≡ 2 → wants ≡ 2
+  wants_query z = sym q.asks ∙ z
 
   pub queries : a ≡ 2 → x % 16 ≡ 6
-  queries z = query_action (last_action file) x y e (seen threads x end).place (wants-query z)
+  queries z = query_action (last_action file) x y e (seen threads x end).place (wants_query z)
 
   -- the table with the notes v for its thread, and c frames, or as many as before
-  pub table-with : {h' : ℕ → Frame} (v : Notes) (c : ℕ) → ((u j : ℕ) → j ≤ 4 → (u ≡ x / 16 % 4 → ⊥) → frames_of h' u j ≡ frames_of h u j)
+  pub table_with : {h' : ℕ → Frame} (v : Notes) (c : ℕ) → ((u j : ℕ) → j ≤ 4 → (u ≡ x / 16 % 4 → ⊥) → frames_of h' u j ≡ frames_of h u j)
       → threads_of (set threads (x / 16 % 4) v) (set counts (x / 16 % 4) c) h' ≡ upd (threads_of threads counts h) (x / 16 % 4) (thread v (frames_of h' (x / 16 % 4) c))
-  table-with {h'} v c o = put threads counts h h' (x / 16 % 4) v (omega (arith, q.four)) (omega arith) each_few o c (omega (arith, q.each))
+  table_with {h'} v c o = put threads counts h h' (x / 16 % 4) v (omega (arith, q.four)) (omega arith) each_few o c (omega (arith, q.each))
 
-  pub table-noted : {h' : ℕ → Frame} (v : Notes) → ((u j : ℕ) → j ≤ 4 → (u ≡ x / 16 % 4 → ⊥) → frames_of h' u j ≡ frames_of h u j)
+  pub table_noted : {h' : ℕ → Frame} (v : Notes) → ((u j : ℕ) → j ≤ 4 → (u ≡ x / 16 % 4 → ⊥) → frames_of h' u j ≡ frames_of h u j)
       → threads_of (set threads (x / 16 % 4) v) counts h' ≡ upd (threads_of threads counts h) (x / 16 % 4) (thread v (frames_of h' (x / 16 % 4) (get_or counts (x / 16 % 4) 0)))
-  table-noted {h'} v o = put-notes threads counts h h' (x / 16 % 4) v (omega (arith, q.four)) (omega arith) each_few o
+  table_noted {h'} v o = put_notes_lem threads counts h h' (x / 16 % 4) v (omega (arith, q.four)) (omega arith) each_few o
 
   -- a start that is no query's
-  pub start-on : {v : Notes} → a ≡ 1 → thread v [] ≡ starting (x % 16) y e
+  pub start_on : {v : Notes} → a ≡ 1 → thread v [] ≡ starting (x % 16) y e
       → Stands n l s (stop (stop_of file) (get_or (set counts (x / 16 % 4) 0) 4 0)) (threads_of (set threads (x / 16 % 4) v) (set counts (x / 16 % 4) 0) h)
       (stand root used shown 0 (k + 1) finished at) first buffer (after file (k + 1))
   unfolding put_all
-  start-on {v} z f =
-      let begins : thread v [] ≡ begun (action_of (x % 16)) y e 1 = f ∙ start_begun (last_action file) x y e (seen threads x end).place (wants-start z) in
-      carried_on (set counts (x / 16 % 4) 0) (thread v []) no_row (table-with v 0 (λ _ _ _ _. refl)) (count_kept counts 0) (asked-on (wants-start z) ∙ rw begins) q.stands.depths (omega arith) refl
+  start_on {v} z f =
+      let begins : thread v [] ≡ begun (action_of (x % 16)) y e 1 = f ∙ start_begun (last_action file) x y e (seen threads x end).place (wants_start z) in
+      carried_on (set counts (x / 16 % 4) 0) (thread v []) no_row (table_with v 0 (λ _ _ _ _. refl)) (count_kept counts 0) (asked_on (wants_start z) ∙ rw begins) q.stands.depths (omega arith) refl
 
   -- a refusal
   refused_by_lem : (m : ℕ) → 2 < m → (b : Bench) (t c : ℕ) → answered m b t c y e ≡ refused m
@@ -246,8 +246,8 @@ module _ {file : List ℕ} {k x y e : ℕ} {n : Shapes} {l : List ℕ} {s : Stor
   refused_by_lem (suc (suc zero)) z b t c = absurd (omega arith)
   refused_by_lem (suc (suc (suc m))) z b t c = refl
 
-  pub refused-on : 2 < a → Stands n l s (stop (stop_of file) (get_or counts 4 0)) (threads_of threads counts h) (stand root used shown a k finished at) first buffer (after file (k + 1))
-  refused-on z = refused-at a (asked-on (sym q.asks) ∙ refused_by_lem a z _ _ _)
+  pub refused_on : 2 < a → Stands n l s (stop (stop_of file) (get_or counts 4 0)) (threads_of threads counts h) (stand root used shown a k finished at) first buffer (after file (k + 1))
+  refused_on z = refused_at a (asked_on (sym q.asks) ∙ refused_by_lem a z _ _ _)
 
   -- its number is above 5
   pub over : 3 ≤ a → 5 < a
@@ -255,32 +255,32 @@ module _ {file : List ℕ} {k x y e : ℕ} {n : Shapes} {l : List ℕ} {s : Stor
 
   -- a thread that takes a step is not idle
   pub awake : a ≡ 0 → 0 < (seen threads x end).place
-  awake z = busy (last_action file) x y e (seen threads x end).place (wants-step z)
+  awake z = busy (last_action file) x y e (seen threads x end).place (wants_step z)
 
   -- a step below 60, which with r routes read decides d
   module _ (z : a ≡ 0) {r : ℕ} (d : Decision) (low : (seen threads x end).place < 60) (i : Decided (sight n root used s shown (stop (stop_of file) (get_or counts 4 0))) (seen threads x end) r d) where
     abbrev effect : Effect
     effect = written d.writes d.effect
 
-    steps_on : {w : Result} → outcome here (x / 16 % 4) (seen threads x end) r own-frames d own i ≡ w → record_step here (last_action file) x y e ≡ w
-    steps_on f = asked-on (wants-step z) ∙ f
+    steps_on : {w : Result} → outcome here (x / 16 % 4) (seen threads x end) r own_frames d own i ≡ w → record_step here (last_action file) x y e ≡ w
+    steps_on f = asked_on (wants_step z) ∙ f
 
     -- the frame that it puts on top, where it does
     abbrev top : Frame
-    top = top_after (step (place_of (seen threads x end).place) (sight n root used s shown (stop (stop_of file) (get_or counts 4 0))) (thread (seen threads x end) own-frames))
+    top = top_after (step (place_of (seen threads x end).place) (sight n root used s shown (stop (stop_of file) (get_or counts 4 0))) (thread (seen threads x end) own_frames))
 
     -- numbers have run out
-    pub full-on : {threads' : List Notes} → d.what ≡ 2 → threads' ≡ threads
+    pub full_on : {threads' : List Notes} → d.what ≡ 2 → threads' ≡ threads
         → Stands n l s (stop (stop_of file) (get_or counts 4 0)) (threads_of threads' counts h) (stand root used shown 13 k finished at) first buffer (after file (k + 1))
-    full-on o g = rw g (refused-at 13 (steps_on (runs-out here (x / 16 % 4) (seen threads x end) r own-frames d own i o)))
+    full_on o g = rw g (refused_at 13 (steps_on (runs_out here (x / 16 % 4) (seen threads x end) r own_frames d own i o)))
 
     -- where it opens a frame there is room: its thread has one more after it
-    pub opens_one : d.what ≡ 0 → d.note ≡ Opened → ((after file (k + 1)).bench.threads (x / 16 % 4)).frames ≡ top ∷ own-frames
-    opens_one o f = ap (λ (w : Bench). (w.threads (x / 16 % 4)).frames) (next-bench (steps_on (goes_on_lem here (x / 16 % 4) (seen threads x end) r own-frames d own i o (opened_noted d f))))
+    pub opens_one : d.what ≡ 0 → d.note ≡ Opened → ((after file (k + 1)).bench.threads (x / 16 % 4)).frames ≡ top ∷ own_frames
+    opens_one o f = ap (λ (w : Bench). (w.threads (x / 16 % 4)).frames) (next_bench (steps_on (goes_on_lem here (x / 16 % 4) (seen threads x end) r own_frames d own i o (opened_noted d f))))
         ∙ rw (eq-eqb (x / 16 % 4) (x / 16 % 4) refl, f)
 
-    pub opens-few : d.what ≡ 0 → d.note ≡ Opened → get_or counts (x / 16 % 4) 0 < 4
-    opens-few o f =
+    pub opens_few : d.what ≡ 0 → d.note ≡ Opened → get_or counts (x / 16 % 4) 0 < 4
+    opens_few o f =
         let t : ℕ = x / 16 % 4 in
         omega (arith, subst (λ (fs : List Frame). length fs ≤ 4) (opens_one o f) (reach_frames file (k + 1) t), frames_count h t (get_or counts t 0))
 
@@ -298,58 +298,58 @@ module _ {file : List ℕ} {k x y e : ℕ} {n : Shapes} {l : List ℕ} {s : Stor
           ∙ count_stored (seen threads x end).place effect (full n q.stands.deep) root used s shown (stop_of file) (get_or counts 4 0) _ (λ m. i.quiet m o) refl)
 
       -- the table with the notes v for its thread, and m frames, or as many as before
-      again-with : {h' : ℕ → Frame} (v : Notes) (m : ℕ) → ((u j : ℕ) → j ≤ 4 → (u ≡ x / 16 % 4 → ⊥) → frames_of h' u j ≡ frames_of h u j)
+      again_with : {h' : ℕ → Frame} (v : Notes) (m : ℕ) → ((u j : ℕ) → j ≤ 4 → (u ≡ x / 16 % 4 → ⊥) → frames_of h' u j ≡ frames_of h u j)
           → threads_of (set threads' (x / 16 % 4) v) (set counts' (x / 16 % 4) m) h' ≡ upd (threads_of threads counts h) (x / 16 % 4) (thread v (frames_of h' (x / 16 % 4) m))
-      again-with {h'} v m o = ap (λ (t : List Notes). threads_of t (set counts' (x / 16 % 4) m) h') (b.puts v)
-          ∙ (same_counts (set threads (x / 16 % 4) v) (set counts (x / 16 % 4) m) (set counts' (x / 16 % 4) m) h' (recount_set c (x / 16 % 4) m (omega (arith, q.each))) ∙ table-with v m o)
+      again_with {h'} v m o = ap (λ (t : List Notes). threads_of t (set counts' (x / 16 % 4) m) h') (b.puts v)
+          ∙ (same_counts (set threads (x / 16 % 4) v) (set counts (x / 16 % 4) m) (set counts' (x / 16 % 4) m) h' (recount_set c (x / 16 % 4) m (omega (arith, q.each))) ∙ table_with v m o)
 
-      again-noted : {h' : ℕ → Frame} (v : Notes) → ((u j : ℕ) → j ≤ 4 → (u ≡ x / 16 % 4 → ⊥) → frames_of h' u j ≡ frames_of h u j)
+      again_noted : {h' : ℕ → Frame} (v : Notes) → ((u j : ℕ) → j ≤ 4 → (u ≡ x / 16 % 4 → ⊥) → frames_of h' u j ≡ frames_of h u j)
           → threads_of (set threads' (x / 16 % 4) v) counts' h' ≡ upd (threads_of threads counts h) (x / 16 % 4) (thread v (frames_of h' (x / 16 % 4) (get_or counts (x / 16 % 4) 0)))
-      again-noted {h'} v o = ap (λ (t : List Notes). threads_of t counts' h') (b.puts v) ∙ (same_counts (set threads (x / 16 % 4) v) counts counts' h' c.each ∙ table-noted v o)
+      again_noted {h'} v o = ap (λ (t : List Notes). threads_of t counts' h') (b.puts v) ∙ (same_counts (set threads (x / 16 % 4) v) counts counts' h' c.each ∙ table_noted v o)
 
-      still-framed : get_or counts' (x / 16 % 4) 0 ≡ get_or counts (x / 16 % 4) 0
-      still-framed = c.each (x / 16 % 4) (omega arith)
+      still_framed : get_or counts' (x / 16 % 4) 0 ≡ get_or counts (x / 16 % 4) 0
+      still_framed = c.each (x / 16 % 4) (omega arith)
 
       -- what is noted of the notes in the table
       noted_of : {v : Notes} (m : Note) (p j : ℕ) → Noted (seen threads' x end) v m p j → Noted (reread r (seen threads x end)) v m p j
       noted_of {v} m p j f = subst (λ (t : Notes). Noted t v m p j) b.own f
 
       -- it notes v, and its frames stay
-      pub noted-on : {v : Notes} → d.what ≡ 0 → Noted (seen threads' x end) v d.note d.place d.value → frames_after d.note top own-frames ≡ own-frames
+      pub noted_on : {v : Notes} → d.what ≡ 0 → Noted (seen threads' x end) v d.note d.place d.value → frames_after d.note top own_frames ≡ own_frames
           → Stands n' l' s (stop (stop_of file) (get_or counts' 4 0)) (threads_of (set threads' (x / 16 % 4) v) counts' h) (stand root' used' shown 0 (k + 1) finished at) first buffer (after file (k + 1))
       unfolding put_all
-      noted-on {v} o f j = carried_on counts' (thread v own-frames) no_row (again-noted v (λ _ _ _ _. refl)) c.count
-          (steps_on (goes_on_lem here (x / 16 % 4) (seen threads x end) r own-frames d own i o (noted_of d.note d.place d.value f) ∙ rw (← stored_on (λ m. omega arith), j))) g (omega arith) refl
+      noted_on {v} o f j = carried_on counts' (thread v own_frames) no_row (again_noted v (λ _ _ _ _. refl)) c.count
+          (steps_on (goes_on_lem here (x / 16 % 4) (seen threads x end) r own_frames d own i o (noted_of d.note d.place d.value f) ∙ rw (← stored_on (λ m. omega arith), j))) g (omega arith) refl
 
       -- in two stores: the place, then the note
-      pub noted-twice : (v : Notes) {t : Notes} → d.what ≡ 0 → Noted (seen threads' x end) t d.note d.place d.value → frames_after d.note top own-frames ≡ own-frames
+      pub noted_twice : (v : Notes) {t : Notes} → d.what ≡ 0 → Noted (seen threads' x end) t d.note d.place d.value → frames_after d.note top own_frames ≡ own_frames
           → Stands n' l' s (stop (stop_of file) (get_or counts' 4 0)) (threads_of (set (set threads' (x / 16 % 4) v) (x / 16 % 4) t) counts' h)
           (stand root' used' shown 0 (k + 1) finished at) first buffer (after file (k + 1))
-      noted-twice v o f j = rw set-set (noted-on o f j)
+      noted_twice v o f j = rw set-set (noted_on o f j)
 
       -- with a new frame, for the range base that it has reached: nothing is written, so the base is as it was
-      base-still : d.what ≡ 0 → d.note ≡ Opened → helping (n' (seen threads x end).base) ≡ top
-      base-still o f =
+      base_still : d.what ≡ 0 → d.note ≡ Opened → helping (n' (seen threads x end).base) ≡ top
+      base_still o f =
           let m : ℕ = (seen threads x end).base in
-          let c : (effect ≡ Quiet) × (top ≡ helping (n m)) = opened (sight n root used s shown (stop (stop_of file) (get_or counts 4 0))) (seen threads x end) low r d i own-frames o f in
+          let c : (effect ≡ Quiet) × (top ≡ helping (n m)) = opened (sight n root used s shown (stop (stop_of file) (get_or counts 4 0))) (seen threads x end) low r d i own_frames o f in
           let v : Stop = stop (stop_of file) (get_or counts 4 0) in
           let kept : store (full n' (deepened effect n q.stands.deep)) root' (used_after used effect) s (shown_after shown effect) v ≡ here.store =
           w.stored q.stands.deep v ∙ ap (λ (a : Effect). perform a here.store) c.0 in
           ap (λ (t : Store). new_frame (t.nodes m).lower (t.nodes m).upper (To (t.nodes m).store)) kept ∙ sym c.1
 
-      pub opened-on : {v : Notes} {h' : ℕ → Frame} → d.what ≡ 0 → d.note ≡ Opened → Noted (seen threads' x end) v d.note d.place d.value
+      pub opened_on : {v : Notes} {h' : ℕ → Frame} → d.what ≡ 0 → d.note ≡ Opened → Noted (seen threads' x end) v d.note d.place d.value
           → Opens h h' (x / 16 % 4) (get_or counts' (x / 16 % 4) 0) (helping (n' (seen threads' x end).base))
           → Stands n' l' s (stop (stop_of file) (get_or (set counts' (x / 16 % 4) (get_or counts' (x / 16 % 4) 0 + 1)) 4 0))
           (threads_of (set threads' (x / 16 % 4) v) (set counts' (x / 16 % 4) (get_or counts' (x / 16 % 4) 0 + 1)) h')
           (stand root' used' shown 0 (k + 1) finished at) first buffer (after file (k + 1))
       unfolding put_all
-      opened-on {v} {h'} o f j p =
+      opened_on {v} {h'} o f j p =
           let t : ℕ = x / 16 % 4 in
           let here-base : (seen threads' x end).base ≡ (seen threads x end).base = ap (λ (m : Notes). m.base) b.own in
-          let most : Opens h h' t (get_or counts t 0) (helping (n' (seen threads x end).base)) = rw (still-framed, here-base) at p in
-          let more : frames_of h' t (get_or counts' t 0 + 1) ≡ frames_after d.note top own-frames = rw (f, still-framed, add-one) (most.frames ∙ ap (λ (m : Frame). m ∷ own-frames) (base-still o f)) in
-          carried_on (set counts' t (get_or counts' t 0 + 1)) _ no_row (again-with v (get_or counts' t 0 + 1) p.others) (count_kept counts' _ ∙ c.count)
-          (steps_on (goes_on_lem here t (seen threads x end) r own-frames d own i o (noted_of d.note d.place d.value j) ∙ rw (← stored_on (λ m. omega arith), ← more))) g (omega arith) refl
+          let most : Opens h h' t (get_or counts t 0) (helping (n' (seen threads x end).base)) = rw (still_framed, here-base) at p in
+          let more : frames_of h' t (get_or counts' t 0 + 1) ≡ frames_after d.note top own_frames = rw (f, still_framed, add-one) (most.frames ∙ ap (λ (m : Frame). m ∷ own_frames) (base_still o f)) in
+          carried_on (set counts' t (get_or counts' t 0 + 1)) _ no_row (again_with v (get_or counts' t 0 + 1) p.others) (count_kept counts' _ ∙ c.count)
+          (steps_on (goes_on_lem here t (seen threads x end) r own_frames d own i o (noted_of d.note d.place d.value j) ∙ rw (← stored_on (λ m. omega arith), ← more))) g (omega arith) refl
 
       -- back, where its frames lead
       pub back_on : {v : Notes} {h' : ℕ → Frame} {p : ℕ} → 2 < d.what → Noted (seen threads' x end) v Nothing p 0 → Backs h h' (x / 16 % 4) (get_or counts' (x / 16 % 4) 0) p
@@ -357,27 +357,27 @@ module _ {file : List ℕ} {k x y e : ℕ} {n : Shapes} {l : List ℕ} {s : Stor
           (stand root' used' shown 0 (k + 1) finished at) first buffer (after file (k + 1))
       unfolding put_all
       back_on {v} {h'} {p} o f m =
-          let to : Backs h h' (x / 16 % 4) (get_or counts (x / 16 % 4) 0) p = rw still-framed at m in
-          carried_on counts' (thread v (frames_of h' (x / 16 % 4) (get_or counts (x / 16 % 4) 0))) no_row (again-noted v m.others) c.count
-          (steps_on (goes_back here (x / 16 % 4) (seen threads x end) r own-frames d own i o (noted_of Nothing p 0 f)
-          (to.turn effect (thread (reread r (seen threads x end)) own-frames)) ∙ rw (← stored_on (λ m. omega arith)))) g (omega arith) refl
+          let to : Backs h h' (x / 16 % 4) (get_or counts (x / 16 % 4) 0) p = rw still_framed at m in
+          carried_on counts' (thread v (frames_of h' (x / 16 % 4) (get_or counts (x / 16 % 4) 0))) no_row (again_noted v m.others) c.count
+          (steps_on (goes_back here (x / 16 % 4) (seen threads x end) r own_frames d own i o (noted_of Nothing p 0 f)
+          (to.turn effect (thread (reread r (seen threads x end)) own_frames)) ∙ rw (← stored_on (λ m. omega arith)))) g (omega arith) refl
 
       -- with a row: from version 2 on the depths are lent whole, and the depth is read in them after what is written
-      pub said-on : {v : Notes} {finished' at' : ℕ} {buffer' : List ℕ} (m : ℕ) → d.what ≡ 1 → thread v [] ≡ idle → finished' ≡ 1 + finished → m ≡ version file
+      pub said_on : {v : Notes} {finished' at' : ℕ} {buffer' : List ℕ} (m : ℕ) → d.what ≡ 1 → thread v [] ≡ idle → finished' ≡ 1 + finished → m ≡ version file
           → ((version file ≡ 1 → ⊥) → length l' ≡ 16384)
           → page buffer' at' ≡ put_all (page buffer at) (row_of m (x / 16 % 4) (seen threads' x end) d.answer (depth_by d.answer (rows l') (seen threads' x end).station))
           → Stands n' l' s (stop (stop_of file) (get_or (set counts' (x / 16 % 4) 0) 4 0)) (threads_of (set threads' (x / 16 % 4) v) (set counts' (x / 16 % 4) 0) h)
           (stand root' used' shown 0 (k + 1) finished' at') first buffer' (after file (k + 1))
-      said-on {v} m o f j vs len ro =
+      said_on {v} m o f j vs len ro =
           let deep : Rows = q.stands.deep in
           let found : (version file ≡ 1 → ⊥) → depth_by d.answer (rows l') (seen threads x end).station ≡ depth_in d.answer (full n deep) (seen threads x end).station =
           λ z. ap (λ (r : Rows). depth_by d.answer r (seen threads x end).station) (g (len z))
-          ∙ depth-still (sight n root used s shown (stop (stop_of file) (get_or counts 4 0))) (seen threads x end) low r d i own-frames n deep (seen threads x end).station o in
+          ∙ depth_still (sight n root used s shown (stop (stop_of file) (get_or counts 4 0))) (seen threads x end) low r d i own_frames n deep (seen threads x end).station o in
           carried_on (set counts' (x / 16 % 4) 0) (thread v []) (row (shownAs d.answer) (depth_in d.answer (full n deep) (seen threads x end).station) 0)
-          (again-with v 0 (λ _ _ _ _. refl)) (count_kept counts' 0 ∙ c.count)
-          (steps_on (finishes here (x / 16 % 4) (seen threads x end) r own-frames d own i o ∙ rw (← stored_on (λ m. omega arith), f))) g j
+          (again_with v 0 (λ _ _ _ _. refl)) (count_kept counts' 0 ∙ c.count)
+          (steps_on (finishes here (x / 16 % 4) (seen threads x end) r own_frames d own i o ∙ rw (← stored_on (λ m. omega arith), f))) g j
           (ro ∙ (ap (λ (t : Notes). put_all (page buffer at) (row_of m (x / 16 % 4) t d.answer (depth_by d.answer (rows l') t.station))) b.own
-          ∙ ap (put_all (page buffer at)) (row_as file m (x / 16 % 4) (seen threads x end) own-frames d.answer _ _ vs found)))
+          ∙ ap (put_all (page buffer at)) (row_as file m (x / 16 % 4) (seen threads x end) own_frames d.answer _ _ vs found)))
 
 -- a thread without frames goes back to 1
 pub back_none : (h : ℕ → Frame) (t d : ℕ) → d ≡ 0 → Backs h h t d 1

@@ -20,31 +20,31 @@ use Rattle.definitions.specs.Run.{after}
 use Rattle.definitions.specs.declared.Link.TheVariants.{Nil}
 use Rattle.run.proofs.Decided.{Decided}
 use Rattle.run.proofs.Threads.{frames_count}
-use Rattle.run.proofs.Turn.{seen, Asking, own-frames, own, asked-on, wants-query, next-bench, opens_one}
+use Rattle.run.proofs.Turn.{seen, Asking, own_frames, own, asked_on, wants_query, next_bench, opens_one}
 
 module _ {file : List ℕ} {k x y e : ℕ} {n : Shapes} {l : List ℕ} {s : Stores} {threads : List Notes} {counts : List ℕ} {h : ℕ → Frame} {root used shown finished at : ℕ}
     {first buffer : List ℕ} {a : ℕ} {end : Notes} (q : Asking file k x y e n l s threads counts h root used shown finished at first buffer a end) where
   -- its thread in the bench
-  own_then : (after file k).bench.threads (x / 16 % 4) ≡ thread (seen threads x end) (own-frames q)
+  own_then : (after file k).bench.threads (x / 16 % 4) ≡ thread (seen threads x end) (own_frames q)
   own_then = sym (ap (λ (b : Bench). b.threads (x / 16 % 4)) q.stands.bench) ∙ own q
 
   -- a frame is there
   framed : (m : ℕ) {f : Frame} {fs : List Frame} → ((after file m).bench.threads (x / 16 % 4)).frames ≡ f ∷ fs → Unasked file → ⊥
   framed m {f} {fs} g v = let none : f ∷ fs ≡ [] = sym g ∙ ((unasked file m v).threads (x / 16 % 4)).frames in let z : ◌≡◌ {A = ℕ} (suc (length fs)) 0 = ap length none in omega arith
 
-  pub wide-turn : 60 ≤ (seen threads x end).place → Unasked file → ⊥
-  wide-turn m v = let p : ((after file k).bench.threads (x / 16 % 4)).place ≡ (seen threads x end).place = ap (λ (t : Thread). t.place) own_then in
+  pub wide_turn : 60 ≤ (seen threads x end).place → Unasked file → ⊥
+  wide_turn m v = let p : ((after file k).bench.threads (x / 16 % 4)).place ≡ (seen threads x end).place = ap (λ (t : Thread). t.place) own_then in
       omega (arith, ((unasked file k v).threads (x / 16 % 4)).place)
 
   pub wide_back : (get_or counts (x / 16 % 4) 0 ≡ 0 → ⊥) → Unasked file → ⊥
   wide_back o v =
-      let none : own-frames q ≡ [] = sym (ap (λ (t : Thread). t.frames) own_then) ∙ ((unasked file k v).threads (x / 16 % 4)).frames in
+      let none : own_frames q ≡ [] = sym (ap (λ (t : Thread). t.frames) own_then) ∙ ((unasked file k v).threads (x / 16 % 4)).frames in
       o (sym (frames_count h (x / 16 % 4) (get_or counts (x / 16 % 4) 0)) ∙ ap length none)
 
-  pub wide-start : a ≡ 2 → Unasked file → ⊥
-  wide-start z = framed (k + 1) {f = new_frame y e Nil} {fs = []}
-      (ap (λ (b : Bench). (b.threads (x / 16 % 4)).frames) (next-bench q (asked-on q (wants-query q z))) ∙ rw (eq-eqb (x / 16 % 4) (x / 16 % 4) refl))
+  pub wide_start : a ≡ 2 → Unasked file → ⊥
+  wide_start z = framed (k + 1) {f = new_frame y e Nil} {fs = []}
+      (ap (λ (b : Bench). (b.threads (x / 16 % 4)).frames) (next_bench q (asked_on q (wants_query q z))) ∙ rw (eq-eqb (x / 16 % 4) (x / 16 % 4) refl))
 
-  pub wide-open : (z : a ≡ 0) {r : ℕ} (d : Decision) (low : (seen threads x end).place < 60)
+  pub wide_open : (z : a ≡ 0) {r : ℕ} (d : Decision) (low : (seen threads x end).place < 60)
       (i : Decided (sight n root used s shown (stop (stop_of file) (get_or counts 4 0))) (seen threads x end) r d) → d.what ≡ 0 → d.note ≡ Opened → Unasked file → ⊥
-  wide-open z d low i o f = framed (k + 1) (opens_one q z d low i o f)
+  wide_open z d low i o f = framed (k + 1) (opens_one q z d low i o f)

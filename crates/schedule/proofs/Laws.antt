@@ -79,9 +79,9 @@ module _ (file : List ℕ) where
       )
 
   -- a file of version 1
-  pub right-one : 3 ≤ length file → version file ≡ 1 → count_of file ≤ 4096 → length file ≡ 3 + 2 * count_of file → 0 ≡ file_refusal file
+  pub right_one : 3 ≤ length file → version file ≡ 1 → count_of file ≤ 4096 → length file ≡ 3 + 2 * count_of file → 0 ≡ file_refusal file
   unfolding file_refusal ite
-  right-one h k l m = simp (le-ltb _ _ h, eq-eqb _ _ k, le-ltb _ _ l, eq-eqb _ _ m)
+  right_one h k l m = simp (le-ltb _ _ h, eq-eqb _ _ k, le-ltb _ _ l, eq-eqb _ _ m)
 
 -- a file that is not refused
 pub proper : (file : List ℕ) → file_refusal file ≡ 0 → Proper file
@@ -99,17 +99,17 @@ proper file =
 -- ---- the fault of a file that has to be of version 1
 
 module _ (file : List ℕ) where
-  pub fault-short : length file < 3 → 1 ≡ fault file
+  pub fault_short : length file < 3 → 1 ≡ fault file
   unfolding fault ite
-  fault-short h = rw (lt-ltb _ _ h)
+  fault_short h = rw (lt-ltb _ _ h)
 
-  pub fault-version : 3 ≤ length file → (get_or file 0 0 ≡ 1 → ⊥) → 2 ≡ fault file
+  pub fault_version : 3 ≤ length file → (get_or file 0 0 ≡ 1 → ⊥) → 2 ≡ fault file
   unfolding fault ite
-  fault-version h i = rw (le-ltb _ _ h, ne_eqb _ _ i)
+  fault_version h i = rw (le-ltb _ _ h, ne_eqb _ _ i)
 
-  pub fault-file : {r : ℕ} → 3 ≤ length file → get_or file 0 0 ≡ 1 → r ≡ file_refusal file → r ≡ fault file
+  pub fault_file : {r : ℕ} → 3 ≤ length file → get_or file 0 0 ≡ 1 → r ≡ file_refusal file → r ≡ fault file
   unfolding fault ite
-  fault-file h e f = rw (le-ltb _ _ h, eq-eqb _ _ e) f
+  fault_file h e f = rw (le-ltb _ _ h, eq-eqb _ _ e) f
 
   pub plain : fault file ≡ 0 → Plain file
   unfolding fault ite
@@ -147,18 +147,18 @@ module _ (file : List ℕ) (at : ℕ) where
     unfolding taken_from ite
     by_two e = rw (ne_eqb _ _ e)
 
-    pub taken-two : v ≡ 1 → at < length file → 1 < length file - at → record { found = Of (get_or file at 0) (get_or file (at + 1) 0) 0; at = at + 2 } ≡ taken_from v file at
-    taken-two e h k = sym (by_one e ∙ two_there (omega arith))
+    pub taken_two : v ≡ 1 → at < length file → 1 < length file - at → record { found = Of (get_or file at 0) (get_or file (at + 1) 0) 0; at = at + 2 } ≡ taken_from v file at
+    taken_two e h k = sym (by_one e ∙ two_there (omega arith))
 
-    pub taken-half : v ≡ 1 → at < length file → length file - at ≤ 1 → ended at ≡ taken_from v file at
-    taken-half e h k = sym (by_one e ∙ two_gone (omega arith))
+    pub taken_half : v ≡ 1 → at < length file → length file - at ≤ 1 → ended at ≡ taken_from v file at
+    taken_half e h k = sym (by_one e ∙ two_gone (omega arith))
 
-    pub taken-four : {x : ℕ} → (v ≡ 1 → ⊥) → at < length file → 3 < length file - at → x ≡ get_or file (at + 2) 0 * 256 + get_or file (at + 3) 0
+    pub taken_four : {x : ℕ} → (v ≡ 1 → ⊥) → at < length file → 3 < length file - at → x ≡ get_or file (at + 2) 0 * 256 + get_or file (at + 3) 0
         → record { found = Of (get_or file at 0) (get_or file (at + 1) 0) x; at = at + 4 } ≡ taken_from v file at
-    taken-four e h k f = rw f (sym (by_two e ∙ four_there (omega arith)))
+    taken_four e h k f = rw f (sym (by_two e ∙ four_there (omega arith)))
 
-    pub taken-less : (v ≡ 1 → ⊥) → at < length file → length file - at ≤ 3 → ended at ≡ taken_from v file at
-    taken-less e h k = sym (by_two e ∙ four_gone (omega arith))
+    pub taken_less : (v ≡ 1 → ⊥) → at < length file → length file - at ≤ 3 → ended at ≡ taken_from v file at
+    taken_less e h k = sym (by_two e ∙ four_gone (omega arith))
 
     pub taken_none : length file ≤ at → ended at ≡ taken_from v file at
     taken_none h = elim (ℕ_discrete v 1) [
@@ -166,7 +166,7 @@ module _ (file : List ℕ) (at : ℕ) where
       | no e ↦ sym (by_two e ∙ four_gone (omega arith))
     ]
 
-pub ruleset taken_cases = (taken-two, taken-half, taken-four, taken-less, taken_none)
+pub ruleset taken_cases = (taken_two, taken_half, taken_four, taken_less, taken_none)
 
 -- ---- record k, which the file holds
 abbrev record_taken : List ℕ → ℕ → Taken

@@ -64,26 +64,26 @@ word_put p n {a} {b} {c} {d} {e} {f} {g} {h} e8 e7 e6 e5 e4 e3 e2 e1 v w = joine
 -- ---- a number or none, a word or none
 
 module _ (p : Page) {l : Link} where
-  pub link-none : {q : Page} → l ≡ Nil → q ≡ put_all p (0 ∷ 0 ∷ []) → q ≡ put_all p (link_bytes l)
-  link-none e w = w ∙ rw e
+  pub link_none : {q : Page} → l ≡ Nil → q ≡ put_all p (0 ∷ 0 ∷ []) → q ≡ put_all p (link_bytes l)
+  link_none e w = w ∙ rw e
 
   pub link_some : {x : ℕ} {q : Page} → l ≡ To x → q ≡ put_all p (1 ∷ x ∷ []) → q ≡ put_all p (link_bytes l)
   link_some e w = w ∙ rw e
 
 module _ (p : Page) (l : Link) {c : Bool} {q : Page} where
-  pub noted-there : c ≡ true → q ≡ put_all p (link_bytes l) → q ≡ put_all p (noted c l)
+  pub noted_there : c ≡ true → q ≡ put_all p (link_bytes l) → q ≡ put_all p (noted c l)
   unfolding noted ite
-  noted-there e w = w ∙ rw e
+  noted_there e w = w ∙ rw e
 
-  pub noted-none : c ≡ false → q ≡ put_all p (0 ∷ 0 ∷ []) → q ≡ put_all p (noted c l)
+  pub noted_none : c ≡ false → q ≡ put_all p (0 ∷ 0 ∷ []) → q ≡ put_all p (noted c l)
   unfolding noted ite
-  noted-none e w = w ∙ rw e
+  noted_none e w = w ∙ rw e
 
 module _ (p : Page) {s : Shared} where
-  pub shared-none : {q : Page} → s ≡ Unset → q ≡ put_all p (zeros 9) → q ≡ put_all p (shared_bytes s)
-  shared-none e w = w ∙ rw e
+  pub shared_none : {q : Page} → s ≡ Unset → q ≡ put_all p (zeros 9) → q ≡ put_all p (shared_bytes s)
+  shared_none e w = w ∙ rw e
 
-  pub shared-some : {c : ℕ} {q r : Page} → s ≡ Set c → q ≡ put p 1 → r ≡ put_all q (bytes_of 8 c) → r ≡ put_all p (shared_bytes s)
-  shared-some {c} e v w = begun p 1 (bytes_of 8 c) v w ∙ rw e
+  pub shared_some : {c : ℕ} {q r : Page} → s ≡ Set c → q ≡ put p 1 → r ≡ put_all q (bytes_of 8 c) → r ≡ put_all p (shared_bytes s)
+  shared_some {c} e v w = begun p 1 (bytes_of 8 c) v w ∙ rw e
 
-pub ruleset bytes_cases = (one_put, pair_put, word_put, link-none, link_some, noted-there, noted-none, shared-none, shared-some)
+pub ruleset bytes_cases = (one_put, pair_put, word_put, link_none, link_some, noted_there, noted_none, shared_none, shared_some)

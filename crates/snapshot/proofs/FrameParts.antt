@@ -39,16 +39,16 @@ pile_length r zero = refl
 pile_length r (suc n) = ap suc (pile_length r n)
 
 module _ (s : List ℕ) (j n i : ℕ) where
-  pub entry-there : i < n → n - 1 - i < 88 → get_or s (j * 88 + (n - 1 - i)) 0 ≡ get_or (pile (span 88 s j) n) i 0
-  entry-there h l = sym (pile_at (span 88 s j) n i h ∙ rw (lt-ltb (n - 1 - i) 88 l))
+  pub entry_there : i < n → n - 1 - i < 88 → get_or s (j * 88 + (n - 1 - i)) 0 ≡ get_or (pile (span 88 s j) n) i 0
+  entry_there h l = sym (pile_at (span 88 s j) n i h ∙ rw (lt-ltb (n - 1 - i) 88 l))
 
-  pub entry-far : i < n → 88 ≤ n - 1 - i → 0 ≡ get_or (pile (span 88 s j) n) i 0
-  entry-far h l = sym (pile_at (span 88 s j) n i h ∙ rw (le-ltb (n - 1 - i) 88 l))
+  pub entry_far : i < n → 88 ≤ n - 1 - i → 0 ≡ get_or (pile (span 88 s j) n) i 0
+  entry_far h l = sym (pile_at (span 88 s j) n i h ∙ rw (le-ltb (n - 1 - i) 88 l))
 
-  pub entry-none : n ≤ i → 0 ≡ get_or (pile (span 88 s j) n) i 0
-  entry-none h = sym (pile_past (span 88 s j) n i h)
+  pub entry_none : n ≤ i → 0 ≡ get_or (pile (span 88 s j) n) i 0
+  entry_none h = sym (pile_past (span 88 s j) n i h)
 
-pub ruleset entry_cases = (entry-there, entry-far, entry-none)
+pub ruleset entry_cases = (entry_there, entry_far, entry_none)
 
 -- one entry more, and none
 padded_suc : (i : ℕ) (l : List ℕ) → padded i l ++ get_or l i 0 ∷ [] ≡ padded (suc i) l
@@ -64,67 +64,67 @@ padded_none zero = refl
 padded_none (suc k) = ap (λ (y : List ℕ). 0 ∷ y) (padded_none k)
 
 module _ (p : Page) (l : List ℕ) where
-  pub stack-start : p ≡ put_all p (padded 0 l)
+  pub stack_start : p ≡ put_all p (padded 0 l)
   unfolding padded put_all
-  stack-start = refl
+  stack_start = refl
 
-  pub stack-more : (i : ℕ) {x : ℕ} {q r : Page} → q ≡ put_all p (padded i l) → x ≡ get_or l i 0 → r ≡ put q x → r ≡ put_all p (padded (i + 1) l)
-  stack-more i {x} e f g = ended p (padded i l) x e g ∙ rw (f, add-one i) (ap (put_all p) (padded_suc i l))
+  pub stack_more : (i : ℕ) {x : ℕ} {q r : Page} → q ≡ put_all p (padded i l) → x ≡ get_or l i 0 → r ≡ put q x → r ≡ put_all p (padded (i + 1) l)
+  stack_more i {x} e f g = ended p (padded i l) x e g ∙ rw (f, add-one i) (ap (put_all p) (padded_suc i l))
 
-  pub stack-done : (i : ℕ) {c : Bool} {q : Page} → c ≡ true → i ≤ 86 → 86 ≤ i → q ≡ put_all p (padded i l) → q ≡ put_all p (padded 86 (kept c l))
+  pub stack_done : (i : ℕ) {c : Bool} {q : Page} → c ≡ true → i ≤ 86 → 86 ≤ i → q ≡ put_all p (padded i l) → q ≡ put_all p (padded 86 (kept c l))
   unfolding ite
-  stack-done i h m k e = e ∙ rw h (ap (λ (y : ℕ). put_all p (padded y l)) (omega arith))
+  stack_done i h m k e = e ∙ rw h (ap (λ (y : ℕ). put_all p (padded y l)) (omega arith))
 
-  pub stack-hidden : {c : Bool} {q : Page} → c ≡ false → q ≡ put_all p (zeros 86) → q ≡ put_all p (padded 86 (kept c l))
+  pub stack_hidden : {c : Bool} {q : Page} → c ≡ false → q ≡ put_all p (zeros 86) → q ≡ put_all p (padded 86 (kept c l))
   unfolding ite
-  stack-hidden h e = e ∙ rw h (ap (put_all p) (padded_none 86))
+  stack_hidden h e = e ∙ rw h (ap (put_all p) (padded_none 86))
 
 -- ---- numbers
 
 module _ (p : Page) (n : ℕ) {c : Bool} {q : Page} where
-  pub length-shown : c ≡ true → q ≡ put_all p (bytes_of 1 n) → q ≡ put_all p (bytes_of 1 (ite c n 0))
+  pub length_shown : c ≡ true → q ≡ put_all p (bytes_of 1 n) → q ≡ put_all p (bytes_of 1 (ite c n 0))
   unfolding ite
-  length-shown h e = e ∙ rw h
+  length_shown h e = e ∙ rw h
 
-  pub length-hidden : c ≡ false → q ≡ put_all p (bytes_of 1 0) → q ≡ put_all p (bytes_of 1 (ite c n 0))
+  pub length_hidden : c ≡ false → q ≡ put_all p (bytes_of 1 0) → q ≡ put_all p (bytes_of 1 (ite c n 0))
   unfolding ite
-  length-hidden h e = e ∙ rw h
+  length_hidden h e = e ∙ rw h
 
-pub ruleset length_cases = (length-shown, length-hidden)
+pub ruleset length_cases = (length_shown, length_hidden)
 
 module _ (r : List ℕ) (j : ℕ) where
-  pub store-none : get_or r (j * 8 + 2) 0 ≡ 0 → Nil ≡ link_of (span 8 r j 2) (span 8 r j 3)
-  store-none e = rw e
+  pub store_none : get_or r (j * 8 + 2) 0 ≡ 0 → Nil ≡ link_of (span 8 r j 2) (span 8 r j 3)
+  store_none e = rw e
 
-  pub store-some : (get_or r (j * 8 + 2) 0 ≡ 0 → ⊥) → To (get_or r (j * 8 + 3) 0) ≡ link_of (span 8 r j 2) (span 8 r j 3)
-  store-some h = by (get_or r (j * 8 + 2) 0) h
+  pub store_some : (get_or r (j * 8 + 2) 0 ≡ 0 → ⊥) → To (get_or r (j * 8 + 3) 0) ≡ link_of (span 8 r j 2) (span 8 r j 3)
+  store_some h = by (get_or r (j * 8 + 2) 0) h
     where
       by : (k : ℕ) → (k ≡ 0 → ⊥) → To (get_or r (j * 8 + 3) 0) ≡ link_of k (get_or r (j * 8 + 3) 0)
       by zero h = absurd (h refl)
       by (suc k) h = refl
 
-  pub begun-none : (p : ℕ) {c : Bool} → c ≡ has_done p → c ≡ false → 0 ≡ begun_of p (span 8 r j)
+  pub begun_none : (p : ℕ) {c : Bool} → c ≡ has_done p → c ≡ false → 0 ≡ begun_of p (span 8 r j)
   unfolding ite
-  begun-none p d h = rw (← d, h)
+  begun_none p d h = rw (← d, h)
 
-  pub begun-told : (p : ℕ) {c : Bool} {k : ℕ} → c ≡ has_done p → c ≡ true → k ≡ flag (not (eqb (get_or r (j * 8 + 7) 0) 0)) → k ≡ begun_of p (span 8 r j)
+  pub begun_told : (p : ℕ) {c : Bool} {k : ℕ} → c ≡ has_done p → c ≡ true → k ≡ flag (not (eqb (get_or r (j * 8 + 7) 0) 0)) → k ≡ begun_of p (span 8 r j)
   unfolding ite
-  begun-told p d h e = e ∙ rw (← d, h)
+  begun_told p d h e = e ∙ rw (← d, h)
 
-pub ruleset store_cases = (store-none, store-some)
+pub ruleset store_cases = (store_none, store_some)
 
-pub ruleset begun_cases = (begun-none, begun-told)
+pub ruleset begun_cases = (begun_none, begun_told)
 
 module _ (v : List ℕ) (j p : ℕ) where
   pub done_none : {c : Bool} → c ≡ has_done p → c ≡ false → 0 ≡ done_of p (span 4 v j)
   unfolding ite
   done_none d h = rw (← d, h)
 
-  pub done-told : {c : Bool} → c ≡ has_done p → c ≡ true → get_or v (j * 4 + 0) 0 ≡ done_of p (span 4 v j)
+  pub done_told : {c : Bool} → c ≡ has_done p → c ≡ true → get_or v (j * 4 + 0) 0 ≡ done_of p (span 4 v j)
   unfolding ite
-  done-told d h = rw (← d, h)
+  done_told d h = rw (← d, h)
 
-pub ruleset done_cases = (done_none, done-told)
+pub ruleset done_cases = (done_none, done_told)
 
 -- ---- parts
 
@@ -182,14 +182,14 @@ frame_put P p s b r v j {f} {g} d e k l m n o =
 -- ---- the frames of thread t
 
 module _ (P : Page) (h : ℕ → Frame) (t w : ℕ) where
-  pub top-none : (d : ℕ) {q : Page} → d ≡ 0 → q ≡ put_all P (zeros 196) → q ≡ put_all P (top_bytes w (frames_of h t d))
-  top-none d z e = e ∙ rw z
+  pub top_none : (d : ℕ) {q : Page} → d ≡ 0 → q ≡ put_all P (zeros 196) → q ≡ put_all P (top_bytes w (frames_of h t d))
+  top_none d z e = e ∙ rw z
 
-  pub top-there : (d : ℕ) {q : Page} → (d ≡ 0 → ⊥) → q ≡ put_all P (frame_bytes w (h (t * 4 + (d - 1)))) → q ≡ put_all P (top_bytes w (frames_of h t d))
-  top-there zero z e = absurd (z refl)
-  top-there (suc d) z e = let one : suc d - 1 ≡ d = omega arith in e ∙ rw one
+  pub top_there : (d : ℕ) {q : Page} → (d ≡ 0 → ⊥) → q ≡ put_all P (frame_bytes w (h (t * 4 + (d - 1)))) → q ≡ put_all P (top_bytes w (frames_of h t d))
+  top_there zero z e = absurd (z refl)
+  top_there (suc d) z e = let one : suc d - 1 ≡ d = omega arith in e ∙ rw one
 
-pub ruleset top_cases = (top-none, top-there)
+pub ruleset top_cases = (top_none, top_there)
 
 -- what is left to write on a page is what was left to write before the frame on top; k of the four are written, w is the place
 after_top : (k w : ℕ) (h : ℕ → Frame) (t d : ℕ) → top_bytes w (frames_of h t d) ++ frames_bytes k 0 (frames_of h t (d - 1)) ≡ frames_bytes (suc k) w (frames_of h t d)
@@ -198,9 +198,9 @@ after_top k w h t zero = refl
 after_top k w h t (suc d) = let one : suc d - 1 ≡ d = omega arith in rw one
 
 module _ (h : ℕ → Frame) (t k w d : ℕ) where
-  pub frames-more : (P : Page) {e : ℕ} {q r : Page} → k < 4 → e ≡ d - 1 → q ≡ put_all P (top_bytes w (frames_of h t d)) → put_all P (frames_bytes (4 - k) w (frames_of h t d)) ≡ r
+  pub frames_more : (P : Page) {e : ℕ} {q r : Page} → k < 4 → e ≡ d - 1 → q ≡ put_all P (top_bytes w (frames_of h t d)) → put_all P (frames_bytes (4 - k) w (frames_of h t d)) ≡ r
       → put_all q (frames_bytes (4 - (k + 1)) 0 (frames_of h t e)) ≡ r
-  frames-more P l f g i =
+  frames_more P l f g i =
       let one : 4 - k ≡ suc (4 - (k + 1)) = omega arith in
       rw (f, g) (sym (put_all_append P (top_bytes w (frames_of h t d)) (frames_bytes (4 - (k + 1)) 0 (frames_of h t (d - 1))))
       ∙ (ap (put_all P) (after_top (4 - (k + 1)) w h t d) ∙ (ap (λ (m : ℕ). put_all P (frames_bytes m w (frames_of h t d))) (sym one) ∙ i)))

@@ -21,9 +21,9 @@ use Rattle.snapshot.proofs.Pages.{begun, three, four, four_then}
 -- ---- numbers
 
 module _ (n : Notes) where
-  pub number-idle : n.place ≡ 0 → 0 ≡ number_of (thread n [])
+  pub number_idle : n.place ≡ 0 → 0 ≡ number_of (thread n [])
   unfolding ite
-  number-idle e = rw (eq-eqb _ _ e)
+  number_idle e = rw (eq-eqb _ _ e)
 
   pub number_busy : {r : ℕ} → (n.place ≡ 0 → ⊥) → r ≡ action_number n.action → r ≡ number_of (thread n [])
   unfolding ite
@@ -49,39 +49,39 @@ module _ (n : Notes) where
   unfolding ite
   side_right e h d = rw (← e, h, d)
 
-  pub side-none : {r : Bool} → r ≡ has_side n.place → r ≡ false → 0 ≡ side_of (thread n [])
+  pub side_none : {r : Bool} → r ≡ has_side n.place → r ≡ false → 0 ≡ side_of (thread n [])
   unfolding ite
-  side-none e h = rw (← e, h)
+  side_none e h = rw (← e, h)
 
-  pub own-told : {r : Bool} {k : ℕ} → r ≡ has_main n.place → r ≡ true → k ≡ flag n.owner → k ≡ own_of (thread n [])
+  pub own_told : {r : Bool} {k : ℕ} → r ≡ has_main n.place → r ≡ true → k ≡ flag n.owner → k ≡ own_of (thread n [])
   unfolding ite
-  own-told e h d = d ∙ rw (← e, h)
+  own_told e h d = d ∙ rw (← e, h)
 
-  pub own-none : {r : Bool} → r ≡ has_main n.place → r ≡ false → 0 ≡ own_of (thread n [])
+  pub own_none : {r : Bool} → r ≡ has_main n.place → r ≡ false → 0 ≡ own_of (thread n [])
   unfolding ite
-  own-none e h = rw (← e, h)
+  own_none e h = rw (← e, h)
 
 -- ---- parts
 
 module _ (p : Page) (n : Notes) where
-  pub operation-put : {k : ℕ} {q r s : Page} → k ≡ number_of (thread n []) → q ≡ put_all p (n.place ∷ k ∷ []) → r ≡ put q n.station
+  pub operation_put : {k : ℕ} {q r s : Page} → k ≡ number_of (thread n []) → q ≡ put_all p (n.place ∷ k ∷ []) → r ≡ put q n.station
       → s ≡ put_all r (bytes_of 2 n.extra) → s ≡ put_all p (operation (thread n []))
-  operation-put {k} e f g h = joined p (n.place ∷ k ∷ []) (n.station ∷ bytes_of 2 n.extra) f (begun _ n.station (bytes_of 2 n.extra) g h) ∙ rw e
+  operation_put {k} e f g h = joined p (n.place ∷ k ∷ []) (n.station ∷ bytes_of 2 n.extra) f (begun _ n.station (bytes_of 2 n.extra) g h) ∙ rw e
 
-  pub flags-put : {a b c : ℕ} {q r : Page} → a ≡ read_of (thread n []) → b ≡ side_of (thread n []) → c ≡ own_of (thread n [])
+  pub flags_put : {a b c : ℕ} {q r : Page} → a ≡ read_of (thread n []) → b ≡ side_of (thread n []) → c ≡ own_of (thread n [])
       → q ≡ put_all p (a ∷ b ∷ []) → r ≡ put q c → r ≡ put_all p (flags (thread n []))
-  flags-put {a} {b} {c} e f g h w = ended p (a ∷ b ∷ []) c h w ∙ rw (e, f, g)
+  flags_put {a} {b} {c} e f g h w = ended p (a ∷ b ∷ []) c h w ∙ rw (e, f, g)
 
-  pub early-put : {a b c d : Bool} {q r s t : Page} → a ≡ has_route n.place → b ≡ has_base n.place → c ≡ has_parent n.place → d ≡ has_found n.place
+  pub early_put : {a b c d : Bool} {q r s t : Page} → a ≡ has_route n.place → b ≡ has_base n.place → c ≡ has_parent n.place → d ≡ has_found n.place
       → q ≡ put_all p (noted a (To n.route)) → r ≡ put_all q (noted b (To n.base)) → s ≡ put_all r (noted c (To n.parent))
       → t ≡ put_all s (noted d (To n.found)) → t ≡ put_all p (early (thread n []))
-  early-put {a} {b} {c} {d} e f g h i j k l =
+  early_put {a} {b} {c} {d} e f g h i j k l =
       four p (noted a (To n.route)) (noted b (To n.base)) (noted c (To n.parent)) (noted d (To n.found)) i j k l ∙ rw (e, f, g, h)
 
-  pub late-put : {a b c : Bool} {q r s t : Page} → a ≡ has_neighbour n.place → b ≡ has_main n.place → c ≡ has_grandparent n.place
+  pub late_put : {a b c : Bool} {q r s t : Page} → a ≡ has_neighbour n.place → b ≡ has_main n.place → c ≡ has_grandparent n.place
       → q ≡ put_all p (noted a (To n.neighbour)) → r ≡ put_all q (noted b (To n.main)) → s ≡ put_all r (noted c n.grandparent)
       → t ≡ put_all s (noted (eqb n.place 35) (To n.other)) → t ≡ put_all p (late (thread n []))
-  late-put {a} {b} {c} e f g i j k l =
+  late_put {a} {b} {c} e f g i j k l =
       four p (noted a (To n.neighbour)) (noted b (To n.main)) (noted c n.grandparent) (noted (eqb n.place 35) (To n.other)) i j k l ∙ rw (e, f, g)
 
 -- ---- the whole
@@ -124,10 +124,10 @@ pub head_notes : (k : ℕ) (n : Notes) (fs : List Frame) → thread_head k (thre
 unfolding thread_head
 head_notes k n fs = refl
 
-pub ruleset number_cases = (number-idle, number_busy)
+pub ruleset number_cases = (number_idle, number_busy)
 
 pub ruleset read_cases = (read_few, read_many, read_none)
 
-pub ruleset side_cases = (side_left, side_right, side-none)
+pub ruleset side_cases = (side_left, side_right, side_none)
 
-pub ruleset own_cases = (own-told, own-none)
+pub ruleset own_cases = (own_told, own_none)

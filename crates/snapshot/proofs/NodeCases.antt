@@ -31,25 +31,25 @@ use Rattle.snapshot.proofs.Pages.{begun}
 -- ---- the fields of the node n
 
 module _ (p : Page) (n : Node) where
-  pub union-put : {a b c : Page} → a ≡ put_all p (1 ∷ n.union ∷ 1 ∷ n.neighbour ∷ []) → b ≡ put_all a (link_bytes n.grandparent) → c ≡ put_all b (1 ∷ n.other ∷ [])
+  pub union_put : {a b c : Page} → a ≡ put_all p (1 ∷ n.union ∷ 1 ∷ n.neighbour ∷ []) → b ≡ put_all a (link_bytes n.grandparent) → c ≡ put_all b (1 ∷ n.other ∷ [])
       → c ≡ put_all p (agreed_bytes Completing (plain n))
-  union-put e f g = joined p (1 ∷ n.union ∷ 1 ∷ n.neighbour ∷ []) (link_bytes n.grandparent ++ 1 ∷ n.other ∷ []) e (joined _ (link_bytes n.grandparent) (1 ∷ n.other ∷ []) f g)
+  union_put e f g = joined p (1 ∷ n.union ∷ 1 ∷ n.neighbour ∷ []) (link_bytes n.grandparent ++ 1 ∷ n.other ∷ []) e (joined _ (link_bytes n.grandparent) (1 ∷ n.other ∷ []) f g)
 
-  pub agreed-preparing : {a : Page} → n.stage ≡ Preparing → a ≡ put_all p (zeros 8) → a ≡ put_all p (agreed_bytes n.stage (plain n))
-  agreed-preparing h e = rw h e
+  pub agreed_preparing : {a : Page} → n.stage ≡ Preparing → a ≡ put_all p (zeros 8) → a ≡ put_all p (agreed_bytes n.stage (plain n))
+  agreed_preparing h e = rw h e
 
-  pub agreed-completing : {a : Page} → n.stage ≡ Completing → a ≡ put_all p (agreed_bytes Completing (plain n)) → a ≡ put_all p (agreed_bytes n.stage (plain n))
-  agreed-completing h e = rw h e
+  pub agreed_completing : {a : Page} → n.stage ≡ Completing → a ≡ put_all p (agreed_bytes Completing (plain n)) → a ≡ put_all p (agreed_bytes n.stage (plain n))
+  agreed_completing h e = rw h e
 
-  pub agreed-aborted : {a : Page} → n.stage ≡ Aborted → a ≡ put_all p (zeros 8) → a ≡ put_all p (agreed_bytes n.stage (plain n))
-  agreed-aborted h e = rw h e
+  pub agreed_aborted : {a : Page} → n.stage ≡ Aborted → a ≡ put_all p (zeros 8) → a ≡ put_all p (agreed_bytes n.stage (plain n))
+  agreed_aborted h e = rw h e
 
-  pub agreed-done : {a : Page} → n.stage ≡ Done → a ≡ put_all p (agreed_bytes Completing (plain n)) → a ≡ put_all p (agreed_bytes n.stage (plain n))
-  agreed-done h e = rw h e
+  pub agreed_done : {a : Page} → n.stage ≡ Done → a ≡ put_all p (agreed_bytes Completing (plain n)) → a ≡ put_all p (agreed_bytes n.stage (plain n))
+  agreed_done h e = rw h e
 
-  pub main-put : {k : ℕ} {a b c : Page} → k ≡ stage_number n.stage → a ≡ put_all p (k ∷ 0 ∷ []) → b ≡ put_all a (agreed_bytes n.stage (plain n)) → c ≡ put_all b (zeros 6)
+  pub main_put : {k : ℕ} {a b c : Page} → k ≡ stage_number n.stage → a ≡ put_all p (k ∷ 0 ∷ []) → b ≡ put_all a (agreed_bytes n.stage (plain n)) → c ≡ put_all b (zeros 6)
       → c ≡ put_all p (own_bytes Main (plain n))
-  main-put {k} s e f g = joined p (k ∷ 0 ∷ []) (agreed_bytes n.stage (plain n) ++ zeros 6) e (joined _ (agreed_bytes n.stage (plain n)) (zeros 6) f g) ∙ rw s
+  main_put {k} s e f g = joined p (k ∷ 0 ∷ []) (agreed_bytes n.stage (plain n) ++ zeros 6) e (joined _ (agreed_bytes n.stage (plain n)) (zeros 6) f g) ∙ rw s
 
   pub base_put : {a b c : Page} → a ≡ put_all p (zeros 6) → b ≡ put_all a (link_bytes n.parent) → c ≡ put_all b (bytes_of 8 n.container) → c ≡ put_all p (based n)
   base_put e f g = joined p (zeros 6) (link_bytes n.parent ++ bytes_of 8 n.container) e (joined _ (link_bytes n.parent) (bytes_of 8 n.container) f g)
@@ -62,22 +62,22 @@ module _ (p : Page) (n : Node) where
   of_kind : (k : Kind) {b : Page} → n.kind ≡ k → b ≡ put_all p (route_bytes k (plain n) ++ (base_bytes k (plain n) ++ own_bytes k (plain n))) → b ≡ put_all p (field_bytes (plain n))
   of_kind k h e = e ∙ ap (λ (j : Kind). put_all p (route_bytes j (plain n) ++ (base_bytes j (plain n) ++ own_bytes j (plain n)))) (sym h)
 
-  pub fields-normal : {a b : Page} → n.kind ≡ Normal → a ≡ put_all p (based n) → b ≡ put_all a (zeros 16) → b ≡ put_all p (field_bytes (plain n))
-  fields-normal h e f = of_kind Normal h (base_with_lem (zeros 16) e f)
+  pub fields_normal : {a b : Page} → n.kind ≡ Normal → a ≡ put_all p (based n) → b ≡ put_all a (zeros 16) → b ≡ put_all p (field_bytes (plain n))
+  fields_normal h e f = of_kind Normal h (base_with_lem (zeros 16) e f)
 
-  pub fields-route : {v : ℕ} {a b c : Page} → n.kind ≡ Route → v ≡ flag n.valid → a ≡ put_all p (n.key ∷ n.left ∷ n.right ∷ v ∷ []) → b ≡ put_all a (link_bytes n.mark)
+  pub fields_route : {v : ℕ} {a b c : Page} → n.kind ≡ Route → v ≡ flag n.valid → a ≡ put_all p (n.key ∷ n.left ∷ n.right ∷ v ∷ []) → b ≡ put_all a (link_bytes n.mark)
       → c ≡ put_all b (zeros 26) → c ≡ put_all p (field_bytes (plain n))
-  fields-route {v} h i e f g = of_kind Route h (rw (← i) (joined p (n.key ∷ n.left ∷ n.right ∷ v ∷ []) (link_bytes n.mark ++ zeros 26) e (joined _ (link_bytes n.mark) (zeros 26) f g)))
+  fields_route {v} h i e f g = of_kind Route h (rw (← i) (joined p (n.key ∷ n.left ∷ n.right ∷ v ∷ []) (link_bytes n.mark ++ zeros 26) e (joined _ (link_bytes n.mark) (zeros 26) f g)))
 
-  pub fields-main : {a b : Page} → n.kind ≡ Main → a ≡ put_all p (based n) → b ≡ put_all a (own_bytes Main (plain n)) → b ≡ put_all p (field_bytes (plain n))
-  fields-main h e f = of_kind Main h (base_with_lem (own_bytes Main (plain n)) e f)
+  pub fields_main : {a b : Page} → n.kind ≡ Main → a ≡ put_all p (based n) → b ≡ put_all a (own_bytes Main (plain n)) → b ≡ put_all p (field_bytes (plain n))
+  fields_main h e f = of_kind Main h (base_with_lem (own_bytes Main (plain n)) e f)
 
-  pub fields-neighbour : {a b c d : Page} → n.kind ≡ Neighbour → a ≡ put_all p (based n) → b ≡ put_all a (zeros 10) → c ≡ put_all b (1 ∷ n.main ∷ []) → d ≡ put_all c (zeros 4)
+  pub fields_neighbour : {a b c d : Page} → n.kind ≡ Neighbour → a ≡ put_all p (based n) → b ≡ put_all a (zeros 10) → c ≡ put_all b (1 ∷ n.main ∷ []) → d ≡ put_all c (zeros 4)
       → d ≡ put_all p (field_bytes (plain n))
-  fields-neighbour h e f g i = of_kind Neighbour h (base_with_lem (zeros 10 ++ 1 ∷ n.main ∷ zeros 4) e (joined _ (zeros 10) (1 ∷ n.main ∷ zeros 4) f (joined _ (1 ∷ n.main ∷ []) (zeros 4) g i)))
+  fields_neighbour h e f g i = of_kind Neighbour h (base_with_lem (zeros 10 ++ 1 ∷ n.main ∷ zeros 4) e (joined _ (zeros 10) (1 ∷ n.main ∷ zeros 4) f (joined _ (1 ∷ n.main ∷ []) (zeros 4) g i)))
 
-  pub fields-range : {a b c : Page} → n.kind ≡ Range → a ≡ put_all p (based n) → b ≡ put_all a (zeros 12) → c ≡ put_all b (n.lower ∷ n.upper ∷ 1 ∷ n.store ∷ []) → c ≡ put_all p (field_bytes (plain n))
-  fields-range h e f g = of_kind Range h (base_with_lem (zeros 12 ++ n.lower ∷ n.upper ∷ 1 ∷ n.store ∷ []) e (joined _ (zeros 12) (n.lower ∷ n.upper ∷ 1 ∷ n.store ∷ []) f g))
+  pub fields_range : {a b c : Page} → n.kind ≡ Range → a ≡ put_all p (based n) → b ≡ put_all a (zeros 12) → c ≡ put_all b (n.lower ∷ n.upper ∷ 1 ∷ n.store ∷ []) → c ≡ put_all p (field_bytes (plain n))
+  fields_range h e f g = of_kind Range h (base_with_lem (zeros 12 ++ n.lower ∷ n.upper ∷ 1 ∷ n.store ∷ []) e (joined _ (zeros 12) (n.lower ∷ n.upper ∷ 1 ∷ n.store ∷ []) f g))
 
 -- ---- depths, in version v: those of the container with the set c
 
@@ -102,27 +102,27 @@ next_there s c {rest} {low} l i j h =
     sym (from_in s c low (next_past s c l i j)) ∙ (ap (λ (x : ℕ). has x low) (sym i) ∙ (ap (has rest) j ∙ least_has rest (omega arith)))
 
 module _ (p : Page) (v c : ℕ) (d : ℕ → ℕ) where
-  pub depths-flat : {q : Page} → v ≡ 1 → q ≡ put_all p (zeros 128) → q ≡ put_all p (each (depth_bytes (v ∷ []) (container c d)) 64)
+  pub depths_flat : {q : Page} → v ≡ 1 → q ≡ put_all p (zeros 128) → q ≡ put_all p (each (depth_bytes (v ∷ []) (container c d)) 64)
   unfolding bytes_of ite
-  depths-flat h e = e ∙ ap (put_all p) (none_deep _ (λ s. rw h))
+  depths_flat h e = e ∙ ap (put_all p) (none_deep _ (λ s. rw h))
 
-  pub depths-empty : {q : Page} → c ≡ 0 → q ≡ put_all p (zeros 128) → q ≡ put_all p (each (depth_bytes (v ∷ []) (container c d)) 64)
+  pub depths_empty : {q : Page} → c ≡ 0 → q ≡ put_all p (zeros 128) → q ≡ put_all p (each (depth_bytes (v ∷ []) (container c d)) 64)
   unfolding bytes_of ite
-  depths-empty h e = e ∙ ap (put_all p) (none_deep _ (λ s. rw (h, find_none d s) (by (eqb v 1))))
+  depths_empty h e = e ∙ ap (put_all p) (none_deep _ (λ s. rw (h, find_none d s) (by (eqb v 1))))
     where
       by : (b : Bool) → bytes_of 2 (ite b 0 0) ≡ 0 ∷ 0 ∷ []
       by true = refl
       by false = refl
 
-  pub depths-start : p ≡ put_all p (each (depth_bytes (v ∷ []) (container c d)) 0)
+  pub depths_start : p ≡ put_all p (each (depth_bytes (v ∷ []) (container c d)) 0)
   unfolding each put_all
-  depths-start = refl
+  depths_start = refl
 
-  pub depths-there : (s : ℕ) {t : Bool} {y : ℕ} {q r : Page} → (v ≡ 1 → ⊥) → t ≡ has c s → t ≡ true → y ≡ d s → q ≡ put_all p (each (depth_bytes (v ∷ []) (container c d)) s)
+  pub depths_there : (s : ℕ) {t : Bool} {y : ℕ} {q r : Page} → (v ≡ 1 → ⊥) → t ≡ has c s → t ≡ true → y ≡ d s → q ≡ put_all p (each (depth_bytes (v ∷ []) (container c d)) s)
       → r ≡ put_all q (bytes_of 2 y)
       → r ≡ put_all p (each (depth_bytes (v ∷ []) (container c d)) (s + 1))
   unfolding each find ite
-  depths-there s {y = y} n h i j e f = rw (add-one s) (joined p (each (depth_bytes (v ∷ []) (container c d)) s) (bytes_of 2 y) e f ∙ rw (ne_eqb v 1 n, ← h, i, j))
+  depths_there s {y = y} n h i j e f = rw (add-one s) (joined p (each (depth_bytes (v ∷ []) (container c d)) s) (bytes_of 2 y) e f ∙ rw (ne_eqb v 1 n, ← h, i, j))
 
   depths_absent : (s : ℕ) {q r : Page} → (v ≡ 1 → ⊥) → has c s ≡ false → q ≡ put_all p (each (depth_bytes (v ∷ []) (container c d)) s) → r ≡ put_all q (0 ∷ 0 ∷ [])
       → r ≡ put_all p (each (depth_bytes (v ∷ []) (container c d)) (s + 1))
@@ -142,16 +142,16 @@ module _ (p : Page) (v c : ℕ) (d : ℕ → ℕ) where
       rw past (depths_skipped k (s + 1) n (λ j a b. h j (omega arith) (omega arith)) (depths_absent s n (h s (omega arith) (omega arith)) e refl) g)
 
   -- up to the next station that is there, or to the end
-  pub depths-next : (s : ℕ) {rest low : ℕ} {q r : Page} → (v ≡ 1 → ⊥) → s < 64 → rest ≡ from s c → low ≡ least rest → q ≡ put_all p (each (depth_bytes (v ∷ []) (container c d)) s)
+  pub depths_next : (s : ℕ) {rest low : ℕ} {q r : Page} → (v ≡ 1 → ⊥) → s < 64 → rest ≡ from s c → low ≡ least rest → q ≡ put_all p (each (depth_bytes (v ∷ []) (container c d)) s)
       → r ≡ put_all q (zeros (2 * (low - s)))
       → r ≡ put_all p (each (depth_bytes (v ∷ []) (container c d)) low)
-  depths-next s {rest} {low} n l i j e f =
+  depths_next s {rest} {low} n l i j e f =
       let past : s ≤ low = next_past s c l i j in
       let up : s + (low - s) ≡ low = omega arith in
       rw (← up) (depths_skipped (low - s) s n (λ k a b. sym (from_in s c k a) ∙ ap (λ (x : ℕ). has x k) (sym i) ∙ least_none rest k (omega arith)) e f)
 
-  pub depths-done : (s : ℕ) {q : Page} → s ≤ 64 → 64 ≤ s → q ≡ put_all p (each (depth_bytes (v ∷ []) (container c d)) s) → q ≡ put_all p (each (depth_bytes (v ∷ []) (container c d)) 64)
-  depths-done s l m e = let same : s ≡ 64 = omega arith in e ∙ ap (λ (k : ℕ). put_all p (each (depth_bytes (v ∷ []) (container c d)) k)) same
+  pub depths_done : (s : ℕ) {q : Page} → s ≤ 64 → 64 ≤ s → q ≡ put_all p (each (depth_bytes (v ∷ []) (container c d)) s) → q ≡ put_all p (each (depth_bytes (v ∷ []) (container c d)) 64)
+  depths_done s l m e = let same : s ≡ 64 = omega arith in e ∙ ap (λ (k : ℕ). put_all p (each (depth_bytes (v ∷ []) (container c d)) k)) same
 
 -- ---- the whole node
 
@@ -211,24 +211,24 @@ unfolding ite
 holding_base n e h = rw (← e, h)
 
 pub ruleset node_cases = (
-  union-put,
-  agreed-preparing,
-  agreed-completing,
-  agreed-aborted,
-  agreed-done,
-  main-put,
+  union_put,
+  agreed_preparing,
+  agreed_completing,
+  agreed_aborted,
+  agreed_done,
+  main_put,
   base_put,
-  fields-normal,
-  fields-route,
-  fields-main,
-  fields-neighbour,
-  fields-range,
-  depths-flat,
-  depths-empty,
-  depths-start,
-  depths-there,
-  depths-next,
-  depths-done,
+  fields_normal,
+  fields_route,
+  fields_main,
+  fields_neighbour,
+  fields_range,
+  depths_flat,
+  depths_empty,
+  depths_start,
+  depths_there,
+  depths_next,
+  depths_done,
   node_put,
   holding_route,
   holding_base,

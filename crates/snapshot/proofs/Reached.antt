@@ -11,9 +11,9 @@ use Rattle.definitions.specs.declared.Shared.TheVariants.{Set}
 use Rattle.snapshot.specs.Layout.{reached_below}
 
 module _ (k : ℕ) (t : Shapes) (x range : ℕ) (w : Stores) where
-  pub reached-end : {v : Stores} → k ≡ 0 → v ≡ upd w x (Set range) → v ≡ reached_below k t x range w
+  pub reached_end : {v : Stores} → k ≡ 0 → v ≡ upd w x (Set range) → v ≡ reached_below k t x range w
   unfolding reached_below
-  reached-end z e = e ∙ rw z
+  reached_end z e = e ∙ rw z
 
 pub reached_base : (k : ℕ) (t : Shapes) (x range : ℕ) (w : Stores) {n : Node} {c : Bool} {v : Stores} → (k ≡ 0 → ⊥) → v ≡ upd w x (Set range)
     → n ≡ t x → c ≡ is_route n.kind → c ≡ false → v ≡ reached_below k t x range w
@@ -28,4 +28,4 @@ unfolding reached_below ite
 reached_route zero t x range w z e f g h i j p q = absurd (z refl)
 reached_route (suc k) t x range w z e f g h i j p q = q ∙ rw (p, e, i, j, sub-one (suc k), ← f, ← g, h)
 
-pub ruleset reached_cases = (reached-end, reached_base, reached_route)
+pub ruleset reached_cases = (reached_end, reached_base, reached_route)

@@ -15,7 +15,7 @@ use Rattle.definitions.specs.Schedule.{count_of, file_refusal}
 use Rattle.definitions.specs.Run.{Progress, after, ended, overlay}
 use Rattle.run.proofs.Room.{has_room}
 use Rattle.writer.specs.Part.{part}
-use Rattle.writer.proofs.First.{head, count, part-fine, same, made}
+use Rattle.writer.proofs.First.{head, count, part_fine, same, made}
 use Rattle.snapshot.specs.Layout.{thread_bytes, node_bytes}
 use Rattle.snapshot.specs.State.{state_head, state_bytes, stated_at, state_refusal, state_report, state_buffer}
 use Rattle.snapshot.specs.declared.Stated.{Stated}
@@ -36,8 +36,8 @@ module _ (file : List ℕ) (k : ℕ) (z : file_refusal file ≡ 0) (l : k ≤ co
   is_part : copied ≡ part file k
   is_part = made file k z l out e h
 
-  pub part-proper : Proper copied
-  part-proper = subst Proper (sym is_part) (proper (part file k) (part-fine file k z l))
+  pub part_proper : Proper copied
+  part_proper = subst Proper (sym is_part) (proper (part file k) (part_fine file k z l))
 
   part_ended : ended (part file k) ≡ after file k
   part_ended = ap (after (part file k)) (count file k z l) ∙ same file k z l
@@ -70,28 +70,28 @@ unfolding state_refusal
 room_for file n = has_room (file_refusal file) n 48912 25 (λ z. omega arith)
 
 module _ (file first : List ℕ) (k : ℕ) {bad : ℕ} (e : bad ≡ state_refusal file (length first)) where
-  pub refused-report : (bad ≡ 0 → ⊥) → record { refusal = bad; records = 0; length = 0 } ≡ state_report file k (length first)
+  pub refused_report_lem : (bad ≡ 0 → ⊥) → record { refusal = bad; records = 0; length = 0 } ≡ state_report file k (length first)
   unfolding state_report ite
-  refused-report z = rw (← e, ne_eqb _ _ z)
+  refused_report_lem z = rw (← e, ne_eqb _ _ z)
 
-  pub refused-buffer : (bad ≡ 0 → ⊥) → first ≡ state_buffer file k first
+  pub refused_buffer : (bad ≡ 0 → ⊥) → first ≡ state_buffer file k first
   unfolding state_buffer ite
-  refused-buffer z = rw (← e, ne_eqb _ _ z)
+  refused_buffer z = rw (← e, ne_eqb _ _ z)
 
   module _ (z : bad ≡ 0) where
     -- fewer records than there are
-    pub some-report : {r : Stated} → k < count_of file → r ≡ stated_at file (after file k) → r ≡ state_report file k (length first)
+    pub some_report : {r : Stated} → k < count_of file → r ≡ stated_at file (after file k) → r ≡ state_report file k (length first)
     unfolding state_report ite
-    some-report l q = rw (← e, eq-eqb _ _ z, lt-ltb _ _ l) q
+    some_report l q = rw (← e, eq-eqb _ _ z, lt-ltb _ _ l) q
 
-    pub some-buffer : {w : List ℕ} → k < count_of file → w ≡ overlay (state_bytes file (after file k)) first → w ≡ state_buffer file k first
+    pub some_buffer : {w : List ℕ} → k < count_of file → w ≡ overlay (state_bytes file (after file k)) first → w ≡ state_buffer file k first
     unfolding state_buffer ite
-    some-buffer l q = rw (← e, eq-eqb _ _ z, lt-ltb _ _ l) q
+    some_buffer l q = rw (← e, eq-eqb _ _ z, lt-ltb _ _ l) q
 
-    pub all-report : {r : Stated} → count_of file ≤ k → r ≡ stated_at file (ended file) → r ≡ state_report file k (length first)
+    pub all_report : {r : Stated} → count_of file ≤ k → r ≡ stated_at file (ended file) → r ≡ state_report file k (length first)
     unfolding state_report ite
-    all-report l q = rw (← e, eq-eqb _ _ z, le-ltb _ _ l) q
+    all_report l q = rw (← e, eq-eqb _ _ z, le-ltb _ _ l) q
 
-    pub all-buffer : {w : List ℕ} → count_of file ≤ k → w ≡ overlay (state_bytes file (ended file)) first → w ≡ state_buffer file k first
+    pub all_buffer : {w : List ℕ} → count_of file ≤ k → w ≡ overlay (state_bytes file (ended file)) first → w ≡ state_buffer file k first
     unfolding state_buffer ite
-    all-buffer l q = rw (← e, eq-eqb _ _ z, le-ltb _ _ l) q
+    all_buffer l q = rw (← e, eq-eqb _ _ z, le-ltb _ _ l) q

@@ -27,7 +27,7 @@ use Rattle.definitions.specs.declared.Shared.TheVariants.{Unset}
 use Rattle.run.specs.declared.Standing.{Standing}
 use Rattle.run.specs.Threads.{none, framed, threads_of}
 use Rattle.run.proofs.Threads.{within, framed_own, frames_count}
-use Rattle.run.proofs.Room.{by-file, by_room, by-none}
+use Rattle.run.proofs.Room.{by_file, by_room, by_none}
 use Rattle.snapshot.proofs.Pages.{begun, four}
 use Rattle.snapshot.specs.Layout.{zeros, flag, each, shared_bytes, thread_head, frames_bytes, thread_bytes, reached_below, node_bytes}
 use Rattle.snapshot.specs.State.{state_refusal}
@@ -35,17 +35,17 @@ use Rattle.state.specs.Parts.{head_bytes, bench_bytes}
 
 -- ---- the refusal of a file and a buffer
 module _ (file : List ℕ) (room : ℕ) {bad : ℕ} (e : bad ≡ file_refusal file) where
-  pub refusal-file : (bad ≡ 0 → ⊥) → bad ≡ state_refusal file room
+  pub refusal_file : (bad ≡ 0 → ⊥) → bad ≡ state_refusal file room
   unfolding state_refusal
-  refusal-file z = by-file room _ 25 e z
+  refusal_file z = by_file room _ 25 e z
 
-  pub refusal-room : bad ≡ 0 → room < 48912 → 25 ≡ state_refusal file room
+  pub refusal_room : bad ≡ 0 → room < 48912 → 25 ≡ state_refusal file room
   unfolding state_refusal
-  refusal-room z l = by_room room _ 25 e z l
+  refusal_room z l = by_room room _ 25 e z l
 
   pub refusal_none : bad ≡ 0 → 48912 ≤ room → 0 ≡ state_refusal file room
   unfolding state_refusal
-  refusal_none z l = by-none room _ 25 e z l
+  refusal_none z l = by_none room _ 25 e z l
 
 -- ---- the head
 pub stop_on : (v : ℕ) → v ≡ 3 → 1 ≡ flag (eqb v 3)
@@ -81,19 +81,19 @@ module _ (p : Page) (f : ℕ → List ℕ) where
   unfolding each
   each_step k {ys} e g h = rw (add-one k, ← h) (joined p (each f k) ys e g)
 
-  pub each-done : (k n : ℕ) {q : Page} → k ≤ n → n ≤ k → q ≡ put_all p (each f k) → q ≡ put_all p (each f n)
-  each-done k n l m e = let same : k ≡ n = omega arith in e ∙ ap (λ (j : ℕ). put_all p (each f j)) same
+  pub each_done : (k n : ℕ) {q : Page} → k ≤ n → n ≤ k → q ≡ put_all p (each f k) → q ≡ put_all p (each f n)
+  each_done k n l m e = let same : k ≡ n = omega arith in e ∙ ap (λ (j : ℕ). put_all p (each f j)) same
 
 -- ---- a thread: its notes th, its n frames
 module _ (p : Page) (v : ℕ) (th : Notes) (h : ℕ → Frame) (t n : ℕ) where
-  pub thread-flat : {a b : Page} → v ≡ 1 → a ≡ put_all p (thread_head 0 (thread th [])) → b ≡ put_all a (zeros 784) → b ≡ put_all p (thread_bytes (v ∷ []) (thread th (frames_of h t n)))
+  pub thread_flat : {a b : Page} → v ≡ 1 → a ≡ put_all p (thread_head 0 (thread th [])) → b ≡ put_all a (zeros 784) → b ≡ put_all p (thread_bytes (v ∷ []) (thread th (frames_of h t n)))
   unfolding thread_bytes thread_head ite
-  thread-flat e f g = joined p (thread_head 0 (thread th [])) (zeros 784) f g ∙ rw e
+  thread_flat e f g = joined p (thread_head 0 (thread th [])) (zeros 784) f g ∙ rw e
 
-  pub thread-deep : {a b : Page} → (v ≡ 1 → ⊥) → a ≡ put_all p (thread_head n (thread th [])) → b ≡ put_all a (frames_bytes 4 th.place (frames_of h t n))
+  pub thread_deep : {a b : Page} → (v ≡ 1 → ⊥) → a ≡ put_all p (thread_head n (thread th [])) → b ≡ put_all a (frames_bytes 4 th.place (frames_of h t n))
       → b ≡ put_all p (thread_bytes (v ∷ []) (thread th (frames_of h t n)))
   unfolding thread_bytes thread_head ite
-  thread-deep e f g = joined p (thread_head n (thread th [])) (frames_bytes 4 th.place (frames_of h t n)) f g ∙ rw (ne_eqb v 1 e, frames_count h t n)
+  thread_deep e f g = joined p (thread_head n (thread th [])) (frames_bytes 4 th.place (frames_of h t n)) f g ∙ rw (ne_eqb v 1 e, frames_count h t n)
 
 -- what the code would read past the thread table's end
 abbrev pub past : Notes

@@ -90,9 +90,9 @@ module _ (file : List ℕ) {n : Shapes} {l : List ℕ} {k : Stores} {z : Stop} {
       ∙ (ap (λ (r : ℕ). state_bytes file (record { bench = q.bench; refusal = r; done = s.done; finished = q.finished; rows = q.rows })) h.refusal
       ∙ ap (λ (d : ℕ). state_bytes file (record { bench = q.bench; refusal = q.refusal; done = d; finished = q.finished; rows = q.rows })) h.done)
 
-  pub whole-put : (p : Page) (f : ℕ → Frame) {e : Page} → threads_of s.threads s.frames f ≡ threads → stop (stop_of file) (get_or s.frames 4 0) ≡ z
+  pub whole_put : (p : Page) (f : ℕ → Frame) {e : Page} → threads_of s.threads s.frames f ≡ threads → stop (stop_of file) (get_or s.frames 4 0) ≡ z
       → e ≡ put_all p (bench_bytes (version file) s n (rows l) k f) → e ≡ put_all p (state_bytes file q)
-  whole-put p f t y e =
+  whole_put p f t y e =
       let of : Stop → (ℕ → Thread) → List ℕ = λ w g. state_bytes file (made file n l k s q h.deep (λ v. h.depths (deep v)) w g) in
       e ∙ ap (put_all p) (bench_as file n l k s q h.deep (λ v. h.depths (deep v)) f
       ∙ (ap (λ (g : ℕ → Thread). of (stop (stop_of file) (get_or s.frames 4 0)) g) t ∙ (ap (λ (w : Stop). of w threads) y ∙ same_made)))
@@ -123,8 +123,8 @@ module _ (file : List ℕ) (k : ℕ) (first : List ℕ) {buffer : List ℕ} {at 
   held : page buffer at ≡ page (overlay (state_bytes file (after file k)) first) (length (state_bytes file (after file k)))
   held = e ∙ put_fits (state_bytes file (after file k)) first (omega (arith, state_fits file k))
 
-  pub held-buffer : buffer ≡ overlay (state_bytes file (after file k)) first
-  held-buffer = ap (λ (p : Page). p.bytes) held
+  pub held_buffer : buffer ≡ overlay (state_bytes file (after file k)) first
+  held_buffer = ap (λ (p : Page). p.bytes) held
 
-  pub held-report : {r d : ℕ} → r ≡ (after file k).refusal → d ≡ (after file k).done → record { refusal = r; records = d; length = at } ≡ stated_at file (after file k)
-  held-report {r} {d} f g = rw (f, g, ap (λ (p : Page). p.at) held)
+  pub held_report : {r d : ℕ} → r ≡ (after file k).refusal → d ≡ (after file k).done → record { refusal = r; records = d; length = at } ≡ stated_at file (after file k)
+  held_report {r} {d} f g = rw (f, g, ap (λ (p : Page). p.at) held)

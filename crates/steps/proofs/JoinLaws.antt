@@ -45,31 +45,31 @@ last l m = omega arith
 
 -- ---- 22, 23: b is the node read, k whether it is a route
 module _ (n : Shapes) (th : Notes) (x : ℕ) {b : Node} {k : Bool} {r : Decision} where
-  pub beside-route : b ≡ n x → k ≡ is_route b.kind → k ≡ true → Decides th r (λ h. goes (to_route 23 x h)) → Decides th r (besides n x)
+  pub beside_route : b ≡ n x → k ≡ is_route b.kind → k ≡ true → Decides th r (λ h. goes (to_route 23 x h)) → Decides th r (besides n x)
   unfolding beside besides ite
-  beside-route e i t q = onward q (λ fs. rw (← e, ← i, t))
+  beside_route e i t q = onward q (λ fs. rw (← e, ← i, t))
 
-  pub beside-base : b ≡ n x → k ≡ is_route b.kind → k ≡ false → Decides th r (λ h. goes (to_found 24 x h)) → Decides th r (besides n x)
+  pub beside_base : b ≡ n x → k ≡ is_route b.kind → k ≡ false → Decides th r (λ h. goes (to_found 24 x h)) → Decides th r (besides n x)
   unfolding beside besides ite
-  beside-base e i t q = onward q (λ fs. rw (← e, ← i, t))
+  beside_base e i t q = onward q (λ fs. rw (← e, ← i, t))
 
-pub ruleset beside_cases = (beside-route, beside-base)
+pub ruleset beside_cases = (beside_route, beside_base)
 
 -- ---- 25: p is the parent, x its child on the base's side, b the base
 module _ (n : Shapes) (used : ℕ) (th : Notes) {p : Node} {x : ℕ} {r : Decision} where
-  pub hook-full : p ≡ n th.parent → x ≡ kid_of th.left p → x ≡ th.base → 255 < used → Decides th r (λ h. Full) → Decides th r (hooked n used)
+  pub hook_full : p ≡ n th.parent → x ≡ kid_of th.left p → x ≡ th.base → 255 < used → Decides th r (λ h. Full) → Decides th r (hooked n used)
   unfolding ite
-  hook-full e i h l q = onward q (λ fs. rw (← e, ← i, eq-eqb _ _ h, short used l))
+  hook_full e i h l q = onward q (λ fs. rw (← e, ← i, eq-eqb _ _ h, short used l))
 
-  pub hook-made : {b : Node} → p ≡ n th.parent → x ≡ kid_of th.left p → x ≡ th.base → used ≤ 255 → b ≡ n th.base → Decides th r (λ h. Moves (to_main 26 used true h) (Base (Under th.parent th.left) used Main b.parent (Of th.base) 0)) → Decides th r (hooked n used)
+  pub hook_made : {b : Node} → p ≡ n th.parent → x ≡ kid_of th.left p → x ≡ th.base → used ≤ 255 → b ≡ n th.base → Decides th r (λ h. Moves (to_main 26 used true h) (Base (Under th.parent th.left) used Main b.parent (Of th.base) 0)) → Decides th r (hooked n used)
   unfolding ite
-  hook-made e i h l f q = onward q (λ fs. rw (f, ← e, ← i, eq-eqb _ _ h, enough used l))
+  hook_made e i h l f q = onward q (λ fs. rw (f, ← e, ← i, eq-eqb _ _ h, enough used l))
 
-  pub hook-lost : p ≡ n th.parent → x ≡ kid_of th.left p → (x ≡ th.base → ⊥) → Decides th r (λ h. says Lost) → Decides th r (hooked n used)
+  pub hook_lost : p ≡ n th.parent → x ≡ kid_of th.left p → (x ≡ th.base → ⊥) → Decides th r (λ h. says Lost) → Decides th r (hooked n used)
   unfolding ite
-  hook-lost e i h q = onward q (λ fs. rw (← e, ← i, ne_eqb _ _ h))
+  hook_lost e i h q = onward q (λ fs. rw (← e, ← i, ne_eqb _ _ h))
 
-pub ruleset hook_cases = (hook-full, hook-made, hook-lost)
+pub ruleset hook_cases = (hook_full, hook_made, hook_lost)
 
 -- ---- 30, 33: b is the route g, k whether its mark is none
 module _ (n : Shapes) (g p o : ℕ) (th : Notes) {b : Node} {k : Bool} {r : Decision} where
@@ -77,65 +77,65 @@ module _ (n : Shapes) (g p o : ℕ) (th : Notes) {b : Node} {k : Bool} {r : Deci
   unfolding ite
   mark_set e i t q = onward q (λ fs. rw (← e, ← i, t))
 
-  pub mark-held : b ≡ n g → k ≡ is_nil b.mark → k ≡ false → Decides th r (λ h. goes (to o h)) → Decides th r (marking n g p o)
+  pub mark_held : b ≡ n g → k ≡ is_nil b.mark → k ≡ false → Decides th r (λ h. goes (to o h)) → Decides th r (marking n g p o)
   unfolding ite
-  mark-held e i t q = onward q (λ fs. rw (← e, ← i, t))
+  mark_held e i t q = onward q (λ fs. rw (← e, ← i, t))
 
-pub ruleset mark_cases = (mark_set, mark-held)
+pub ruleset mark_cases = (mark_set, mark_held)
 
 -- ---- 31: b is the root
 module _ (n : Shapes) (root : ℕ) (th : Notes) {r : Decision} where
-  pub top-parent : root ≡ th.parent → Decides th r (λ h. goes (to_grandparent 34 Nil h)) → Decides th r (topped n root)
+  pub top_parent : root ≡ th.parent → Decides th r (λ h. goes (to_grandparent 34 Nil h)) → Decides th r (topped n root)
   unfolding ite
-  top-parent h q = onward q (λ fs. rw (eq-eqb _ _ h))
+  top_parent h q = onward q (λ fs. rw (eq-eqb _ _ h))
 
-  pub top-route : {b : Node} {k : Bool} → (root ≡ th.parent → ⊥) → b ≡ n root → k ≡ is_route b.kind → k ≡ true → Decides th r (λ h. goes (to_route 32 root h)) → Decides th r (topped n root)
+  pub top_route : {b : Node} {k : Bool} → (root ≡ th.parent → ⊥) → b ≡ n root → k ≡ is_route b.kind → k ≡ true → Decides th r (λ h. goes (to_route 32 root h)) → Decides th r (topped n root)
   unfolding ite
-  top-route h e i t q = onward q (λ fs. rw (ne_eqb _ _ h, ← e, ← i, t))
+  top_route h e i t q = onward q (λ fs. rw (ne_eqb _ _ h, ← e, ← i, t))
 
-  pub top-base : {b : Node} {k : Bool} → (root ≡ th.parent → ⊥) → b ≡ n root → k ≡ is_route b.kind → k ≡ false → Decides th r (λ h. goes (to 37 h)) → Decides th r (topped n root)
+  pub top_base : {b : Node} {k : Bool} → (root ≡ th.parent → ⊥) → b ≡ n root → k ≡ is_route b.kind → k ≡ false → Decides th r (λ h. goes (to 37 h)) → Decides th r (topped n root)
   unfolding ite
-  top-base h e i t q = onward q (λ fs. rw (ne_eqb _ _ h, ← e, ← i, t))
+  top_base h e i t q = onward q (λ fs. rw (ne_eqb _ _ h, ← e, ← i, t))
 
-pub ruleset top_cases = (top-parent, top-route, top-base)
+pub ruleset top_cases = (top_parent, top_route, top_base)
 
 -- ---- 32: b is the child x
 module _ (n : Shapes) (x : ℕ) (th : Notes) {r : Decision} where
-  pub climb-parent : x ≡ th.parent → Decides th r (λ h. goes (to_grandparent 33 (To th.route) h)) → Decides th r (climbed n x)
+  pub climb_parent : x ≡ th.parent → Decides th r (λ h. goes (to_grandparent 33 (To th.route) h)) → Decides th r (climbed n x)
   unfolding ite
-  climb-parent h q = onward q (λ fs. rw (eq-eqb _ _ h))
+  climb_parent h q = onward q (λ fs. rw (eq-eqb _ _ h))
 
-  pub climb-route : {b : Node} {k : Bool} → (x ≡ th.parent → ⊥) → b ≡ n x → k ≡ is_route b.kind → k ≡ true → Decides th r (λ h. goes (to_route 32 x h)) → Decides th r (climbed n x)
+  pub climb_route : {b : Node} {k : Bool} → (x ≡ th.parent → ⊥) → b ≡ n x → k ≡ is_route b.kind → k ≡ true → Decides th r (λ h. goes (to_route 32 x h)) → Decides th r (climbed n x)
   unfolding ite
-  climb-route h e i t q = onward q (λ fs. rw (ne_eqb _ _ h, ← e, ← i, t))
+  climb_route h e i t q = onward q (λ fs. rw (ne_eqb _ _ h, ← e, ← i, t))
 
-  pub climb-base : {b : Node} {k : Bool} → (x ≡ th.parent → ⊥) → b ≡ n x → k ≡ is_route b.kind → k ≡ false → Decides th r (λ h. goes (to 37 h)) → Decides th r (climbed n x)
+  pub climb_base : {b : Node} {k : Bool} → (x ≡ th.parent → ⊥) → b ≡ n x → k ≡ is_route b.kind → k ≡ false → Decides th r (λ h. goes (to 37 h)) → Decides th r (climbed n x)
   unfolding ite
-  climb-base h e i t q = onward q (λ fs. rw (ne_eqb _ _ h, ← e, ← i, t))
+  climb_base h e i t q = onward q (λ fs. rw (ne_eqb _ _ h, ← e, ← i, t))
 
-pub ruleset climb_cases = (climb-parent, climb-route, climb-base)
+pub ruleset climb_cases = (climb_parent, climb_route, climb_base)
 
 -- ---- 33
 module _ (n : Shapes) (th : Notes) where
-  pub grand-none : {r : Decision} → th.grandparent ≡ Nil → Decides th r (λ h. goes (to 37 h)) → Decides th r (grand_marking th.grandparent n)
-  grand-none h q = onward q (λ fs. rw h)
+  pub grand_none : {r : Decision} → th.grandparent ≡ Nil → Decides th r (λ h. goes (to 37 h)) → Decides th r (grand_marking th.grandparent n)
+  grand_none h q = onward q (λ fs. rw h)
 
-  pub grand-mark : (g : ℕ) {r : Decision} → th.grandparent ≡ To g → Decides th r (marking n g 34 37) → Decides th r (grand_marking th.grandparent n)
-  grand-mark g h q = onward q (λ fs. rw h)
+  pub grand_mark : (g : ℕ) {r : Decision} → th.grandparent ≡ To g → Decides th r (marking n g 34 37) → Decides th r (grand_marking th.grandparent n)
+  grand_mark g h q = onward q (λ fs. rw h)
 
-pub ruleset grand_cases = (grand-none, grand-mark)
+pub ruleset grand_cases = (grand_none, grand_mark)
 
 -- ---- 35: x is the neighbour
 module _ (n : Shapes) (th : Notes) where
-  pub union-grand : th.other ≡ th.neighbour → th.grandparent ≡ union_parent n (thread th [])
+  pub union_grand : th.other ≡ th.neighbour → th.grandparent ≡ union_parent n (thread th [])
   unfolding ite
-  union-grand h = rw (eq-eqb _ _ h)
+  union_grand h = rw (eq-eqb _ _ h)
 
-  pub union-kept : {x : Node} → (th.other ≡ th.neighbour → ⊥) → x ≡ n th.neighbour → x.parent ≡ union_parent n (thread th [])
+  pub union_kept : {x : Node} → (th.other ≡ th.neighbour → ⊥) → x ≡ n th.neighbour → x.parent ≡ union_parent n (thread th [])
   unfolding ite
-  union-kept h e = rw (e, ne_eqb _ _ h)
+  union_kept h e = rw (e, ne_eqb _ _ h)
 
-pub ruleset union_cases = (union-grand, union-kept)
+pub ruleset union_cases = (union_grand, union_kept)
 
 back_alone : (l : Link) → is_nil l ≡ true → back_out l ≡ p37
 back_alone Nil h = refl
@@ -147,23 +147,23 @@ back_under (To g) h = refl
 
 -- m is the main, p the union node's parent
 module _ (n : Shapes) (used : ℕ) (th : Notes) {m : Node} {k : Bool} {r : Decision} where
-  pub close-full : m ≡ n th.main → k ≡ is_preparing m.stage → k ≡ true → 255 < used → Decides th r (λ h. Full) → Decides th r (closed n used)
+  pub close_full : m ≡ n th.main → k ≡ is_preparing m.stage → k ≡ true → 255 < used → Decides th r (λ h. Full) → Decides th r (closed n used)
   unfolding ite
-  close-full e i t l q = onward q (λ fs. rw (← e, ← i, t, short used l))
+  close_full e i t l q = onward q (λ fs. rw (← e, ← i, t, short used l))
 
-  pub close-made : {p : Link} → m ≡ n th.main → k ≡ is_preparing m.stage → k ≡ true → used ≤ 255 → p ≡ union_parent n (thread th []) → Decides th r (λ h. Moves (to 40 h) (Commit th.main used p th.neighbour th.grandparent th.other)) → Decides th r (closed n used)
+  pub close_made : {p : Link} → m ≡ n th.main → k ≡ is_preparing m.stage → k ≡ true → used ≤ 255 → p ≡ union_parent n (thread th []) → Decides th r (λ h. Moves (to 40 h) (Commit th.main used p th.neighbour th.grandparent th.other)) → Decides th r (closed n used)
   unfolding ite
-  close-made e i t l g q = onward q (λ fs. rw (g, ← e, ← i, t, enough used l))
+  close_made e i t l g q = onward q (λ fs. rw (g, ← e, ← i, t, enough used l))
 
-  pub close-alone : {o : Bool} → m ≡ n th.main → k ≡ is_preparing m.stage → k ≡ false → o ≡ is_nil th.grandparent → o ≡ true → Decides th r (λ h. goes (to 37 h)) → Decides th r (closed n used)
+  pub close_alone : {o : Bool} → m ≡ n th.main → k ≡ is_preparing m.stage → k ≡ false → o ≡ is_nil th.grandparent → o ≡ true → Decides th r (λ h. goes (to 37 h)) → Decides th r (closed n used)
   unfolding ite
-  close-alone e i t j s q = let a : is_nil th.grandparent ≡ true = cc in onward q (λ fs. rw (← e, ← i, t, back_alone _ a))
+  close_alone e i t j s q = let a : is_nil th.grandparent ≡ true = cc in onward q (λ fs. rw (← e, ← i, t, back_alone _ a))
 
-  pub close-under : {o : Bool} → m ≡ n th.main → k ≡ is_preparing m.stage → k ≡ false → o ≡ is_nil th.grandparent → o ≡ false → Decides th r (λ h. goes (to 36 h)) → Decides th r (closed n used)
+  pub close_under : {o : Bool} → m ≡ n th.main → k ≡ is_preparing m.stage → k ≡ false → o ≡ is_nil th.grandparent → o ≡ false → Decides th r (λ h. goes (to 36 h)) → Decides th r (closed n used)
   unfolding ite
-  close-under e i t j s q = let a : is_nil th.grandparent ≡ false = cc in onward q (λ fs. rw (← e, ← i, t, back_under _ a))
+  close_under e i t j s q = let a : is_nil th.grandparent ≡ false = cc in onward q (λ fs. rw (← e, ← i, t, back_under _ a))
 
-pub ruleset close_cases = (close-full, close-made, close-alone, close-under)
+pub ruleset close_cases = (close_full, close_made, close_alone, close_under)
 
 -- ---- 36
 pub unmark_one : (l : Link) (r : ℕ) → l ≡ To r → Mark r Nil ≡ unmark l
@@ -173,91 +173,91 @@ pub ruleset unmark_cases = (unmark_one)
 
 -- ---- the places 19 to 25: p is the parent, x the child read
 module _ (n : Shapes) (root used : ℕ) (ks : Stores) (sh : ℕ) (z : Stop) (th : Notes) where
-  pub at-19-none : {r : Decision} → th.place ≡ 19 → z.count ≡ 0 → Decides th r (λ h. goes (to 20 h)) → Decides th r (step (place_of th.place) (sight n root used ks sh z))
+  pub at_19_none : {r : Decision} → th.place ≡ 19 → z.count ≡ 0 → Decides th r (λ h. goes (to 20 h)) → Decides th r (step (place_of th.place) (sight n root used ks sh z))
   unfolding step ite
-  at-19-none h e q = onward q (λ fs. rw (h, eq-eqb z.count 0 e))
+  at_19_none h e q = onward q (λ fs. rw (h, eq-eqb z.count 0 e))
 
-  pub at-19-some : {r : Decision} → th.place ≡ 19 → (z.count ≡ 0 → ⊥) → Decides th r (λ h. says Stopped) → Decides th r (step (place_of th.place) (sight n root used ks sh z))
+  pub at_19_some : {r : Decision} → th.place ≡ 19 → (z.count ≡ 0 → ⊥) → Decides th r (λ h. says Stopped) → Decides th r (step (place_of th.place) (sight n root used ks sh z))
   unfolding step ite
-  at-19-some h e q = onward q (λ fs. rw (h, ne_eqb z.count 0 e))
+  at_19_some h e q = onward q (λ fs. rw (h, ne_eqb z.count 0 e))
 
-  pub at-20-left : {p : Node} {r : Decision} → th.place ≡ 20 → p ≡ n th.parent → p.left ≡ th.base → Decides th r (λ h. goes (to_side 22 true h)) → Decides th r (step (place_of th.place) (sight n root used ks sh z))
+  pub at_20_left : {p : Node} {r : Decision} → th.place ≡ 20 → p ≡ n th.parent → p.left ≡ th.base → Decides th r (λ h. goes (to_side 22 true h)) → Decides th r (step (place_of th.place) (sight n root used ks sh z))
   unfolding step ite
-  at-20-left h e k q = onward q (λ fs. rw (h, ← e, eq-eqb _ _ k))
+  at_20_left h e k q = onward q (λ fs. rw (h, ← e, eq-eqb _ _ k))
 
-  pub at-20-other : {p : Node} {r : Decision} → th.place ≡ 20 → p ≡ n th.parent → (p.left ≡ th.base → ⊥) → Decides th r (λ h. goes (to 21 h)) → Decides th r (step (place_of th.place) (sight n root used ks sh z))
+  pub at_20_other : {p : Node} {r : Decision} → th.place ≡ 20 → p ≡ n th.parent → (p.left ≡ th.base → ⊥) → Decides th r (λ h. goes (to 21 h)) → Decides th r (step (place_of th.place) (sight n root used ks sh z))
   unfolding step ite
-  at-20-other h e k q = onward q (λ fs. rw (h, ← e, ne_eqb _ _ k))
+  at_20_other h e k q = onward q (λ fs. rw (h, ← e, ne_eqb _ _ k))
 
-  pub at-21-right : {p : Node} {r : Decision} → th.place ≡ 21 → p ≡ n th.parent → p.right ≡ th.base → Decides th r (λ h. goes (to_side 22 false h)) → Decides th r (step (place_of th.place) (sight n root used ks sh z))
+  pub at_21_right : {p : Node} {r : Decision} → th.place ≡ 21 → p ≡ n th.parent → p.right ≡ th.base → Decides th r (λ h. goes (to_side 22 false h)) → Decides th r (step (place_of th.place) (sight n root used ks sh z))
   unfolding step ite
-  at-21-right h e k q = onward q (λ fs. rw (h, ← e, eq-eqb _ _ k))
+  at_21_right h e k q = onward q (λ fs. rw (h, ← e, eq-eqb _ _ k))
 
-  pub at-21-gone : {p : Node} {r : Decision} → th.place ≡ 21 → p ≡ n th.parent → (p.right ≡ th.base → ⊥) → Decides th r (λ h. says Lost) → Decides th r (step (place_of th.place) (sight n root used ks sh z))
+  pub at_21_gone : {p : Node} {r : Decision} → th.place ≡ 21 → p ≡ n th.parent → (p.right ≡ th.base → ⊥) → Decides th r (λ h. says Lost) → Decides th r (step (place_of th.place) (sight n root used ks sh z))
   unfolding step ite
-  at-21-gone h e k q = onward q (λ fs. rw (h, ← e, ne_eqb _ _ k))
+  at_21_gone h e k q = onward q (λ fs. rw (h, ← e, ne_eqb _ _ k))
 
-  pub at-22 : {p : Node} {x : ℕ} {r : Decision} → th.place ≡ 22 → p ≡ n th.parent → x ≡ kid_of (not th.left) p → Decides th r (besides n x) → Decides th r (step (place_of th.place) (sight n root used ks sh z))
+  pub at_22 : {p : Node} {x : ℕ} {r : Decision} → th.place ≡ 22 → p ≡ n th.parent → x ≡ kid_of (not th.left) p → Decides th r (besides n x) → Decides th r (step (place_of th.place) (sight n root used ks sh z))
   unfolding step besides
-  at-22 h e i q = onward q (λ fs. rw (h, ← e, i))
+  at_22 h e i q = onward q (λ fs. rw (h, ← e, i))
 
-  pub at-23 : {p : Node} {x : ℕ} {r : Decision} → th.place ≡ 23 → p ≡ n th.route → x ≡ kid_of th.left p → Decides th r (besides n x) → Decides th r (step (place_of th.place) (sight n root used ks sh z))
+  pub at_23 : {p : Node} {x : ℕ} {r : Decision} → th.place ≡ 23 → p ≡ n th.route → x ≡ kid_of th.left p → Decides th r (besides n x) → Decides th r (step (place_of th.place) (sight n root used ks sh z))
   unfolding step besides
-  at-23 h e i q = onward q (λ fs. rw (h, ← e, i))
+  at_23 h e i q = onward q (λ fs. rw (h, ← e, i))
 
-  pub at-24-free : {c : Check} {k : Bool} {r : Decision} → th.place ≡ 24 → c ≡ check n ks th.found → k ≡ is_replaceable c → k ≡ true → Decides th r (λ h. goes (to 25 h)) → Decides th r (step (place_of th.place) (sight n root used ks sh z))
+  pub at_24_free : {c : Check} {k : Bool} {r : Decision} → th.place ≡ 24 → c ≡ check n ks th.found → k ≡ is_replaceable c → k ≡ true → Decides th r (λ h. goes (to 25 h)) → Decides th r (step (place_of th.place) (sight n root used ks sh z))
   unfolding step replaceable ite
-  at-24-free h e i t q = onward q (λ fs. rw (h, ← e, ← i, t))
+  at_24_free h e i t q = onward q (λ fs. rw (h, ← e, ← i, t))
 
-  pub at-24-busy : {c : Check} {k : Bool} {r : Decision} → th.place ≡ 24 → c ≡ check n ks th.found → k ≡ is_replaceable c → k ≡ false → Decides th r (λ h. says NeighbourBlocked) → Decides th r (step (place_of th.place) (sight n root used ks sh z))
+  pub at_24_busy : {c : Check} {k : Bool} {r : Decision} → th.place ≡ 24 → c ≡ check n ks th.found → k ≡ is_replaceable c → k ≡ false → Decides th r (λ h. says NeighbourBlocked) → Decides th r (step (place_of th.place) (sight n root used ks sh z))
   unfolding step replaceable ite
-  at-24-busy h e i t q = onward q (λ fs. rw (h, ← e, ← i, t))
+  at_24_busy h e i t q = onward q (λ fs. rw (h, ← e, ← i, t))
 
-  pub at-25 : {r : Decision} → 19 ≤ th.place → th.place < 26 → (th.place ≡ 19 → ⊥) → (th.place ≡ 20 → ⊥) → (th.place ≡ 21 → ⊥) → (th.place ≡ 22 → ⊥) → (th.place ≡ 23 → ⊥) → (th.place ≡ 24 → ⊥) → Decides th r (hooked n used) → Decides th r (step (place_of th.place) (sight n root used ks sh z))
+  pub at_25 : {r : Decision} → 19 ≤ th.place → th.place < 26 → (th.place ≡ 19 → ⊥) → (th.place ≡ 20 → ⊥) → (th.place ≡ 21 → ⊥) → (th.place ≡ 22 → ⊥) → (th.place ≡ 23 → ⊥) → (th.place ≡ 24 → ⊥) → Decides th r (hooked n used) → Decides th r (step (place_of th.place) (sight n root used ks sh z))
   unfolding step
-  at-25 l m e f g h i j q = onward q (λ fs. rw (last (past 24 (past 23 (past 22 (past 21 (past 20 (past 19 l e) f) g) h) i) j) m))
+  at_25 l m e f g h i j q = onward q (λ fs. rw (last (past 24 (past 23 (past 22 (past 21 (past 20 (past 19 l e) f) g) h) i) j) m))
 
   -- ---- 30 to 38
-  pub at-30 : {r : Decision} → th.place ≡ 30 → Decides th r (marking n th.parent 31 38) → Decides th r (step (place_of th.place) (sight n root used ks sh z))
+  pub at_30 : {r : Decision} → th.place ≡ 30 → Decides th r (marking n th.parent 31 38) → Decides th r (step (place_of th.place) (sight n root used ks sh z))
   unfolding step
-  at-30 h q = onward q (λ fs. rw h)
+  at_30 h q = onward q (λ fs. rw h)
 
-  pub at-31 : {r : Decision} → th.place ≡ 31 → Decides th r (topped n root) → Decides th r (step (place_of th.place) (sight n root used ks sh z))
+  pub at_31 : {r : Decision} → th.place ≡ 31 → Decides th r (topped n root) → Decides th r (step (place_of th.place) (sight n root used ks sh z))
   unfolding step
-  at-31 h q = onward q (λ fs. rw h)
+  at_31 h q = onward q (λ fs. rw h)
 
-  pub at-32 : {p b : Node} {x : ℕ} {r : Decision} → th.place ≡ 32 → p ≡ n th.parent → b ≡ n th.route → x ≡ child_for p.key b → Decides th r (climbed n x) → Decides th r (step (place_of th.place) (sight n root used ks sh z))
+  pub at_32 : {p b : Node} {x : ℕ} {r : Decision} → th.place ≡ 32 → p ≡ n th.parent → b ≡ n th.route → x ≡ child_for p.key b → Decides th r (climbed n x) → Decides th r (step (place_of th.place) (sight n root used ks sh z))
   unfolding step
-  at-32 h e f i q = onward q (λ fs. rw (h, ← e, ← f, i))
+  at_32 h e f i q = onward q (λ fs. rw (h, ← e, ← f, i))
 
-  pub at-33 : {r : Decision} → th.place ≡ 33 → Decides th r (grand_marking th.grandparent n) → Decides th r (step (place_of th.place) (sight n root used ks sh z))
+  pub at_33 : {r : Decision} → th.place ≡ 33 → Decides th r (grand_marking th.grandparent n) → Decides th r (step (place_of th.place) (sight n root used ks sh z))
   unfolding step
-  at-33 h q = onward q (λ fs. rw h)
+  at_33 h q = onward q (λ fs. rw h)
 
-  pub at-34 : {p : Node} {x : ℕ} {r : Decision} → th.place ≡ 34 → p ≡ n th.parent → x ≡ kid_of (not th.left) p → Decides th r (λ h. goes (to_other 35 x h)) → Decides th r (step (place_of th.place) (sight n root used ks sh z))
+  pub at_34 : {p : Node} {x : ℕ} {r : Decision} → th.place ≡ 34 → p ≡ n th.parent → x ≡ kid_of (not th.left) p → Decides th r (λ h. goes (to_other 35 x h)) → Decides th r (step (place_of th.place) (sight n root used ks sh z))
   unfolding step
-  at-34 h e i q = onward q (λ fs. rw (h, ← e, i))
+  at_34 h e i q = onward q (λ fs. rw (h, ← e, i))
 
-  pub at-35 : {r : Decision} → th.place ≡ 35 → Decides th r (closed n used) → Decides th r (step (place_of th.place) (sight n root used ks sh z))
+  pub at_35 : {r : Decision} → th.place ≡ 35 → Decides th r (closed n used) → Decides th r (step (place_of th.place) (sight n root used ks sh z))
   unfolding step
-  at-35 h q = onward q (λ fs. rw h)
+  at_35 h q = onward q (λ fs. rw h)
 
-  pub at-36 : {o : Effect} {r : Decision} → th.place ≡ 36 → o ≡ unmark th.grandparent → Decides th r (λ h. Moves (to 37 h) o) → Decides th r (step (place_of th.place) (sight n root used ks sh z))
+  pub at_36 : {o : Effect} {r : Decision} → th.place ≡ 36 → o ≡ unmark th.grandparent → Decides th r (λ h. Moves (to 37 h) o) → Decides th r (step (place_of th.place) (sight n root used ks sh z))
   unfolding step
-  at-36 h i q = onward q (λ fs. rw (i, h))
+  at_36 h i q = onward q (λ fs. rw (i, h))
 
-  pub at-37 : {r : Decision} → th.place ≡ 37 → Decides th r (λ h. Moves (to 38 h) (Mark th.parent Nil)) → Decides th r (step (place_of th.place) (sight n root used ks sh z))
+  pub at_37 : {r : Decision} → th.place ≡ 37 → Decides th r (λ h. Moves (to 38 h) (Mark th.parent Nil)) → Decides th r (step (place_of th.place) (sight n root used ks sh z))
   unfolding step
-  at-37 h q = onward q (λ fs. rw h)
+  at_37 h q = onward q (λ fs. rw h)
 
-  pub at-38 : {r : Decision} → th.place ≡ 38 → Decides th r (λ h. Finishes (Settle th.main Aborted) StoodDown) → Decides th r (step (place_of th.place) (sight n root used ks sh z))
+  pub at_38 : {r : Decision} → th.place ≡ 38 → Decides th r (λ h. Finishes (Settle th.main Aborted) StoodDown) → Decides th r (step (place_of th.place) (sight n root used ks sh z))
   unfolding step
-  at-38 h q = onward q (λ fs. rw h)
+  at_38 h q = onward q (λ fs. rw h)
 
-  pub at-39 : {r : Decision} → 30 ≤ th.place → th.place < 40 → (th.place ≡ 30 → ⊥) → (th.place ≡ 31 → ⊥) → (th.place ≡ 32 → ⊥) → (th.place ≡ 33 → ⊥) → (th.place ≡ 34 → ⊥) → (th.place ≡ 35 → ⊥) → (th.place ≡ 36 → ⊥) → (th.place ≡ 37 → ⊥) → (th.place ≡ 38 → ⊥) → Decides th r goes → Decides th r (step (place_of th.place) (sight n root used ks sh z))
+  pub at_39 : {r : Decision} → 30 ≤ th.place → th.place < 40 → (th.place ≡ 30 → ⊥) → (th.place ≡ 31 → ⊥) → (th.place ≡ 32 → ⊥) → (th.place ≡ 33 → ⊥) → (th.place ≡ 34 → ⊥) → (th.place ≡ 35 → ⊥) → (th.place ≡ 36 → ⊥) → (th.place ≡ 37 → ⊥) → (th.place ≡ 38 → ⊥) → Decides th r goes → Decides th r (step (place_of th.place) (sight n root used ks sh z))
   unfolding step
-  at-39 l m f₀ f₁ f₂ f₃ f₄ f₅ f₆ f₇ f₈ q = onward q (λ fs. rw (last (past 38 (past 37 (past 36 (past 35 (past 34 (past 33 (past 32 (past 31 (past 30 l f₀) f₁) f₂) f₃) f₄) f₅) f₆) f₇) f₈) m))
+  at_39 l m f₀ f₁ f₂ f₃ f₄ f₅ f₆ f₇ f₈ q = onward q (λ fs. rw (last (past 38 (past 37 (past 36 (past 35 (past 34 (past 33 (past 32 (past 31 (past 30 l f₀) f₁) f₂) f₃) f₄) f₅) f₆) f₇) f₈) m))
 
-pub ruleset approach_cases = (at-19-none, at-19-some, at-20-left, at-20-other, at-21-right, at-21-gone, at-22, at-23, at-24-free, at-24-busy, at-25)
+pub ruleset approach_cases = (at_19_none, at_19_some, at_20_left, at_20_other, at_21_right, at_21_gone, at_22, at_23, at_24_free, at_24_busy, at_25)
 
-pub ruleset prepare_cases = (at-30, at-31, at-32, at-33, at-34, at-35, at-36, at-37, at-38, at-39)
+pub ruleset prepare_cases = (at_30, at_31, at_32, at_33, at_34, at_35, at_36, at_37, at_38, at_39)

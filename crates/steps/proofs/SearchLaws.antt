@@ -44,51 +44,51 @@ pub ruleset lookup_cases = (lookup_yes, lookup_no)
 
 -- ---- a node is read: n is that node, b whether it is a route
 module _ (ns : Shapes) (th : Notes) (x : ℕ) {n : Node} {b : Bool} where
-  pub reach-route : {r : Decision} → n ≡ ns x → b ≡ is_route n.kind → b ≡ true → Decides th r (λ h. goes (to_route 2 x h)) → Decides th r (reaching ns x)
+  pub reach_route : {r : Decision} → n ≡ ns x → b ≡ is_route n.kind → b ≡ true → Decides th r (λ h. goes (to_route 2 x h)) → Decides th r (reaching ns x)
   unfolding reached reaching ite
-  reach-route e k h q = onward q (λ fs. rw (← e, ← k, h))
+  reach_route e k h q = onward q (λ fs. rw (← e, ← k, h))
 
   reach_leaf : (fs : List Frame) {a : Action} → n ≡ ns x → b ≡ is_route n.kind → b ≡ false → th.action ≡ a → at_leaf a ns (thread th fs) x ≡ reaching ns x (thread th fs)
   unfolding reached reaching ite
   reach_leaf fs e k h a = rw (← e, ← k, h) (ap (λ (y : Action). at_leaf y ns (thread th fs) x) (sym a))
 
-  pub reach-lookup : {m : Bool} {y : Answer} {r : Decision} → n ≡ ns x → b ≡ is_route n.kind → b ≡ false → th.action ≡ Lookup → m ≡ has n.container th.station → y ≡ ite m (At x) No → Decides th r (λ h. says y) → Decides th r (reaching ns x)
-  reach-lookup e k h a l y q = onward q (λ fs. rw (y, l, e) (reach_leaf fs e k h a))
+  pub reach_lookup : {m : Bool} {y : Answer} {r : Decision} → n ≡ ns x → b ≡ is_route n.kind → b ≡ false → th.action ≡ Lookup → m ≡ has n.container th.station → y ≡ ite m (At x) No → Decides th r (λ h. says y) → Decides th r (reaching ns x)
+  reach_lookup e k h a l y q = onward q (λ fs. rw (y, l, e) (reach_leaf fs e k h a))
 
-  pub reach-query : {r : Decision} → n ≡ ns x → b ≡ is_route n.kind → b ≡ false → th.action ≡ Query → Decides th r (λ h. Full) → Decides th r (reaching ns x)
-  reach-query e k h a q = onward q (λ fs. reach_leaf fs e k h a)
+  pub reach_query : {r : Decision} → n ≡ ns x → b ≡ is_route n.kind → b ≡ false → th.action ≡ Query → Decides th r (λ h. Full) → Decides th r (reaching ns x)
+  reach_query e k h a q = onward q (λ fs. reach_leaf fs e k h a)
 
   -- the other actions go to 3
-  pub reach-base : {a : Action} {r : Decision} → n ≡ ns x → b ≡ is_route n.kind → b ≡ false → th.action ≡ a → ((fs : List Frame) → goes (to_base 3 x (thread th fs)) ≡ at_leaf a ns (thread th fs) x) → Decides th r (λ h. goes (to_base 3 x h)) → Decides th r (reaching ns x)
-  reach-base e k h a l q = onward q (λ fs. l fs ∙ reach_leaf fs e k h a)
+  pub reach_base : {a : Action} {r : Decision} → n ≡ ns x → b ≡ is_route n.kind → b ≡ false → th.action ≡ a → ((fs : List Frame) → goes (to_base 3 x (thread th fs)) ≡ at_leaf a ns (thread th fs) x) → Decides th r (λ h. goes (to_base 3 x h)) → Decides th r (reaching ns x)
+  reach_base e k h a l q = onward q (λ fs. l fs ∙ reach_leaf fs e k h a)
 
 -- ---- a search that is counted goes on from x: n is that node, b whether it is a route
 module _ (ns : Shapes) (th : Notes) (x : ℕ) {n : Node} {b : Bool} {r : Decision} where
-  pub pass-route : n ≡ ns x → b ≡ is_route n.kind → b ≡ true → Decides th r (λ h. goes (to_route 2 x h)) → Decides th r (passing ns x)
+  pub pass_route : n ≡ ns x → b ≡ is_route n.kind → b ≡ true → Decides th r (λ h. goes (to_route 2 x h)) → Decides th r (passing ns x)
   unfolding counted passing ite
-  pass-route i k h q = onward q (λ fs. rw (← i, ← k, h))
+  pass_route i k h q = onward q (λ fs. rw (← i, ← k, h))
 
-  pub pass-base : n ≡ ns x → b ≡ is_route n.kind → b ≡ false → Decides th r (λ h. goes (to_base 5 x h)) → Decides th r (passing ns x)
+  pub pass_base : n ≡ ns x → b ≡ is_route n.kind → b ≡ false → Decides th r (λ h. goes (to_base 5 x h)) → Decides th r (passing ns x)
   unfolding counted passing ite
-  pass-base i k h q = onward q (λ fs. rw (← i, ← k, h))
+  pass_base i k h q = onward q (λ fs. rw (← i, ← k, h))
 
 -- ---- 2: the child x of a route is read
 module _ (on : Bool) (ns : Shapes) (th : Notes) (x : ℕ) {r : Decision} where
-  pub follow-off : on ≡ false → Decides th r (reaching ns x) → Decides th r (following on ns x)
+  pub follow_off : on ≡ false → Decides th r (reaching ns x) → Decides th r (following on ns x)
   unfolding followed following reaching
-  follow-off h q = onward q (λ fs. rw h)
+  follow_off h q = onward q (λ fs. rw h)
 
-  pub follow-few : on ≡ true → (th.read ≡ 8 → ⊥) → th.read ≤ 8 → Decides th r (reaching ns x) → Decides th r (following on ns x)
+  pub follow_few : on ≡ true → (th.read ≡ 8 → ⊥) → th.read ≤ 8 → Decides th r (reaching ns x) → Decides th r (following on ns x)
   unfolding followed following reaching ite
-  follow-few h f l q = let a : th.read < 8 = omega (arith, f, l) in onward q (λ fs. rw (h, lt-ltb _ _ a))
+  follow_few h f l q = let a : th.read < 8 = omega (arith, f, l) in onward q (λ fs. rw (h, lt-ltb _ _ a))
 
-  pub follow-eighth : on ≡ true → th.read ≡ 8 → Decides th r (λ h. goes (to_route 4 x h)) → Decides th r (following on ns x)
+  pub follow_eighth : on ≡ true → th.read ≡ 8 → Decides th r (λ h. goes (to_route 4 x h)) → Decides th r (following on ns x)
   unfolding followed following ite
-  follow-eighth h e q = onward q (λ fs. rw (h, e))
+  follow_eighth h e q = onward q (λ fs. rw (h, e))
 
-  pub follow-more : on ≡ true → (th.read ≡ 8 → ⊥) → 8 < th.read → Decides th r (passing ns x) → Decides th r (following on ns x)
+  pub follow_more : on ≡ true → (th.read ≡ 8 → ⊥) → 8 < th.read → Decides th r (passing ns x) → Decides th r (following on ns x)
   unfolding followed following passing ite
-  follow-more h f l q = let a : 8 ≤ th.read = omega (arith, l) in onward q (λ fs. rw (h, le-ltb _ _ a, ne_eqb _ _ f))
+  follow_more h f l q = let a : 8 ≤ th.read = omega (arith, l) in onward q (λ fs. rw (h, le-ltb _ _ a, ne_eqb _ _ f))
 
 -- ---- 5: n is the base, m whether it has the station
 module _ (ns : Shapes) (th : Notes) where
@@ -96,11 +96,11 @@ module _ (ns : Shapes) (th : Notes) where
   unfolding releasing
   as_released fs e = ap (λ (y : Action). at_leaf y ns (thread th fs) th.base) (sym e)
 
-  pub release-lookup : {n : Node} {m : Bool} {y : Answer} {r : Decision} → th.action ≡ Lookup → n ≡ ns th.base → m ≡ has n.container th.station → y ≡ ite m (At th.base) No → Decides th r (λ h. says y) → Decides th r (releasing ns)
-  release-lookup a e k y q = onward q (λ fs. rw (y, k, e) (as_released fs a))
+  pub release_lookup : {n : Node} {m : Bool} {y : Answer} {r : Decision} → th.action ≡ Lookup → n ≡ ns th.base → m ≡ has n.container th.station → y ≡ ite m (At th.base) No → Decides th r (λ h. says y) → Decides th r (releasing ns)
+  release_lookup a e k y q = onward q (λ fs. rw (y, k, e) (as_released fs a))
 
-  pub release-query : {r : Decision} → th.action ≡ Query → Decides th r (λ h. Full) → Decides th r (releasing ns)
-  release-query a q = onward q (λ fs. as_released fs a)
+  pub release_query : {r : Decision} → th.action ≡ Query → Decides th r (λ h. Full) → Decides th r (releasing ns)
+  release_query a q = onward q (λ fs. as_released fs a)
 
   -- the other actions go to 3
   pub release_other : {a : Action} {r : Decision} → th.action ≡ a → ((fs : List Frame) → goes (to 3 (thread th fs)) ≡ at_leaf a ns (thread th fs) th.base) → Decides th r (λ h. goes (to 3 h)) → Decides th r (releasing ns)
@@ -141,14 +141,14 @@ module _ (b : Node) (th : Notes) where
   unfolding lacks
   as_lacks e = ap (λ (y : Action). lacks_as y b) (sym e)
 
-  pub lacks-never : {a : Action} → th.action ≡ a → false ≡ lacks_as a b → false ≡ lacks b (thread th [])
-  lacks-never e l = l ∙ as_lacks e
+  pub lacks_never : {a : Action} → th.action ≡ a → false ≡ lacks_as a b → false ≡ lacks b (thread th [])
+  lacks_never e l = l ∙ as_lacks e
 
-  pub lacks-split : {z : ℕ} → th.action ≡ Split → z ≡ size b.container → ltb z 2 ≡ lacks b (thread th [])
-  lacks-split e s = rw s (as_lacks e)
+  pub lacks_split : {z : ℕ} → th.action ≡ Split → z ≡ size b.container → ltb z 2 ≡ lacks b (thread th [])
+  lacks_split e s = rw s (as_lacks e)
 
-  pub lacks-join : {l : Link} {v : Bool} → th.action ≡ Join → b.parent ≡ l → v ≡ is_nil l → v ≡ lacks b (thread th [])
-  lacks-join e l q = q ∙ (ap is_nil (sym l) ∙ as_lacks e)
+  pub lacks_join : {l : Link} {v : Bool} → th.action ≡ Join → b.parent ≡ l → v ≡ is_nil l → v ≡ lacks b (thread th [])
+  lacks_join e l q = q ∙ (ap is_nil (sym l) ∙ as_lacks e)
 
 -- ---- 3: the base b is replaceable; l is its parent
 module _ (on : Bool) (b : Node) (th : Notes) where
@@ -156,26 +156,26 @@ module _ (on : Bool) (b : Node) (th : Notes) where
   unfolding cleared
   as_cleared fs e = ap (λ (y : Action). cleared_as y on b (thread th fs)) (sym e)
 
-  pub clear-swap : {a : Action} {r : Decision} → th.action ≡ a → ((fs : List Frame) → goes (to 10 (thread th fs)) ≡ cleared_as a on b (thread th fs)) → Decides th r (λ h. goes (to 10 h)) → Decides th r (cleared on b)
-  clear-swap e l q = onward q (λ fs. l fs ∙ as_cleared fs e)
+  pub clear_swap : {a : Action} {r : Decision} → th.action ≡ a → ((fs : List Frame) → goes (to 10 (thread th fs)) ≡ cleared_as a on b (thread th fs)) → Decides th r (λ h. goes (to 10 h)) → Decides th r (cleared on b)
+  clear_swap e l q = onward q (λ fs. l fs ∙ as_cleared fs e)
 
-  pub clear-lookup : {r : Decision} → th.action ≡ Lookup → Decides th r (λ h. says No) → Decides th r (cleared on b)
-  clear-lookup e q = onward q (λ fs. as_cleared fs e)
+  pub clear_lookup : {r : Decision} → th.action ≡ Lookup → Decides th r (λ h. says No) → Decides th r (cleared on b)
+  clear_lookup e q = onward q (λ fs. as_cleared fs e)
 
-  pub clear-query : {r : Decision} → th.action ≡ Query → Decides th r (λ h. Full) → Decides th r (cleared on b)
-  clear-query e q = onward q (λ fs. as_cleared fs e)
+  pub clear_query : {r : Decision} → th.action ≡ Query → Decides th r (λ h. Full) → Decides th r (cleared on b)
+  clear_query e q = onward q (λ fs. as_cleared fs e)
 
-  pub clear-top : {r : Decision} → th.action ≡ Join → b.parent ≡ Nil → Decides th r (λ h. says Lacking) → Decides th r (cleared on b)
-  clear-top e l q = onward q (λ fs. ap (λ (y : Link). join_under on y (thread th fs)) (sym l) ∙ as_cleared fs e)
+  pub clear_top : {r : Decision} → th.action ≡ Join → b.parent ≡ Nil → Decides th r (λ h. says Lacking) → Decides th r (cleared on b)
+  clear_top e l q = onward q (λ fs. ap (λ (y : Link). join_under on y (thread th fs)) (sym l) ∙ as_cleared fs e)
 
   under : (fs : List Frame) (v : Bool) {p : ℕ} → th.action ≡ Join → b.parent ≡ To p → on ≡ v → join_under v (To p) (thread th fs) ≡ cleared on b (thread th fs)
   under fs v {p} e l o = ap (λ (y : Bool). join_under y (To p) (thread th fs)) (sym o) ∙ (ap (λ (y : Link). join_under on y (thread th fs)) (sym l) ∙ as_cleared fs e)
 
-  pub clear-join : {p : ℕ} {r : Decision} → th.action ≡ Join → b.parent ≡ To p → on ≡ false → Decides th r (λ h. goes (to_parent 20 p h)) → Decides th r (cleared on b)
-  clear-join e l o q = onward q (λ fs. under fs false e l o)
+  pub clear_join : {p : ℕ} {r : Decision} → th.action ≡ Join → b.parent ≡ To p → on ≡ false → Decides th r (λ h. goes (to_parent 20 p h)) → Decides th r (cleared on b)
+  clear_join e l o q = onward q (λ fs. under fs false e l o)
 
-  pub clear-stop : {p : ℕ} {r : Decision} → th.action ≡ Join → b.parent ≡ To p → on ≡ true → Decides th r (λ h. goes (to_parent 19 p h)) → Decides th r (cleared on b)
-  clear-stop e l o q = onward q (λ fs. under fs true e l o)
+  pub clear_stop : {p : ℕ} {r : Decision} → th.action ≡ Join → b.parent ≡ To p → on ≡ true → Decides th r (λ h. goes (to_parent 19 p h)) → Decides th r (cleared on b)
+  clear_stop e l o q = onward q (λ fs. under fs true e l o)
 
 -- ---- 1, 2
 module _ (on : Bool) (ns : Shapes) (root : ℕ) (th : Notes) {r : Decision} where
@@ -183,80 +183,80 @@ module _ (on : Bool) (ns : Shapes) (root : ℕ) (th : Notes) {r : Decision} wher
   unfolding finding reaching ite
   at_1 h q = onward q (λ fs. rw h)
 
-  pub at-2 : {n : Node} {x : ℕ} → th.place ≡ 2 → n ≡ ns th.route → x ≡ child_for th.station n → Decides th r (following on ns x) → Decides th r (finding th.place on ns root)
+  pub at_2 : {n : Node} {x : ℕ} → th.place ≡ 2 → n ≡ ns th.route → x ≡ child_for th.station n → Decides th r (following on ns x) → Decides th r (finding th.place on ns root)
   unfolding finding following ite
-  at-2 h e k q = onward q (λ fs. rw (k, e, h))
+  at_2 h e k q = onward q (λ fs. rw (k, e, h))
 
-  pub before-3 : (th.place ≡ 1 → ⊥) → (th.place ≡ 2 → ⊥) → Decides th r goes → Decides th r (finding th.place on ns root)
+  pub before_3 : (th.place ≡ 1 → ⊥) → (th.place ≡ 2 → ⊥) → Decides th r goes → Decides th r (finding th.place on ns root)
   unfolding finding ite
-  before-3 f g q = onward q (λ fs. rw (ne_eqb _ _ f, ne_eqb _ _ g))
+  before_3 f g q = onward q (λ fs. rw (ne_eqb _ _ f, ne_eqb _ _ g))
 
 -- ---- 4, 5
 module _ (ns : Shapes) (th : Notes) {r : Decision} where
-  pub at-4 : th.place ≡ 4 → Decides th r (passing ns th.route) → Decides th r (counting th.place ns)
+  pub at_4 : th.place ≡ 4 → Decides th r (passing ns th.route) → Decides th r (counting th.place ns)
   unfolding counting passing ite
-  at-4 h q = onward q (λ fs. rw h)
+  at_4 h q = onward q (λ fs. rw h)
 
   pub at_5 : th.place ≡ 5 → Decides th r (releasing ns) → Decides th r (counting th.place ns)
   unfolding counting releasing ite
   at_5 h q = onward q (λ fs. rw h)
 
-  pub before-10 : (th.place ≡ 4 → ⊥) → (th.place ≡ 5 → ⊥) → Decides th r goes → Decides th r (counting th.place ns)
+  pub before_10 : (th.place ≡ 4 → ⊥) → (th.place ≡ 5 → ⊥) → Decides th r goes → Decides th r (counting th.place ns)
   unfolding counting ite
-  before-10 f g q = onward q (λ fs. rw (ne_eqb _ _ f, ne_eqb _ _ g))
+  before_10 f g q = onward q (λ fs. rw (ne_eqb _ _ f, ne_eqb _ _ g))
 
 -- ---- 3: u is the numbers used
 module _ (ns : Shapes) (root u : ℕ) (ks : Stores) (sh : ℕ) (z : Stop) (th : Notes) where
   -- 3: b is the base, f whether it lacks something, c its check, d whether it is replaceable
   module _ {r : Decision} {b : Node} {f : Bool} (h : th.place ≡ 3) (i : b ≡ ns th.base) (j : f ≡ lacks b (thread th [])) where
-    pub at-3-lacking : f ≡ true → Decides th r (λ h. says Lacking) → Decides th r (step (place_of th.place) (sight ns root u ks sh z))
+    pub at_3_lacking : f ≡ true → Decides th r (λ h. says Lacking) → Decides th r (step (place_of th.place) (sight ns root u ks sh z))
     unfolding step lacks ite
-    at-3-lacking l q = onward q (λ fs. rw (← i, ← j, l) at (placed (sight ns root u ks sh z) (thread th fs) h))
+    at_3_lacking l q = onward q (λ fs. rw (← i, ← j, l) at (placed (sight ns root u ks sh z) (thread th fs) h))
 
-    pub at-3-free : {c : Check} {d : Bool} → f ≡ false → c ≡ check ns ks th.base → d ≡ is_replaceable c → d ≡ true → Decides th r (cleared z.on b) → Decides th r (step (place_of th.place) (sight ns root u ks sh z))
+    pub at_3_free : {c : Check} {d : Bool} → f ≡ false → c ≡ check ns ks th.base → d ≡ is_replaceable c → d ≡ true → Decides th r (cleared z.on b) → Decides th r (step (place_of th.place) (sight ns root u ks sh z))
     unfolding step lacks replaceable ite
-    at-3-free l e k m q = onward q (λ fs. rw (← i, ← j, l, ← e, ← k, m) at (placed (sight ns root u ks sh z) (thread th fs) h))
+    at_3_free l e k m q = onward q (λ fs. rw (← i, ← j, l, ← e, ← k, m) at (placed (sight ns root u ks sh z) (thread th fs) h))
 
-    pub at-3-blocked : {c : Check} {d : Bool} → f ≡ false → c ≡ check ns ks th.base → d ≡ is_replaceable c → d ≡ false → Decides th r (blocked c) → Decides th r (step (place_of th.place) (sight ns root u ks sh z))
+    pub at_3_blocked : {c : Check} {d : Bool} → f ≡ false → c ≡ check ns ks th.base → d ≡ is_replaceable c → d ≡ false → Decides th r (blocked c) → Decides th r (step (place_of th.place) (sight ns root u ks sh z))
     unfolding step lacks replaceable ite
-    at-3-blocked l e k m q = onward q (λ fs. rw (← i, ← j, l, ← e, ← k, m) at (placed (sight ns root u ks sh z) (thread th fs) h))
+    at_3_blocked l e k m q = onward q (λ fs. rw (← i, ← j, l, ← e, ← k, m) at (placed (sight ns root u ks sh z) (thread th fs) h))
 
 -- ---- 15: c is the check of the base. 16: m is the main, b whether it is preparing
 module _ (ns : Shapes) (root u : ℕ) (ks : Stores) (sh : ℕ) (z : Stop) (th : Notes) where
-  pub at-15 : {c : Check} {r : Decision} → th.place ≡ 15 → c ≡ check ns ks th.base → Decides th r (help_by c) → Decides th r (step (place_of th.place) (sight ns root u ks sh z))
+  pub at_15 : {c : Check} {r : Decision} → th.place ≡ 15 → c ≡ check ns ks th.base → Decides th r (help_by c) → Decides th r (step (place_of th.place) (sight ns root u ks sh z))
   unfolding step
-  at-15 h e q = onward q (λ fs. rw e (placed (sight ns root u ks sh z) (thread th fs) h))
+  at_15 h e q = onward q (λ fs. rw e (placed (sight ns root u ks sh z) (thread th fs) h))
 
   module _ {m : Node} {b : Bool} {r : Decision} (h : th.place ≡ 16) (e : m ≡ ns th.main) (k : b ≡ is_preparing m.stage) where
-    pub at-16-kill : b ≡ true → Decides th r (back (Settle th.main Aborted)) → Decides th r (step (place_of th.place) (sight ns root u ks sh z))
+    pub at_16_kill : b ≡ true → Decides th r (back (Settle th.main Aborted)) → Decides th r (step (place_of th.place) (sight ns root u ks sh z))
     unfolding step ite
-    at-16-kill i q = onward q (λ fs. rw (← e, ← k, i) at (placed (sight ns root u ks sh z) (thread th fs) h))
+    at_16_kill i q = onward q (λ fs. rw (← e, ← k, i) at (placed (sight ns root u ks sh z) (thread th fs) h))
 
-    pub at-16-late : b ≡ false → Decides th r (back Quiet) → Decides th r (step (place_of th.place) (sight ns root u ks sh z))
+    pub at_16_late : b ≡ false → Decides th r (back Quiet) → Decides th r (step (place_of th.place) (sight ns root u ks sh z))
     unfolding step ite
-    at-16-late i q = onward q (λ fs. rw (← e, ← k, i) at (placed (sight ns root u ks sh z) (thread th fs) h))
+    at_16_late i q = onward q (λ fs. rw (← e, ← k, i) at (placed (sight ns root u ks sh z) (thread th fs) h))
 
-  pub before-19 : {r : Decision} → 14 ≤ th.place → th.place < 19 → (th.place ≡ 15 → ⊥) → (th.place ≡ 16 → ⊥) → Decides th r goes → Decides th r (step (place_of th.place) (sight ns root u ks sh z))
-  before-19 a h f g q = onward q (λ fs. unlisted (λ p. ltb p 14 || (leb 19 p || (eqb p 15 || eqb p 16))) refl (sight ns root u ks sh z) (thread th fs) (rw (le-ltb _ _ a, lt-leb _ _ h, ne_eqb _ _ f, ne_eqb _ _ g)))
+  pub before_19 : {r : Decision} → 14 ≤ th.place → th.place < 19 → (th.place ≡ 15 → ⊥) → (th.place ≡ 16 → ⊥) → Decides th r goes → Decides th r (step (place_of th.place) (sight ns root u ks sh z))
+  before_19 a h f g q = onward q (λ fs. unlisted (λ p. ltb p 14 || (leb 19 p || (eqb p 15 || eqb p 16))) refl (sight ns root u ks sh z) (thread th fs) (rw (le-ltb _ _ a, lt-leb _ _ h, ne_eqb _ _ f, ne_eqb _ _ g)))
 
-pub ruleset reach_cases = (reach-route, reach-lookup, reach-query, reach-base)
+pub ruleset reach_cases = (reach_route, reach_lookup, reach_query, reach_base)
 
-pub ruleset pass_cases = (pass-route, pass-base)
+pub ruleset pass_cases = (pass_route, pass_base)
 
-pub ruleset follow_cases = (follow-off, follow-few, follow-eighth, follow-more)
+pub ruleset follow_cases = (follow_off, follow_few, follow_eighth, follow_more)
 
-pub ruleset release_cases = (release-lookup, release-query, release_other)
+pub ruleset release_cases = (release_lookup, release_query, release_other)
 
-pub ruleset lacking_cases = (lacks-never, lacks-split, lacks-join)
+pub ruleset lacking_cases = (lacks_never, lacks_split, lacks_join)
 
-pub ruleset clear_cases = (clear-swap, clear-lookup, clear-query, clear-top, clear-join, clear-stop)
+pub ruleset clear_cases = (clear_swap, clear_lookup, clear_query, clear_top, clear_join, clear_stop)
 
-pub ruleset find_cases = (at_1, at-2, before-3)
+pub ruleset find_cases = (at_1, at_2, before_3)
 
-pub ruleset examine_cases = (at-3-lacking, at-3-free, at-3-blocked)
+pub ruleset examine_cases = (at_3_lacking, at_3_free, at_3_blocked)
 
-pub ruleset count_cases = (at-4, at_5, before-10)
+pub ruleset count_cases = (at_4, at_5, before_10)
 
 pub ruleset read_cases = (read_few, read_many, read_none)
 
-pub ruleset unblock_cases = (at-15, at-16-kill, at-16-late, before-19)
+pub ruleset unblock_cases = (at_15, at_16_kill, at_16_late, before_19)

@@ -52,59 +52,59 @@ module _ (ns : Shapes) (root : ℕ) (l : Link) (x : ℕ) (q : Quarter) where
 
   -- with no parent
   module _ (e : l ≡ Nil) where
-    pub root-hit : q ≡ ReadLeft → root ≡ x → Hit Root ≡ probe q l ns root x
+    pub root_hit : q ≡ ReadLeft → root ≡ x → Hit Root ≡ probe q l ns root x
     unfolding probe ite
-    root-hit d h = rw (eq-eqb _ _ h) at (as_probe e d)
+    root_hit d h = rw (eq-eqb _ _ h) at (as_probe e d)
 
-    pub root-miss : q ≡ ReadLeft → (root ≡ x → ⊥) → Miss ≡ probe q l ns root x
+    pub root_miss : q ≡ ReadLeft → (root ≡ x → ⊥) → Miss ≡ probe q l ns root x
     unfolding probe ite
-    root-miss d h = rw (ne_eqb _ _ h) at (as_probe e d)
+    root_miss d h = rw (ne_eqb _ _ h) at (as_probe e d)
 
-    pub root-left : q ≡ SwapLeft → Miss ≡ probe q l ns root x
+    pub root_left : q ≡ SwapLeft → Miss ≡ probe q l ns root x
     unfolding probe
-    root-left d = as_probe e d
+    root_left d = as_probe e d
 
-    pub root-read : q ≡ ReadRight → Miss ≡ probe q l ns root x
+    pub root_read : q ≡ ReadRight → Miss ≡ probe q l ns root x
     unfolding probe
-    root-read d = as_probe e d
+    root_read d = as_probe e d
 
-    pub root-right : q ≡ SwapRight → Miss ≡ probe q l ns root x
+    pub root_right : q ≡ SwapRight → Miss ≡ probe q l ns root x
     unfolding probe
-    root-right d = as_probe e d
+    root_right d = as_probe e d
 
   -- the parent is n
   module _ {p : ℕ} {n : Node} (e : l ≡ To p) (i : n ≡ ns p) where
-    pub left-seen : q ≡ ReadLeft → n.left ≡ x → Next SwapLeft ≡ probe q l ns root x
+    pub left_seen : q ≡ ReadLeft → n.left ≡ x → Next SwapLeft ≡ probe q l ns root x
     unfolding probe ite
-    left-seen d h = rw (← i, eq-eqb _ _ h) at (as_probe e d)
+    left_seen d h = rw (← i, eq-eqb _ _ h) at (as_probe e d)
 
-    pub left-unseen : q ≡ ReadLeft → (n.left ≡ x → ⊥) → Next ReadRight ≡ probe q l ns root x
+    pub left_unseen : q ≡ ReadLeft → (n.left ≡ x → ⊥) → Next ReadRight ≡ probe q l ns root x
     unfolding probe ite
-    left-unseen d h = rw (← i, ne_eqb _ _ h) at (as_probe e d)
+    left_unseen d h = rw (← i, ne_eqb _ _ h) at (as_probe e d)
 
-    pub left-hit : q ≡ SwapLeft → n.left ≡ x → Hit (Under p true) ≡ probe q l ns root x
+    pub left_hit : q ≡ SwapLeft → n.left ≡ x → Hit (Under p true) ≡ probe q l ns root x
     unfolding probe ite
-    left-hit d h = rw (← i, eq-eqb _ _ h) at (as_probe e d)
+    left_hit d h = rw (← i, eq-eqb _ _ h) at (as_probe e d)
 
-    pub left-miss : q ≡ SwapLeft → (n.left ≡ x → ⊥) → Miss ≡ probe q l ns root x
+    pub left_miss : q ≡ SwapLeft → (n.left ≡ x → ⊥) → Miss ≡ probe q l ns root x
     unfolding probe ite
-    left-miss d h = rw (← i, ne_eqb _ _ h) at (as_probe e d)
+    left_miss d h = rw (← i, ne_eqb _ _ h) at (as_probe e d)
 
-    pub right-seen : q ≡ ReadRight → n.right ≡ x → Next SwapRight ≡ probe q l ns root x
+    pub right_seen : q ≡ ReadRight → n.right ≡ x → Next SwapRight ≡ probe q l ns root x
     unfolding probe ite
-    right-seen d h = rw (← i, eq-eqb _ _ h) at (as_probe e d)
+    right_seen d h = rw (← i, eq-eqb _ _ h) at (as_probe e d)
 
-    pub right-unseen : q ≡ ReadRight → (n.right ≡ x → ⊥) → Miss ≡ probe q l ns root x
+    pub right_unseen : q ≡ ReadRight → (n.right ≡ x → ⊥) → Miss ≡ probe q l ns root x
     unfolding probe ite
-    right-unseen d h = rw (← i, ne_eqb _ _ h) at (as_probe e d)
+    right_unseen d h = rw (← i, ne_eqb _ _ h) at (as_probe e d)
 
-    pub right-hit : q ≡ SwapRight → n.right ≡ x → Hit (Under p false) ≡ probe q l ns root x
+    pub right_hit : q ≡ SwapRight → n.right ≡ x → Hit (Under p false) ≡ probe q l ns root x
     unfolding probe ite
-    right-hit d h = rw (← i, eq-eqb _ _ h) at (as_probe e d)
+    right_hit d h = rw (← i, eq-eqb _ _ h) at (as_probe e d)
 
-    pub right-miss : q ≡ SwapRight → (n.right ≡ x → ⊥) → Miss ≡ probe q l ns root x
+    pub right_miss : q ≡ SwapRight → (n.right ≡ x → ⊥) → Miss ≡ probe q l ns root x
     unfolding probe ite
-    right-miss d h = rw (← i, ne_eqb _ _ h) at (as_probe e d)
+    right_miss d h = rw (← i, ne_eqb _ _ h) at (as_probe e d)
 
 -- ---- room for k new nodes where u are used
 has_room : (k u : ℕ) (o : Turn) → u + k ≤ 256 → o ≡ room k u o
@@ -121,23 +121,23 @@ module _ (v : Spot) (b : Node) (u : ℕ) (th : Notes) where
   unfolding replaced
   as_replaced fs e = ap (λ (y : Action). replaced_as y v b u (thread th fs)) (sym e)
 
-  pub replace-lookup : {r : Decision} → th.action ≡ Lookup → Decides th r (λ h. Full) → Decides th r (replaced v b u)
-  replace-lookup e q = onward q (λ fs. as_replaced fs e)
+  pub replace_lookup : {r : Decision} → th.action ≡ Lookup → Decides th r (λ h. Full) → Decides th r (replaced v b u)
+  replace_lookup e q = onward q (λ fs. as_replaced fs e)
 
-  pub replace-join : {r : Decision} → th.action ≡ Join → Decides th r (λ h. Full) → Decides th r (replaced v b u)
-  replace-join e q = onward q (λ fs. as_replaced fs e)
+  pub replace_join : {r : Decision} → th.action ≡ Join → Decides th r (λ h. Full) → Decides th r (replaced v b u)
+  replace_join e q = onward q (λ fs. as_replaced fs e)
 
-  pub replace-query : {r : Decision} → th.action ≡ Query → Decides th r (λ h. Full) → Decides th r (replaced v b u)
-  replace-query e q = onward q (λ fs. as_replaced fs e)
+  pub replace_query : {r : Decision} → th.action ≡ Query → Decides th r (λ h. Full) → Decides th r (replaced v b u)
+  replace_query e q = onward q (λ fs. as_replaced fs e)
 
-  pub insert-full : {r : Decision} → th.action ≡ Insert → 255 < u → Decides th r (λ h. Full) → Decides th r (replaced v b u)
-  insert-full e h q = onward q (λ fs. no_room 1 u _ (omega arith) ∙ as_replaced fs e)
+  pub insert_full : {r : Decision} → th.action ≡ Insert → 255 < u → Decides th r (λ h. Full) → Decides th r (replaced v b u)
+  insert_full e h q = onward q (λ fs. no_room 1 u _ (omega arith) ∙ as_replaced fs e)
 
-  pub remove-full : {r : Decision} → th.action ≡ Remove → 255 < u → Decides th r (λ h. Full) → Decides th r (replaced v b u)
-  remove-full e h q = onward q (λ fs. no_room 1 u _ (omega arith) ∙ as_replaced fs e)
+  pub remove_full : {r : Decision} → th.action ≡ Remove → 255 < u → Decides th r (λ h. Full) → Decides th r (replaced v b u)
+  remove_full e h q = onward q (λ fs. no_room 1 u _ (omega arith) ∙ as_replaced fs e)
 
-  pub split-full : {r : Decision} → th.action ≡ Split → 253 < u → Decides th r (λ h. Full) → Decides th r (replaced v b u)
-  split-full e h q = onward q (λ fs. no_room 3 u _ (omega arith) ∙ as_replaced fs e)
+  pub split_full : {r : Decision} → th.action ≡ Split → 253 < u → Decides th r (λ h. Full) → Decides th r (replaced v b u)
+  split_full e h q = onward q (λ fs. no_room 3 u _ (omega arith) ∙ as_replaced fs e)
 
   pub inserted : {m : Bool} {y : Answer} {r : Decision} → th.action ≡ Insert → u ≤ 255 → m ≡ has b.container th.station → y ≡ said (not m) → Decides th r (λ h. Finishes (Base v u Normal b.parent (With th.base th.station th.extra) 0) y) → Decides th r (replaced v b u)
   inserted e h i y q = onward q (λ fs. rw (y, i) (has_room 1 u _ (omega arith) ∙ as_replaced fs e))
@@ -160,8 +160,8 @@ module _ (ns : Shapes) (root u : ℕ) (ks : Stores) (sh : ℕ) (z : Stop) (th : 
   pub own_next : {k : Quarter} {p : ℕ} {r : Decision} → w ≡ Next k → p ≡ 10 + quarter_number k → Decides th r (λ h. goes (to p h)) → Decides th r (step (swap own q) (sight ns root u ks sh z))
   own_next d i j = onward j (λ fs. rw i (as_own fs d))
 
-  pub own-miss : {r : Decision} → w ≡ Miss → Decides th r lost → Decides th r (step (swap own q) (sight ns root u ks sh z))
-  own-miss d i = onward i (λ fs. as_own fs d)
+  pub own_miss : {r : Decision} → w ≡ Miss → Decides th r lost → Decides th r (step (swap own q) (sight ns root u ks sh z))
+  own_miss d i = onward i (λ fs. as_own fs d)
 
 -- ---- 26 to 29: b is the base found
 module _ (ns : Shapes) (root u : ℕ) (ks : Stores) (sh : ℕ) (z : Stop) (th : Notes) (q : Quarter) {b : Node} {w : Probe} (e : b ≡ ns th.found) (s : w ≡ probe q b.parent ns root th.found) where
@@ -169,17 +169,17 @@ module _ (ns : Shapes) (root u : ℕ) (ks : Stores) (sh : ℕ) (z : Stop) (th : 
   unfolding step
   as_found fs d = rw (← d, s, e)
 
-  pub found-full : {v : Spot} {r : Decision} → w ≡ Hit v → 255 < u → Decides th r (λ h. Full) → Decides th r (step (swap found q) (sight ns root u ks sh z))
-  found-full d h i = onward i (λ fs. no_room 1 u _ (omega arith) ∙ as_found fs d)
+  pub found_full : {v : Spot} {r : Decision} → w ≡ Hit v → 255 < u → Decides th r (λ h. Full) → Decides th r (step (swap found q) (sight ns root u ks sh z))
+  found_full d h i = onward i (λ fs. no_room 1 u _ (omega arith) ∙ as_found fs d)
 
-  pub found-hit : {v : Spot} {r : Decision} → w ≡ Hit v → u ≤ 255 → Decides th r (λ h. Moves (to_neighbour 30 u h) (Base v u Neighbour b.parent (Of th.found) th.main)) → Decides th r (step (swap found q) (sight ns root u ks sh z))
-  found-hit d h i = onward i (λ fs. has_room 1 u _ (omega arith) ∙ as_found fs d)
+  pub found_hit : {v : Spot} {r : Decision} → w ≡ Hit v → u ≤ 255 → Decides th r (λ h. Moves (to_neighbour 30 u h) (Base v u Neighbour b.parent (Of th.found) th.main)) → Decides th r (step (swap found q) (sight ns root u ks sh z))
+  found_hit d h i = onward i (λ fs. has_room 1 u _ (omega arith) ∙ as_found fs d)
 
   pub found_next : {k : Quarter} {p : ℕ} {r : Decision} → w ≡ Next k → p ≡ 26 + quarter_number k → Decides th r (λ h. goes (to p h)) → Decides th r (step (swap found q) (sight ns root u ks sh z))
   found_next d i j = onward j (λ fs. rw i (as_found fs d))
 
-  pub found-miss : {r : Decision} → w ≡ Miss → Decides th r (λ h. goes (to 38 h)) → Decides th r (step (swap found q) (sight ns root u ks sh z))
-  found-miss d i = onward i (λ fs. as_found fs d)
+  pub found_miss : {r : Decision} → w ≡ Miss → Decides th r (λ h. goes (to 38 h)) → Decides th r (step (swap found q) (sight ns root u ks sh z))
+  found_miss d i = onward i (λ fs. as_found fs d)
 
 -- ---- 41 to 44: m is the main, b its neighbour
 module _ (ns : Shapes) (root u : ℕ) (ks : Stores) (sh : ℕ) (z : Stop) (th : Notes) (q : Quarter) {m b : Node} {w : Probe} (f : m ≡ ns th.main) (e : b ≡ ns m.neighbour) (s : w ≡ probe q b.parent ns root m.neighbour) where
@@ -187,21 +187,21 @@ module _ (ns : Shapes) (root u : ℕ) (ks : Stores) (sh : ℕ) (z : Stop) (th : 
   unfolding step
   as_united fs d = rw (← d, s, e, f)
 
-  pub united-hit : {v : Spot} {r : Decision} → w ≡ Hit v → Decides th r (λ h. Moves (to 45 h) (Swing v m.union)) → Decides th r (step (swap united q) (sight ns root u ks sh z))
-  united-hit d i = onward i (λ fs. as_united fs d)
+  pub united_hit : {v : Spot} {r : Decision} → w ≡ Hit v → Decides th r (λ h. Moves (to 45 h) (Swing v m.union)) → Decides th r (step (swap united q) (sight ns root u ks sh z))
+  united_hit d i = onward i (λ fs. as_united fs d)
 
-  pub united-next : {k : Quarter} {p : ℕ} {r : Decision} → w ≡ Next k → p ≡ 41 + quarter_number k → Decides th r (λ h. goes (to p h)) → Decides th r (step (swap united q) (sight ns root u ks sh z))
-  united-next d i j = onward j (λ fs. rw i (as_united fs d))
+  pub united_next : {k : Quarter} {p : ℕ} {r : Decision} → w ≡ Next k → p ≡ 41 + quarter_number k → Decides th r (λ h. goes (to p h)) → Decides th r (step (swap united q) (sight ns root u ks sh z))
+  united_next d i j = onward j (λ fs. rw i (as_united fs d))
 
-  pub united-miss : {r : Decision} → w ≡ Miss → Decides th r (λ h. goes (to 45 h)) → Decides th r (step (swap united q) (sight ns root u ks sh z))
-  united-miss d i = onward i (λ fs. as_united fs d)
+  pub united_miss : {r : Decision} → w ≡ Miss → Decides th r (λ h. goes (to 45 h)) → Decides th r (step (swap united q) (sight ns root u ks sh z))
+  united_miss d i = onward i (λ fs. as_united fs d)
 
-pub ruleset look_cases = (root-hit, root-miss, root-left, root-read, root-right, left-seen, left-unseen, left-hit, left-miss, right-seen, right-unseen, right-hit, right-miss)
+pub ruleset look_cases = (root_hit, root_miss, root_left, root_read, root_right, left_seen, left_unseen, left_hit, left_miss, right_seen, right_unseen, right_hit, right_miss)
 
-pub ruleset replace_cases = (replace-lookup, replace-join, replace-query, insert-full, remove-full, split-full, inserted, removed, parted)
+pub ruleset replace_cases = (replace_lookup, replace_join, replace_query, insert_full, remove_full, split_full, inserted, removed, parted)
 
-pub ruleset own_cases = (own_hit, own_next, own-miss)
+pub ruleset own_cases = (own_hit, own_next, own_miss)
 
-pub ruleset found_cases = (found-full, found-hit, found_next, found-miss)
+pub ruleset found_cases = (found_full, found_hit, found_next, found_miss)
 
-pub ruleset united_cases = (united-hit, united-next, united-miss)
+pub ruleset united_cases = (united_hit, united_next, united_miss)

@@ -85,10 +85,10 @@ module _ (b0 b1 b2 b3 b4 b5 b6 b7 : ℕ) (l0 : b0 < 256) (l1 : b1 < 256) (l2 : b
   more : (k n b w : ℕ) → w ≡ n → n < 2 ^ k → b * 2 ^ k < 2 ^ 64 → bit_or w (b * 2 ^ k % 2 ^ 64) ≡ b * 2 ^ k + n
   more k n b w e h s = ap₂ bit_or e (mod-eq_of_lt s) ∙ or_shifted_r b k n h
 
-  pub eight-bytes : bit_or (bit_or (bit_or (bit_or (bit_or (bit_or (bit_or b0 (b1 * 2 ^ 8 % 2 ^ 64)) (b2 * 2 ^ 16 % 2 ^ 64)) (b3 * 2 ^ 24 % 2 ^ 64)) (b4 * 2 ^ 32 % 2 ^ 64)) (b5 * 2 ^ 40 % 2 ^ 64))
+  pub eight_bytes : bit_or (bit_or (bit_or (bit_or (bit_or (bit_or (bit_or b0 (b1 * 2 ^ 8 % 2 ^ 64)) (b2 * 2 ^ 16 % 2 ^ 64)) (b3 * 2 ^ 24 % 2 ^ 64)) (b4 * 2 ^ 32 % 2 ^ 64)) (b5 * 2 ^ 40 % 2 ^ 64))
       (b6 * 2 ^ 48 % 2 ^ 64)) (b7 * 2 ^ 56 % 2 ^ 64)
       ≡ b0 + 256 * b1 + 65536 * (b2 + 256 * b3 + 65536 * (b4 + 256 * b5 + 65536 * (b6 + 256 * b7)))
-  eight-bytes =
+  eight_bytes =
       let e1 = more 8 b0 b1 _ refl (omega arith) (omega arith) in
       let e2 = more 16 (b1 * 2 ^ 8 + b0) b2 _ e1 (omega arith) (omega arith) in
       let e3 = more 24 (b2 * 2 ^ 16 + (b1 * 2 ^ 8 + b0)) b3 _ e2 (omega arith) (omega arith) in
@@ -160,24 +160,24 @@ module _ (s : List ℕ) (b : Bytes s) where
   picked x y = omega arith
 
   module _ (at : ℕ) (h : 4 ≤ at) where
-    lane-is : (l p q : ℕ) → at + 2 * l ≡ p → at - 4 + 2 * l ≡ q → bit_and (bit_xor (two_bytes s at l) (bit_and (two_bytes s (at - 4) l) 48)) 63 ≡ bit_xor (get_or s p 0 % 64) (step_after (get_or s q 0))
-    lane-is l p q e g =
+    lane_is : (l p q : ℕ) → at + 2 * l ≡ p → at - 4 + 2 * l ≡ q → bit_and (bit_xor (two_bytes s at l) (bit_and (two_bytes s (at - 4) l) 48)) 63 ≡ bit_xor (get_or s p 0 % 64) (step_after (get_or s q 0))
+    lane_is l p q e g =
         lane_apart (get_or s (at + 2 * l) 0) (get_or s (at + 2 * l + 1) 0) (get_or s (at - 4 + 2 * l) 0) (get_or s (at - 4 + 2 * l + 1) 0)
         ∙ ap₂ (λ (m n : ℕ). bit_xor (get_or s m 0 % 64) (step_after (get_or s n 0))) e g
 
-    lanes-are : (l : ℕ) → l < 4 → bit_and (bit_xor (two_bytes s at l) (bit_and (two_bytes s (at - 4) l) 48)) (evens l) ≡ pick (apart s 4 at) (apart s 4 (at + 4)) l
+    lanes_are : (l : ℕ) → l < 4 → bit_and (bit_xor (two_bytes s at l) (bit_and (two_bytes s (at - 4) l) 48)) (evens l) ≡ pick (apart s 4 at) (apart s 4 (at + 4)) l
     unfolding evens pick
-    lanes-are zero _ = lane-is 0 at (at - 4) (omega arith) (omega arith)
-    lanes-are (suc zero) _ = and_zero_r (bit_xor (two_bytes s at 1) (bit_and (two_bytes s (at - 4) 1) 48))
-    lanes-are (suc (suc zero)) _ = lane-is 2 (at + 4) (at + 4 - 4) (omega arith) (omega arith)
-    lanes-are (suc (suc (suc zero))) _ = and_zero_r (bit_xor (two_bytes s at 3) (bit_and (two_bytes s (at - 4) 3) 48))
-    lanes-are (suc (suc (suc (suc l)))) i = absurd (omega arith)
+    lanes_are zero _ = lane_is 0 at (at - 4) (omega arith) (omega arith)
+    lanes_are (suc zero) _ = and_zero_r (bit_xor (two_bytes s at 1) (bit_and (two_bytes s (at - 4) 1) 48))
+    lanes_are (suc (suc zero)) _ = lane_is 2 (at + 4) (at + 4 - 4) (omega arith) (omega arith)
+    lanes_are (suc (suc (suc zero))) _ = and_zero_r (bit_xor (two_bytes s at 3) (bit_and (two_bytes s (at - 4) 3) 48))
+    lanes_are (suc (suc (suc (suc l)))) i = absurd (omega arith)
 
     pub two_is : bit_and (bit_xor (packed 4 (two_bytes s at)) (bit_and (packed 4 (two_bytes s (at - 4))) 13511005043687472)) 270582939711 ≡ apart s 4 at + 4294967296 * apart s 4 (at + 4)
     two_is =
         ap (bit_and (bit_xor (packed 4 (two_bytes s at)) (bit_and (packed 4 (two_bytes s (at - 4))) 13511005043687472))) (sym wide_firsts)
         ∙ (masked (two_bytes s at) (two_bytes s (at - 4)) evens (λ l _. two_low at l) (λ l _. two_low (at - 4) l) (λ l _. evens_low l)
-        ∙ (lanes_same 4 _ (pick (apart s 4 at) (apart s 4 (at + 4))) lanes-are ∙ picked (apart s 4 at) (apart s 4 (at + 4))))
+        ∙ (lanes_same 4 _ (pick (apart s 4 at) (apart s 4 (at + 4))) lanes_are ∙ picked (apart s 4 at) (apart s 4 (at + 4))))
 
 pub apart_low : (s : List ℕ) (w p : ℕ) → apart s w p < 64
 apart_low s w p = xor_lt 6 (get_or s p 0 % 64) (step_after (get_or s (p - w) 0)) (omega arith) (omega arith)

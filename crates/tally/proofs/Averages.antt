@@ -73,8 +73,8 @@ module _ (s n : ℕ) (z : n ≢ 0) where
   unfolding gcd
   right = (common n s n (omega arith)).1
 
-  pub gcd-positive : 0 < g
-  gcd-positive = pos_of_dvd_of_pos right (omega arith)
+  pub gcd_positive : 0 < g
+  gcd_positive = pos_of_dvd_of_pos right (omega arith)
 
   lowest : Lowest (ratio (s / g) (n / g))
   unfolding gcd
@@ -83,7 +83,7 @@ module _ (s n : ℕ) (z : n ≢ 0) where
       let part : d * g ∣ n = rw (div-mul_cancel g right) at (mul-dvd-mul_right d q g) in
       let own : 1 * g ≡ g = omega arith in
       let one : d * g ∣ 1 * g = rw own (greatest (d * g) n s n whole part) in
-      eq-one_of_dvd-one (dvd_of_mul-dvd-mul_right d gcd-positive one)
+      eq-one_of_dvd-one (dvd_of_mul-dvd-mul_right d gcd_positive one)
 
   same : SameRatio s n (ratio (s / g) (n / g))
   same =

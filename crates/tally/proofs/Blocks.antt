@@ -34,19 +34,19 @@ width_some w (inr e) = omega arith
 
 -- ---- 64 records
 module _ (s : List ℕ) (at a b c d : ℕ) where
-  pub block-two : a ≡ bits 16 (λ i. mark s 2 (at + 2 * i)) → b ≡ bits 16 (λ i. mark s 2 (at + 32 + 2 * i))
+  pub block_two : a ≡ bits 16 (λ i. mark s 2 (at + 2 * i)) → b ≡ bits 16 (λ i. mark s 2 (at + 32 + 2 * i))
       → c ≡ bits 16 (λ i. mark s 2 (at + 64 + 2 * i)) → d ≡ bits 16 (λ i. mark s 2 (at + 96 + 2 * i))
       → a + 65536 * b + 4294967296 * c + 281474976710656 * d ≡ bits 64 (λ i. mark s 2 (at + 2 * i))
-  block-two p q r t =
+  block_two p q r t =
       bits_four (λ i. mark s 2 (at + 2 * i)) a b c d p
       (q ∙ bits_same 16 _ _ (λ i _. ap (mark s 2) (omega arith)))
       (r ∙ bits_same 16 _ _ (λ i _. ap (mark s 2) (omega arith)))
       (t ∙ bits_same 16 _ _ (λ i _. ap (mark s 2) (omega arith)))
 
-  pub block-four : a ≡ bits 16 (λ i. mark s 4 (at + 4 * i)) → b ≡ bits 16 (λ i. mark s 4 (at + 64 + 4 * i))
+  pub block_four : a ≡ bits 16 (λ i. mark s 4 (at + 4 * i)) → b ≡ bits 16 (λ i. mark s 4 (at + 64 + 4 * i))
       → c ≡ bits 16 (λ i. mark s 4 (at + 128 + 4 * i)) → d ≡ bits 16 (λ i. mark s 4 (at + 192 + 4 * i))
       → a + 65536 * b + 4294967296 * c + 281474976710656 * d ≡ bits 64 (λ i. mark s 4 (at + 4 * i))
-  block-four p q r t =
+  block_four p q r t =
       bits_four (λ i. mark s 4 (at + 4 * i)) a b c d p
       (q ∙ bits_same 16 _ _ (λ i _. ap (mark s 4) (omega arith)))
       (r ∙ bits_same 16 _ _ (λ i _. ap (mark s 4) (omega arith)))

@@ -14,7 +14,7 @@ use Rattle.container.specs.Choice.{ite}
 use Rattle.season.specs.Tally.{Tally, join, just, sum, taken, refused_once, within, fits, numbers}
 use Rattle.season.specs.Season.{ratio, average, average_of}
 use Rattle.tally.specs.Walk.{answer_place}
-use Rattle.tally.proofs.Sums.{join_larger, join_sum, join-zero, sum_at, sum_assoc, sum_none, more_is, larger_is, smaller_is}
+use Rattle.tally.proofs.Sums.{join_larger, join_sum, join_zero, sum_at, sum_assoc, sum_none, more_is, larger_is, smaller_is}
 use Rattle.tally.proofs.Season.{both}
 
 -- ---- small functions
@@ -54,14 +54,14 @@ module _ (l : List ℕ) (a n : ℕ) (low : a < 8) (long : length l ≡ 65) where
   once_is : numbers once ≡ sum (numbers l) (just (32 + a) n)
   once_is = more_is l (32 + a) n (omega arith) (omega arith)
 
-  pub steps-larger : get_or once (40 + a) 0 < n → numbers (set once (40 + a) n) ≡ sum (numbers l) (taken a n)
+  pub steps_larger : get_or once (40 + a) 0 < n → numbers (set once (40 + a) n) ≡ sum (numbers l) (taken a n)
   unfolding taken
-  steps-larger h =
+  steps_larger h =
       larger_is once (40 + a) n (omega (arith, length-set l (32 + a) (get_or l (32 + a) 0 + n))) (omega arith) h ∙ (ap (λ (t : Tally). sum t (just (40 + a) n)) once_is ∙ sum_assoc (numbers l) (just (32 + a) n) (just (40 + a) n))
 
-  pub steps-smaller : n ≤ get_or once (40 + a) 0 → numbers once ≡ sum (numbers l) (taken a n)
+  pub steps_smaller : n ≤ get_or once (40 + a) 0 → numbers once ≡ sum (numbers l) (taken a n)
   unfolding taken
-  steps-smaller h =
+  steps_smaller h =
       smaller_is once (40 + a) n (omega arith) h ∙ (ap (λ (t : Tally). sum t (just (40 + a) n)) once_is ∙ sum_assoc (numbers l) (just (32 + a) n) (just (40 + a) n))
 
 -- ---- a refusal
@@ -116,7 +116,7 @@ added_all first one tally i l n m a = fun_ext (λ j. by j (dec_lt j i))
   where
     by : (j : ℕ) → Dec (j < i) → get_or tally j 0 ≡ sum (numbers first) (numbers one) j
     by j (yes q) = a.done j q
-    by j (no q) = a.left j (omega arith) ∙ (sym (join-zero j (get_or first j 0)) ∙ (ap (join j (get_or first j 0)) (sym (get_or-eq_default one 0 (omega arith))) ∙ sym (sum_at (numbers first) (numbers one) j)))
+    by j (no q) = a.left j (omega arith) ∙ (sym (join_zero j (get_or first j 0)) ∙ (ap (join j (get_or first j 0)) (sym (get_or-eq_default one 0 (omega arith))) ∙ sym (sum_at (numbers first) (numbers one) j)))
 
 -- what is stored fits, where the sum does
 pub added_fits : (i : ℕ) (first one tally : List ℕ) → i < 65 → Added i first one tally → fits (sum (numbers first) (numbers one)) ≡ true → join i (get_or tally i 0) (get_or one i 0) < 4294967296
@@ -124,14 +124,14 @@ added_fits i first one tally h a e = rw (a.left i (omega arith), ← sum_at (num
 
 -- ---- averages
 module _ (l : List ℕ) (a : ℕ) where
-  pub average-row : {x y z : ℕ} → 0 < a → a < 7 → x ≡ get_or l (32 + a) 0 → y ≡ get_or l (8 + a) 0 → z ≡ get_or l (16 + a) 0 → average x (y + z) ≡ average_of l a
+  pub average_row : {x y z : ℕ} → 0 < a → a < 7 → x ≡ get_or l (32 + a) 0 → y ≡ get_or l (8 + a) 0 → z ≡ get_or l (16 + a) 0 → average x (y + z) ≡ average_of l a
   unfolding average_of ite
-  average-row h k p q r = rw (lt-ltb 0 a h, lt-ltb a 7 k, p, q, r)
+  average_row h k p q r = rw (lt-ltb 0 a h, lt-ltb a 7 k, p, q, r)
 
-  pub average-first : a ≤ 0 → ratio 0 1 ≡ average_of l a
+  pub average_first : a ≤ 0 → ratio 0 1 ≡ average_of l a
   unfolding average_of ite
-  average-first h = rw (le-ltb 0 a h)
+  average_first h = rw (le-ltb 0 a h)
 
-  pub average-past : 7 ≤ a → ratio 0 1 ≡ average_of l a
+  pub average_past : 7 ≤ a → ratio 0 1 ≡ average_of l a
   unfolding average_of ite
-  average-past h = rw (le-ltb a 7 h, and-false (ltb 0 a))
+  average_past h = rw (le-ltb a 7 h, and-false (ltb 0 a))

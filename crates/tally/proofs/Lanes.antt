@@ -35,17 +35,17 @@ Below m f = (t : ℕ) → t < 4 → f t < m
 
 module _ (f : ℕ → ℕ) (h : Below 65536 f) where
   -- a lane is read
-  pub lane-is : (t : ℕ) → t < 4 → packed 4 f / 65536 ^ t % 65536 ≡ f t
+  pub lane_is : (t : ℕ) → t < 4 → packed 4 f / 65536 ^ t % 65536 ≡ f t
   unfolding packed
-  lane-is zero l = omega (arith, h 0 (omega arith), h 1 (omega arith), h 2 (omega arith), h 3 (omega arith))
-  lane-is (suc zero) l = omega (arith, h 0 (omega arith), h 1 (omega arith), h 2 (omega arith), h 3 (omega arith))
-  lane-is (suc (suc zero)) l = omega (arith, h 0 (omega arith), h 1 (omega arith), h 2 (omega arith), h 3 (omega arith))
-  lane-is (suc (suc (suc zero))) l = omega (arith, h 0 (omega arith), h 1 (omega arith), h 2 (omega arith), h 3 (omega arith))
-  lane-is (suc (suc (suc (suc t)))) l = absurd (omega arith)
+  lane_is zero l = omega (arith, h 0 (omega arith), h 1 (omega arith), h 2 (omega arith), h 3 (omega arith))
+  lane_is (suc zero) l = omega (arith, h 0 (omega arith), h 1 (omega arith), h 2 (omega arith), h 3 (omega arith))
+  lane_is (suc (suc zero)) l = omega (arith, h 0 (omega arith), h 1 (omega arith), h 2 (omega arith), h 3 (omega arith))
+  lane_is (suc (suc (suc zero))) l = omega (arith, h 0 (omega arith), h 1 (omega arith), h 2 (omega arith), h 3 (omega arith))
+  lane_is (suc (suc (suc (suc t)))) l = absurd (omega arith)
 
-  pub packed-fits : packed 4 f < 2 ^ 64
+  pub packed_fits : packed 4 f < 2 ^ 64
   unfolding packed
-  packed-fits = omega (arith, h 0 (omega arith), h 1 (omega arith), h 2 (omega arith), h 3 (omega arith))
+  packed_fits = omega (arith, h 0 (omega arith), h 1 (omega arith), h 2 (omega arith), h 3 (omega arith))
 
 -- a lane is changed
 pub lane_changed : (f : ℕ → ℕ) (t v : ℕ) → t < 4 → packed 4 (upd f t v) + f t * 65536 ^ t ≡ packed 4 f + v * 65536 ^ t
@@ -112,9 +112,9 @@ module _ (n w o : ℕ) where
   unfolding closing ite
   closing_none e = rw (eq-eqb w 0 e)
 
-  pub closing-some : w ≢ 0 → closing (suc n) w o ≡ sum (closed (w % 65536) (o % 65536)) (closing n (w / 65536) (o / 65536))
+  pub closing_some : w ≢ 0 → closing (suc n) w o ≡ sum (closed (w % 65536) (o % 65536)) (closing n (w / 65536) (o / 65536))
   unfolding closing ite
-  closing-some e = rw (ne_eqb w 0 e)
+  closing_some e = rw (ne_eqb w 0 e)
 
 -- how many lanes are allowed does not matter where there is none
 pub closing_end : (n w o : ℕ) → w ≡ 0 → closing n w o ≡ empty
@@ -127,7 +127,7 @@ unfolding closes packed
 closing_is zero f o c = closing_end 0 0 0 refl
 closing_is (suc n) f o c = elim (ℕ_discrete (packed (suc n) f) 0) [
   | yes z ↦ closing_none n (packed (suc n) f) (packed (suc n) o) z ∙ sym (closes_none (suc n) f o c z)
-  | no z ↦ closing-some n (packed (suc n) f) (packed (suc n) o) z
+  | no z ↦ closing_some n (packed (suc n) f) (packed (suc n) o) z
       ∙ ap₂ sum
       (ap₂ closed (let e : packed (suc n) f % 65536 ≡ f 0 = omega (arith, c.lane 0 (omega arith)) in e) (let e : packed (suc n) o % 65536 ≡ o 0 = omega (arith, c.left 0 (omega arith)) in e))
       (ap₂ (closing n) (let e : packed (suc n) f / 65536 ≡ packed n (λ t. f (suc t)) = omega (arith, c.lane 0 (omega arith)) in e) (let e : packed (suc n) o / 65536 ≡ packed n (λ t. o (suc t)) = omega (arith, c.left 0 (omega arith)) in e)

@@ -15,8 +15,8 @@ use Rattle.container.specs.Choice.{ite, upd}
 use Rattle.season.specs.Tally.{starts, unfinished, place, Tally, just, sum, taken, numbers}
 use Rattle.tally.specs.Walk.{packed, first_byte, thread_of, lanes, begun, walked, answer_place, answered, finished, closed, closing, Room, lane_in, Ready, Turned, Held}
 use Rattle.tally.proofs.Sums.{sum_assoc, sum_none}
-use Rattle.tally.proofs.Walks.{lanes_step, lanes_start, begun-step, begun-start, walked_step, walked_start, sum_most, taken_most, just_most, lanes-most, begun-most, walked_most, answered_most, finished_most}
-use Rattle.tally.proofs.Lanes.{lane-is, packed-fits, lane_changed, lane_within, unit_small, power_is, closing-some, closing_end}
+use Rattle.tally.proofs.Walks.{lanes_step, lanes_start, begun_step, begun_start, walked_step, walked_start, sum_most, taken_most, just_most, lanes_most, begun_most, walked_most, answered_most, finished_most}
+use Rattle.tally.proofs.Lanes.{lane_is, packed_fits, lane_changed, lane_within, unit_small, power_is, closing_some, closing_end}
 
 -- ---- where a record or a row lies
 pub part_in : (w k d at from n : ℕ) → at ≡ from + w * k → k < d → from + w * d ≤ n → (at + w ≤ n) × (at + w ≡ from + w * (k + 1))
@@ -55,42 +55,42 @@ module _ (file : List ℕ) (w k : ℕ) (first tally : List ℕ) (a b : ℕ) (few
   small = omega arith
 
   lanes_low : (u : ℕ) → u < 4 → lanes file w k u < 65536
-  lanes_low u l = omega (arith, lanes-most file w k u)
+  lanes_low u l = omega (arith, lanes_most file w k u)
 
   -- the lane that is read
   lane_now : a / 65536 ^ thread_of x % 65536 ≡ lanes file w k (thread_of x)
-  lane_now = ap (λ (n : ℕ). n / 65536 ^ thread_of x % 65536) h.lanes ∙ lane-is (lanes file w k) lanes_low (thread_of x) small
+  lane_now = ap (λ (n : ℕ). n / 65536 ^ thread_of x % 65536) h.lanes ∙ lane_is (lanes file w k) lanes_low (thread_of x) small
 
   lanes_fit : packed 4 (lanes file w (suc k)) < 2 ^ 64
-  lanes_fit = packed-fits (lanes file w (suc k)) (λ u l. omega (arith, lanes-most file w (suc k) u))
+  lanes_fit = packed_fits (lanes file w (suc k)) (λ u l. omega (arith, lanes_most file w (suc k) u))
 
   begun_fit : packed 4 (begun file w (suc k)) < 2 ^ 64
-  begun_fit = packed-fits (begun file w (suc k)) (λ u l. omega (arith, begun-most file w (suc k) u))
+  begun_fit = packed_fits (begun file w (suc k)) (λ u l. omega (arith, begun_most file w (suc k) u))
 
   -- a step
   module _ (s : x % 16 ≡ 0) where
-    step-lanes : a + 8 * 65536 ^ thread_of x ≡ packed 4 (lanes file w (suc k))
-    step-lanes = omega (arith, h.lanes, ap (packed 4) (lanes_step file w k x e s), lane_changed (lanes file w k) (thread_of x) (lanes file w k (thread_of x) + 8) small)
+    step_lanes : a + 8 * 65536 ^ thread_of x ≡ packed 4 (lanes file w (suc k))
+    step_lanes = omega (arith, h.lanes, ap (packed 4) (lanes_step file w k x e s), lane_changed (lanes file w k) (thread_of x) (lanes file w k (thread_of x) + 8) small)
 
     step_fits : a + 8 * 65536 ^ thread_of x < 2 ^ 64
-    step_fits = omega (arith, step-lanes, lanes_fit)
+    step_fits = omega (arith, step_lanes, lanes_fit)
 
-    step-held : Held file w (k + 1) first tally (a + 8 * 65536 ^ thread_of x) b
-    step-held = rw (add-one k) (record { counts = h.counts ∙ ap (sum (numbers first)) (sym (walked_step file w k x e s)); lanes = step-lanes; begun = h.begun ∙ ap (packed 4) (sym (begun-step file w k x e s)) })
+    step_held : Held file w (k + 1) first tally (a + 8 * 65536 ^ thread_of x) b
+    step_held = rw (add-one k) (record { counts = h.counts ∙ ap (sum (numbers first)) (sym (walked_step file w k x e s)); lanes = step_lanes; begun = h.begun ∙ ap (packed 4) (sym (begun_step file w k x e s)) })
 
   -- a start
   module _ (s : x % 16 ≢ 0) (v : ℕ) (ev : v ≡ lanes file w k (thread_of x)) where
-    start-lanes : packed 4 (lanes file w (suc k)) + v * 65536 ^ thread_of x ≡ a + x % 8 * 65536 ^ thread_of x
-    start-lanes = rw ev (ap (λ (n : ℕ). n + lanes file w k (thread_of x) * 65536 ^ thread_of x) (ap (packed 4) (lanes_start file w k x e s)) ∙ (lane_changed (lanes file w k) (thread_of x) (x % 8) small ∙ ap (λ (n : ℕ). n + x % 8 * 65536 ^ thread_of x) (sym h.lanes)))
+    start_lanes : packed 4 (lanes file w (suc k)) + v * 65536 ^ thread_of x ≡ a + x % 8 * 65536 ^ thread_of x
+    start_lanes = rw ev (ap (λ (n : ℕ). n + lanes file w k (thread_of x) * 65536 ^ thread_of x) (ap (packed 4) (lanes_start file w k x e s)) ∙ (lane_changed (lanes file w k) (thread_of x) (x % 8) small ∙ ap (λ (n : ℕ). n + x % 8 * 65536 ^ thread_of x) (sym h.lanes)))
 
     start_begun : b + 65536 ^ thread_of x ≡ packed 4 (begun file w (suc k))
-    start_begun = omega (arith, h.begun, ap (packed 4) (begun-start file w k x e s), lane_changed (begun file w k) (thread_of x) (begun file w k (thread_of x) + 1) small)
+    start_begun = omega (arith, h.begun, ap (packed 4) (begun_start file w k x e s), lane_changed (begun file w k) (thread_of x) (begun file w k (thread_of x) + 1) small)
 
     out : v * 65536 ^ thread_of x ≤ a
     out = rw (ev, h.lanes) (lane_within (lanes file w k) (thread_of x) small)
 
     start_fits : (v * 65536 ^ thread_of x ≤ a) × ((a - v * 65536 ^ thread_of x + x % 8 * 65536 ^ thread_of x < 2 ^ 64) × (b + 65536 ^ thread_of x < 2 ^ 64))
-    start_fits = (out, (omega (arith, start-lanes, lanes_fit, out), omega (arith, start_begun, begun_fit)))
+    start_fits = (out, (omega (arith, start_lanes, lanes_fit, out), omega (arith, start_begun, begun_fit)))
 
     start_held : (m : List ℕ) → numbers m ≡ sum (sum (numbers tally) (taken (v % 8) (v / 8))) (just (x % 8) 1)
         → Held file w (k + 1) first m (a - v * 65536 ^ thread_of x + x % 8 * 65536 ^ thread_of x) (b + 65536 ^ thread_of x)
@@ -98,7 +98,7 @@ module _ (file : List ℕ) (w k : ℕ) (first tally : List ℕ) (a b : ℕ) (few
       counts = g
           ∙ (ap (λ (u : Tally). sum u (just (x % 8) 1)) (ap₂ sum h.counts (ap (λ (n : ℕ). taken (n % 8) (n / 8)) ev) ∙ sum_assoc (numbers first) (walked file w k) _)
           ∙ (sum_assoc (numbers first) _ _ ∙ ap (sum (numbers first)) (sym (walked_start file w k x e s))));
-      lanes = omega (arith, start-lanes, out);
+      lanes = omega (arith, start_lanes, out);
       begun = start_begun;
     })
 
@@ -107,29 +107,29 @@ module _ (file : List ℕ) (w k : ℕ) (first tally : List ℕ) (a b : ℕ) (few
     thread_is : thread_of x ≡ x / 16
     thread_is = omega arith
 
-    lane-found : lane_in x a ≡ lanes file w k (thread_of x)
-    lane-found = ap (λ (t : ℕ). a / 65536 ^ t % 65536) (sym thread_is) ∙ lane_now
+    lane_found : lane_in x a ≡ lanes file w k (thread_of x)
+    lane_found = ap (λ (t : ℕ). a / 65536 ^ t % 65536) (sym thread_is) ∙ lane_now
 
-    room-now : Room first 33554432 → Room tally 10000
-    room-now r = room_less first tally (walked file w k) (4097 * 4096) 10000 h.counts (λ i. omega (arith, walked_most file w k i (omega arith))) (room_fewer first (10000 + 4097 * 4096) 33554432 (omega arith) r)
+    room_now : Room first 33554432 → Room tally 10000
+    room_now r = room_less first tally (walked file w k) (4097 * 4096) 10000 h.counts (λ i. omega (arith, walked_most file w k i (omega arith))) (room_fewer first (10000 + 4097 * 4096) 33554432 (omega arith) r)
 
     pub ready : Room first 33554432 → Ready x a b tally
     ready r = record {
       low = low;
-      word = rw h.lanes (packed-fits (lanes file w k) lanes_low);
-      other = rw h.begun (packed-fits (begun file w k) (λ u l. omega (arith, begun-most file w k u)));
+      word = rw h.lanes (packed_fits (lanes file w k) lanes_low);
+      other = rw h.begun (packed_fits (begun file w k) (λ u l. omega (arith, begun_most file w k u)));
       step = λ s. rw (← thread_is) (step_fits s);
       start = λ s. rw (← thread_is) (start_fits s (a / 65536 ^ thread_of x % 65536) lane_now);
-      room = room-now r;
+      room = room_now r;
     }
 
-    pub turned-held : (a' b' : ℕ) (l : List ℕ) → Turned x a b tally a' b' l → Held file w (k + 1) first l a' b'
-    turned-held a' b' l t = elim (ℕ_discrete (x % 16) 0) [
-      | yes s ↦ let z = step-held s in
+    pub turned_held : (a' b' : ℕ) (l : List ℕ) → Turned x a b tally a' b' l → Held file w (k + 1) first l a' b'
+    turned_held a' b' l t = elim (ℕ_discrete (x % 16) 0) [
+      | yes s ↦ let z = step_held s in
           let (p, (q, f)) = t.step s in
           record { counts = f ∙ z.counts; lanes = p ∙ (ap (λ (n : ℕ). a + 8 * 65536 ^ n) (sym thread_is) ∙ z.lanes); begun = q ∙ z.begun }
       | no s ↦ let (p, (q, f)) = t.start s in
-          let z = start_held s (lane_in x a) lane-found l f in
+          let z = start_held s (lane_in x a) lane_found l f in
           record { counts = z.counts; lanes = p ∙ (ap (λ (n : ℕ). a - lane_in x a * 65536 ^ n + x % 8 * 65536 ^ n) (sym thread_is) ∙ z.lanes); begun = q ∙ (ap (λ (n : ℕ). b + 65536 ^ n) (sym thread_is) ∙ z.begun) }
     ]
 
@@ -150,8 +150,8 @@ unfolding answered finished packed
 answering_none rows w first = record { counts = sym (sum_none (numbers first)); ended = refl }
 
 module _ (rows : List ℕ) (w m : ℕ) (first tally : List ℕ) (b : ℕ) (few : m < 4096) (h : Answering rows w m first tally b) (at : ℕ) (e : at ≡ w * m) where
-  pub room-answer : Room first 4096 → Room tally 1
-  room-answer r = room_less first tally (answered rows w m) 4095 1 h.counts (λ i. omega (arith, answered_most rows w m i)) r
+  pub room_answer : Room first 4096 → Room tally 1
+  room_answer r = room_less first tally (answered rows w m) 4095 1 h.counts (λ i. omega (arith, answered_most rows w m i)) r
 
   finished_on : finished rows w (suc m) ≡ upd (finished rows w m) (get_or rows at 0 % 4) (finished rows w m (get_or rows at 0 % 4) + 1)
   unfolding finished
@@ -164,12 +164,12 @@ module _ (rows : List ℕ) (w m : ℕ) (first tally : List ℕ) (b : ℕ) (few :
   next_ended : b + 65536 ^ (get_or rows at 0 % 4) ≡ packed 4 (finished rows w (suc m))
   next_ended = omega (arith, h.ended, ap (packed 4) finished_on, lane_changed (finished rows w m) (get_or rows at 0 % 4) (finished rows w m (get_or rows at 0 % 4) + 1) (omega arith))
 
-  pub ended-fits : b + 65536 ^ (get_or rows at 0 % 4) < 2 ^ 64
-  ended-fits = omega (arith, next_ended, packed-fits (finished rows w (suc m)) (λ u l. omega (arith, finished_most rows w (suc m) u)))
+  pub ended_fits : b + 65536 ^ (get_or rows at 0 % 4) < 2 ^ 64
+  ended_fits = omega (arith, next_ended, packed_fits (finished rows w (suc m)) (λ u l. omega (arith, finished_most rows w (suc m) u)))
 
-  pub answering-next : (l : List ℕ) (i : ℕ) → i ≡ answer_place (get_or rows (at + 3) 0) (get_or rows (at + 1) 0 % 8) → numbers l ≡ sum (numbers tally) (just i 1)
+  pub answering_next : (l : List ℕ) (i : ℕ) → i ≡ answer_place (get_or rows (at + 3) 0) (get_or rows (at + 1) 0 % 8) → numbers l ≡ sum (numbers tally) (just i 1)
       → Answering rows w (m + 1) first l (b + 65536 ^ (get_or rows at 0 % 4))
-  answering-next l i q f = rw (add-one m) (record { counts = f ∙ (ap₂ sum h.counts (ap (λ (n : ℕ). just n 1) q) ∙ (sum_assoc (numbers first) (answered rows w m) _ ∙ ap (sum (numbers first)) (sym answered_on))); ended = next_ended })
+  answering_next l i q f = rw (add-one m) (record { counts = f ∙ (ap₂ sum h.counts (ap (λ (n : ℕ). just n 1) q) ∙ (sum_assoc (numbers first) (answered rows w m) _ ∙ ap (sum (numbers first)) (sym answered_on))); ended = next_ended })
 
 -- ---- the last operations
 pub record Closes (total : Tally) (tally : List ℕ) (w o : ℕ) : Type 0 where
@@ -198,7 +198,7 @@ module _ (total : Tally) (l : List ℕ) (w o : ℕ) (some : w ≢ 0) where
   by_lanes (suc n) h e r k u b f g = record {
     lanes = n;
     low = omega arith;
-    left = ap (λ (t : Tally). sum t (closing n (w / 65536) (o / 65536))) f ∙ (sum_assoc (numbers l) u (closing n (w / 65536) (o / 65536)) ∙ (ap (λ (t : Tally). sum (numbers l) (sum t (closing n (w / 65536) (o / 65536)))) (sym g) ∙ (ap (sum (numbers l)) (sym (closing-some n w o some)) ∙ e)));
+    left = ap (λ (t : Tally). sum t (closing n (w / 65536) (o / 65536))) f ∙ (sum_assoc (numbers l) u (closing n (w / 65536) (o / 65536)) ∙ (ap (λ (t : Tally). sum (numbers l) (sum t (closing n (w / 65536) (o / 65536)))) (sym g) ∙ (ap (sum (numbers l)) (sym (closing_some n w o some)) ∙ e)));
     room = room_less l k u 8192 (8192 * n) f b (room_fewer l (8192 * n + 8192) (8192 * suc n) (omega arith) r);
   }
 
@@ -207,11 +207,11 @@ module _ (total : Tally) (l : List ℕ) (w o : ℕ) (some : w ≢ 0) where
   room_by (suc n) h r = room_fewer l 8192 (8192 * suc n) (omega arith) r
 
   module _ (c : Closes total l w o) where
-    pub closes-room : Room l 8192
-    closes-room = room_by c.lanes c.low c.room
+    pub closes_room : Room l 8192
+    closes_room = room_by c.lanes c.low c.room
 
-    pub closes-steps : (k : List ℕ) → o % 65536 ≡ 0 → numbers k ≡ sum (numbers l) (taken (w % 65536 % 8) (w % 65536 / 8)) → Closes total k (w / 65536) (o / 65536)
-    closes-steps k z f = by_lanes c.lanes c.low c.left c.room k (taken (w % 65536 % 8) (w % 65536 / 8)) (λ i. omega (arith, taken_most (w % 65536 % 8) (w % 65536 / 8) i)) f (closed_steps (w % 65536) (o % 65536) z)
+    pub closes_steps : (k : List ℕ) → o % 65536 ≡ 0 → numbers k ≡ sum (numbers l) (taken (w % 65536 % 8) (w % 65536 / 8)) → Closes total k (w / 65536) (o / 65536)
+    closes_steps k z f = by_lanes c.lanes c.low c.left c.room k (taken (w % 65536 % 8) (w % 65536 / 8)) (λ i. omega (arith, taken_most (w % 65536 % 8) (w % 65536 / 8) i)) f (closed_steps (w % 65536) (o % 65536) z)
 
-    pub closes-one : (k : List ℕ) → o % 65536 ≢ 0 → numbers k ≡ sum (numbers l) (just (24 + w % 65536 % 8) 1) → Closes total k (w / 65536) (o / 65536)
-    closes-one k z f = by_lanes c.lanes c.low c.left c.room k (just (24 + w % 65536 % 8) 1) (λ i. omega (arith, just_most (24 + w % 65536 % 8) 1 i)) f (closed_one (w % 65536) (o % 65536) z)
+    pub closes_one : (k : List ℕ) → o % 65536 ≢ 0 → numbers k ≡ sum (numbers l) (just (24 + w % 65536 % 8) 1) → Closes total k (w / 65536) (o / 65536)
+    closes_one k z f = by_lanes c.lanes c.low c.left c.room k (just (24 + w % 65536 % 8) 1) (λ i. omega (arith, just_most (24 + w % 65536 % 8) 1 i)) f (closed_one (w % 65536) (o % 65536) z)

@@ -69,8 +69,8 @@ module _ (file : List ℕ) (w d : ℕ) (wide : Width w) (long : 64 < d) (few : d
   pub first_marks : Width w × ((65 * w ≤ 3 + w + w * (d - 1)) × ((w ≤ 3 + w) × (3 + w + w * (d - 1) ≤ length file)))
   first_marks = marks_in 1 (3 + w) (omega arith) (omega arith) (omega arith)
 
-  pub walking-first : (m a b : ℕ) (l : List ℕ) → m ≡ bits (block_size (d - 1)) (λ i. mark file w (3 + w + w * i)) → Walking file w d 1 (3 + w) m l a b 1 l a b
-  walking-first m a b l e = record { some = omega arith; end = omega arith; at = omega arith; marks = e; held = λ first h. h }
+  pub walking_first : (m a b : ℕ) (l : List ℕ) → m ≡ bits (block_size (d - 1)) (λ i. mark file w (3 + w + w * i)) → Walking file w d 1 (3 + w) m l a b 1 l a b
+  walking_first m a b l e = record { some = omega arith; end = omega arith; at = omega arith; marks = e; held = λ first h. h }
 
   module _ (k p ahead : ℕ) (l : List ℕ) (a b k₀ : ℕ) (l₀ : List ℕ) (a₀ b₀ : ℕ) (h : Walking file w d k p ahead l a b k₀ l₀ a₀ b₀) (more : k < d) (n : ℕ) (e : n ≡ block_size (d - k)) where
     size : (1 ≤ n) × ((n ≤ 64) × (n ≤ d - k))

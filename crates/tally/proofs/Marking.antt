@@ -121,9 +121,9 @@ module _ (f : ℕ → ℕ) (h : (i : ℕ) → f i ≤ 1) where
   unfolding packed lane
   word_is = omega arith
 
-  pub sixteen-is : let e = word % 4294967296 + 4 * (word / 4294967296) in e % 65536 + 2 * (e / 65536) ≡ bits 16 f
+  pub sixteen_is : let e = word % 4294967296 + 4 * (word / 4294967296) in e % 65536 + 2 * (e / 65536) ≡ bits 16 f
   unfolding bits lane
-  sixteen-is = folded (lane 0) (lane 1) (lane 2) (lane 3) (lane_low 0) (lane_low 1) (lane_low 2) (lane_low 3) word word_is ∙ omega arith
+  sixteen_is = folded (lane 0) (lane 1) (lane 2) (lane 3) (lane_low 0) (lane_low 1) (lane_low 2) (lane_low 3) word word_is ∙ omega arith
 
 -- the same with lanes 1 and 2 in each other's place
 module _ (f : ℕ → ℕ) (h : (i : ℕ) → f i ≤ 1) where
@@ -134,9 +134,9 @@ module _ (f : ℕ → ℕ) (h : (i : ℕ) → f i ≤ 1) where
   unfolding packed lane
   word_wide_is = omega arith
 
-  pub sixteen-wide-is : let e = word_wide % 4294967296 + 2 * (word_wide / 4294967296) in e % 65536 + 4 * (e / 65536) ≡ bits 16 f
+  pub sixteen_wide_is : let e = word_wide % 4294967296 + 2 * (word_wide / 4294967296) in e % 65536 + 4 * (e / 65536) ≡ bits 16 f
   unfolding bits lane
-  sixteen-wide-is =
+  sixteen_wide_is =
       folded_wide (lane f h 0) (lane f h 1) (lane f h 2) (lane f h 3) (lane_low f h 0) (lane_low f h 1) (lane_low f h 2) (lane_low f h 3) word_wide word_wide_is ∙ omega arith
 
 -- ---- from the words of the code
@@ -152,8 +152,8 @@ module _ (s : List ℕ) (w : ℕ) (f g : ℕ → ℕ) (a c : ℕ) (p : a ≡ pac
   )
 
   -- two words of four records, marked
-  pub pair-marks : bit_and (a + 256 * c + 4557430888798830399) 4629771061636907072 / 64 ≡ packed 4 (λ l. mark s w (f l) + 256 * mark s w (g l))
-  pair-marks =
+  pub pair_marks : bit_and (a + 256 * c + 4557430888798830399) 4629771061636907072 / 64 ≡ packed 4 (λ l. mark s w (f l) + 256 * mark s w (g l))
+  pair_marks =
       ap₂ (λ (x y : ℕ). bit_and (x + 256 * y + 4557430888798830399) 4629771061636907072 / 64) p q
       ∙ (pair_is (λ l. apart s w (f l)) (λ l. apart s w (g l)) (λ l _. apart_low s w (f l)) (λ l _. apart_low s w (g l))
       ∙ lanes_same 4 (λ l. sign (apart s w (f l)) + 256 * sign (apart s w (g l))) (λ l. mark s w (f l) + 256 * mark s w (g l))

@@ -30,8 +30,8 @@ use Rattle.season.specs.Tally.{starts, place, Tally, empty, just, sum, Ledger, l
 use Rattle.tally.specs.Walk.{first_byte, thread_of, lanes, begun, walked, answer_place, answered, finished}
 use Rattle.tally.proofs.Sums.{sum_comm, sum_assoc, sum_none, none_sum, sum_swap, just_none}
 use Rattle.tally.proofs.Threads.{four, others, four_split, others_same, four_same}
-use Rattle.tally.proofs.RowsRead.{answered-more, finished-more}
-use Rattle.tally.proofs.Walks.{upd_same, upd_other, lanes_step, lanes_start, begun-step, begun-start, walked_step, walked_start}
+use Rattle.tally.proofs.RowsRead.{answered_more, finished_more}
+use Rattle.tally.proofs.Walks.{upd_same, upd_other, lanes_step, lanes_start, begun_step, begun_start, walked_step, walked_start}
 
 -- ---- numbers of actions and answers
 
@@ -72,21 +72,21 @@ unfoldable pub busy_count : Thread → ℕ
 busy_count th = ite (is_idle th) 0 1
 
 module _ (th : Thread) where
-  pub rest-idle : (e : ℕ) → is_idle th ≡ true → rest th e ≡ taken (e % 8) (e / 8)
+  pub rest_idle : (e : ℕ) → is_idle th ≡ true → rest th e ≡ taken (e % 8) (e / 8)
   unfolding rest ite
-  rest-idle e i = rw i
+  rest_idle e i = rw i
 
-  pub rest-busy : (e : ℕ) → is_idle th ≡ false → rest th e ≡ empty
+  pub rest_busy : (e : ℕ) → is_idle th ≡ false → rest th e ≡ empty
   unfolding rest ite
-  rest-busy e i = rw i
+  rest_busy e i = rw i
 
-  pub count-idle : is_idle th ≡ true → busy_count th ≡ 0
+  pub count_idle : is_idle th ≡ true → busy_count th ≡ 0
   unfolding busy_count ite
-  count-idle i = rw i
+  count_idle i = rw i
 
-  pub count-busy : is_idle th ≡ false → busy_count th ≡ 1
+  pub count_busy : is_idle th ≡ false → busy_count th ≡ 1
   unfolding busy_count ite
-  count-busy i = rw i
+  count_busy i = rw i
 
 -- ---- the ledger's entries
 
@@ -141,17 +141,17 @@ module _ (file : List ℕ) (n : ℕ) (p : Progress) (l : Ledger) (m : Matches fi
     own_lane : afterwards (x / 16) ≡ v
     own_lane = ap (λ (f : ℕ → ℕ). f (x / 16)) el ∙ upd_same before (x / 16) v
 
-    other-thread : (t : ℕ) → t ≢ x / 16 → b.threads t ≡ p.bench.threads t
-    other-thread t h = ap (λ (f : ℕ → Thread). f t) et ∙ upd_other p.bench.threads (x / 16) next t h
+    other_thread : (t : ℕ) → t ≢ x / 16 → b.threads t ≡ p.bench.threads t
+    other_thread t h = ap (λ (f : ℕ → Thread). f t) et ∙ upd_other p.bench.threads (x / 16) next t h
 
-    other-lane : (t : ℕ) → t ≢ x / 16 → afterwards t ≡ before t
-    other-lane t h = ap (λ (f : ℕ → ℕ). f t) el ∙ upd_other before (x / 16) v t h
+    other_lane : (t : ℕ) → t ≢ x / 16 → afterwards t ≡ before t
+    other_lane t h = ap (λ (f : ℕ → ℕ). f t) el ∙ upd_other before (x / 16) v t h
 
-    others-kept : others leaves (x / 16) ≡ others left (x / 16)
-    others-kept = others_same leaves left (x / 16) small (λ t _ h. ap₂ rest (other-thread t h) (other-lane t h))
+    others_kept : others leaves (x / 16) ≡ others left (x / 16)
+    others_kept = others_same leaves left (x / 16) small (λ t _ h. ap₂ rest (other_thread t h) (other_lane t h))
 
-    four-now : four leaves ≡ sum (rest next v) (others left (x / 16))
-    four-now = four_split leaves (x / 16) small ∙ ap₂ sum (ap₂ rest own_thread own_lane) others-kept
+    four_now : four leaves ≡ sum (rest next v) (others left (x / 16))
+    four_now = four_split leaves (x / 16) small ∙ ap₂ sum (ap₂ rest own_thread own_lane) others_kept
 
   four_then : four left ≡ sum (rest (p.bench.threads (x / 16)) (before (x / 16))) (others left (x / 16))
   four_then = four_split left (x / 16) small
@@ -180,33 +180,33 @@ module _ (file : List ℕ) (n : ℕ) (p : Progress) (l : Ledger) (m : Matches fi
     abbrev nx : Thread
     nx = s.new
 
-    start-lanes : afterwards ≡ upd before (x / 16) (x % 8)
-    start-lanes = lanes_start file (width file) p.done x ex some ∙ ap (λ (t : ℕ). upd before t (x % 8)) thread_is
+    start_lanes : afterwards ≡ upd before (x / 16) (x % 8)
+    start_lanes = lanes_start file (width file) p.done x ex some ∙ ap (λ (t : ℕ). upd before t (x % 8)) thread_is
 
-    start-counts : sum (sum (walked file (width file) (suc p.done)) (answered (p.rows ++ []) (row_width file) (0 + p.finished))) (four leaves) ≡ sum l.counts (just (place starts (x % 16)) 1)
-    start-counts =
+    start_counts : sum (sum (walked file (width file) (suc p.done)) (answered (p.rows ++ []) (row_width file) (0 + p.finished))) (four leaves) ≡ sum l.counts (just (place starts (x % 16)) 1)
+    start_counts =
         ap₂ sum
         (ap₂ sum (walked_start file (width file) p.done x ex some ∙ ap (λ (t : ℕ). sum (sum (walked file (width file) p.done) (taken (before t % 8) (before t / 8))) (just (place starts (x % 8)) 1)) thread_is) answered_quiet)
-        (four-now nx (x % 8) s.threads start-lanes ∙ (ap (λ (t : Tally). sum t (others left (x / 16))) (rest-busy nx (x % 8) s.busy) ∙ none_sum (others left (x / 16))))
+        (four_now nx (x % 8) s.threads start_lanes ∙ (ap (λ (t : Tally). sum t (others left (x / 16))) (rest_busy nx (x % 8) s.busy) ∙ none_sum (others left (x / 16))))
         ∙ (regroup (walked file (width file) p.done) (taken (before (x / 16) % 8) (before (x / 16) / 8)) (just (place starts (x % 8)) 1) (answered p.rows (row_width file) p.finished) (others left (x / 16))
         ∙ ap₂ sum
-        (ap (sum (sum (walked file (width file) p.done) (answered p.rows (row_width file) p.finished))) (ap (λ (t : Tally). sum t (others left (x / 16))) (sym (rest-idle (p.bench.threads (x / 16)) (before (x / 16)) s.rested)) ∙ sym four_then) ∙ m.counts)
+        (ap (sum (sum (walked file (width file) p.done) (answered p.rows (row_width file) p.finished))) (ap (λ (t : Tally). sum t (others left (x / 16))) (sym (rest_idle (p.bench.threads (x / 16)) (before (x / 16)) s.rested)) ∙ sym four_then) ∙ m.counts)
         (ap (λ (a : ℕ). just (place starts a) 1) low))
 
-    pub start-matches : Matches file (suc n) (advance_by file p (x / 16) (carried b no_row)) (ledger_of (upd l.own (x / 16) 0) (sum l.counts (just (place starts (x % 16)) 1)))
-    start-matches = record {
-      counts = start-counts;
+    pub start_matches : Matches file (suc n) (advance_by file p (x / 16) (carried b no_row)) (ledger_of (upd l.own (x / 16) 0) (sum l.counts (just (place starts (x % 16)) 1)))
+    start_matches = record {
+      counts = start_counts;
       own = λ t h. elim (ℕ_discrete t (x / 16)) [
-        | yes q ↦ rw (q, own_lane nx (x % 8) s.threads start-lanes, upd_same l.own (x / 16) 0) (omega arith)
-        | no q ↦ rw (other-lane nx (x % 8) s.threads start-lanes t q, upd_other l.own (x / 16) 0 t q) (m.own t h)
+        | yes q ↦ rw (q, own_lane nx (x % 8) s.threads start_lanes, upd_same l.own (x / 16) 0) (omega arith)
+        | no q ↦ rw (other_lane nx (x % 8) s.threads start_lanes t q, upd_other l.own (x / 16) 0 t q) (m.own t h)
       ];
       action = λ t h. elim (ℕ_discrete t (x / 16)) [
-        | yes q ↦ λ _. rw (q, own_lane nx (x % 8) s.threads start-lanes, own_thread nx (x % 8) s.threads start-lanes, s.action) (omega (arith, low, s.number, number_small s.what))
-        | no q ↦ λ i. rw (other-lane nx (x % 8) s.threads start-lanes t q, other-thread nx (x % 8) s.threads start-lanes t q) (m.action t h (sym (ap is_idle (other-thread nx (x % 8) s.threads start-lanes t q)) ∙ i))
+        | yes q ↦ λ _. rw (q, own_lane nx (x % 8) s.threads start_lanes, own_thread nx (x % 8) s.threads start_lanes, s.action) (omega (arith, low, s.number, number_small s.what))
+        | no q ↦ λ i. rw (other_lane nx (x % 8) s.threads start_lanes t q, other_thread nx (x % 8) s.threads start_lanes t q) (m.action t h (sym (ap is_idle (other_thread nx (x % 8) s.threads start_lanes t q)) ∙ i))
       ];
       begun = λ t h. elim (ℕ_discrete t (x / 16)) [
-        | yes q ↦ rw (q, finished_quiet, begun-start file (width file) p.done x ex some, thread_is, own_thread nx (x % 8) s.threads start-lanes, upd_same (begun file (width file) p.done) (x / 16) (begun file (width file) p.done (x / 16) + 1), count-busy nx s.busy) (omega (arith, m.begun (x / 16) small, count-idle (p.bench.threads (x / 16)) s.rested))
-        | no q ↦ rw (finished_quiet, begun-start file (width file) p.done x ex some, thread_is, other-thread nx (x % 8) s.threads start-lanes t q, upd_other (begun file (width file) p.done) (x / 16) (begun file (width file) p.done (x / 16) + 1) t q) (m.begun t h)
+        | yes q ↦ rw (q, finished_quiet, begun_start file (width file) p.done x ex some, thread_is, own_thread nx (x % 8) s.threads start_lanes, upd_same (begun file (width file) p.done) (x / 16) (begun file (width file) p.done (x / 16) + 1), count_busy nx s.busy) (omega (arith, m.begun (x / 16) small, count_idle (p.bench.threads (x / 16)) s.rested))
+        | no q ↦ rw (finished_quiet, begun_start file (width file) p.done x ex some, thread_is, other_thread nx (x % 8) s.threads start_lanes t q, upd_other (begun file (width file) p.done) (x / 16) (begun file (width file) p.done (x / 16) + 1) t q) (m.begun t h)
       ];
       done = λ _. next_done;
       low = next_low;
@@ -217,34 +217,34 @@ module _ (file : List ℕ) (n : ℕ) (p : Progress) (l : Ledger) (m : Matches fi
     abbrev v : ℕ
     v = before (x / 16) + 8
 
-    step-lanes : afterwards ≡ upd before (x / 16) (before (x / 16) + 8)
-    step-lanes = lanes_step file (width file) p.done x ex step ∙ ap (λ (t : ℕ). upd before t (before t + 8)) thread_is
+    step_lanes : afterwards ≡ upd before (x / 16) (before (x / 16) + 8)
+    step_lanes = lanes_step file (width file) p.done x ex step ∙ ap (λ (t : ℕ). upd before t (before t + 8)) thread_is
 
-    step-own : (next : Thread) → b.threads ≡ upd p.bench.threads (x / 16) next → (t : ℕ) → t < 4 → afterwards t / 8 ≡ upd l.own (x / 16) (suc (l.own (x / 16))) t
-    step-own next et t h = elim (ℕ_discrete t (x / 16)) [
-      | yes q ↦ rw (q, own_lane next v et step-lanes, upd_same l.own (x / 16) (suc (l.own (x / 16)))) (omega (arith, m.own (x / 16) small))
-      | no q ↦ rw (other-lane next v et step-lanes t q, upd_other l.own (x / 16) (suc (l.own (x / 16))) t q) (m.own t h)
+    step_own : (next : Thread) → b.threads ≡ upd p.bench.threads (x / 16) next → (t : ℕ) → t < 4 → afterwards t / 8 ≡ upd l.own (x / 16) (suc (l.own (x / 16))) t
+    step_own next et t h = elim (ℕ_discrete t (x / 16)) [
+      | yes q ↦ rw (q, own_lane next v et step_lanes, upd_same l.own (x / 16) (suc (l.own (x / 16)))) (omega (arith, m.own (x / 16) small))
+      | no q ↦ rw (other_lane next v et step_lanes t q, upd_other l.own (x / 16) (suc (l.own (x / 16))) t q) (m.own t h)
     ]
 
-    step-begun : begun file (width file) (suc p.done) ≡ begun file (width file) p.done
-    step-begun = begun-step file (width file) p.done x ex step
+    step_begun : begun file (width file) (suc p.done) ≡ begun file (width file) p.done
+    step_begun = begun_step file (width file) p.done x ex step
 
     -- that goes on
     module _ (s : Moved p.bench (x / 16) (x % 16) b) where
-      move-left : four leaves ≡ four left
-      move-left = four-now s.next v s.threads step-lanes ∙ (ap (λ (t : Tally). sum t (others left (x / 16))) (rest-busy s.next v s.still ∙ sym (rest-busy (p.bench.threads (x / 16)) (before (x / 16)) s.busy)) ∙ sym four_then)
+      move_left : four leaves ≡ four left
+      move_left = four_now s.next v s.threads step_lanes ∙ (ap (λ (t : Tally). sum t (others left (x / 16))) (rest_busy s.next v s.still ∙ sym (rest_busy (p.bench.threads (x / 16)) (before (x / 16)) s.busy)) ∙ sym four_then)
 
-      pub move-matches : Matches file (suc n) (advance_by file p (x / 16) (carried b no_row)) (ledger_of (upd l.own (x / 16) (suc (l.own (x / 16)))) l.counts)
-      move-matches = record {
-        counts = ap₂ sum (ap₂ sum (walked_step file (width file) p.done x ex step) answered_quiet) move-left ∙ m.counts;
-        own = step-own s.next s.threads;
+      pub move_matches : Matches file (suc n) (advance_by file p (x / 16) (carried b no_row)) (ledger_of (upd l.own (x / 16) (suc (l.own (x / 16)))) l.counts)
+      move_matches = record {
+        counts = ap₂ sum (ap₂ sum (walked_step file (width file) p.done x ex step) answered_quiet) move_left ∙ m.counts;
+        own = step_own s.next s.threads;
         action = λ t h. elim (ℕ_discrete t (x / 16)) [
-          | yes q ↦ λ _. rw (q, own_lane s.next v s.threads step-lanes, own_thread s.next v s.threads step-lanes, s.action) (omega (arith, m.action (x / 16) small s.busy))
-          | no q ↦ λ i. rw (other-lane s.next v s.threads step-lanes t q, other-thread s.next v s.threads step-lanes t q) (m.action t h (sym (ap is_idle (other-thread s.next v s.threads step-lanes t q)) ∙ i))
+          | yes q ↦ λ _. rw (q, own_lane s.next v s.threads step_lanes, own_thread s.next v s.threads step_lanes, s.action) (omega (arith, m.action (x / 16) small s.busy))
+          | no q ↦ λ i. rw (other_lane s.next v s.threads step_lanes t q, other_thread s.next v s.threads step_lanes t q) (m.action t h (sym (ap is_idle (other_thread s.next v s.threads step_lanes t q)) ∙ i))
         ];
         begun = λ t h. elim (ℕ_discrete t (x / 16)) [
-          | yes q ↦ rw (q, finished_quiet, step-begun, own_thread s.next v s.threads step-lanes, count-busy s.next s.still) (omega (arith, m.begun (x / 16) small, count-busy (p.bench.threads (x / 16)) s.busy))
-          | no q ↦ rw (finished_quiet, step-begun, other-thread s.next v s.threads step-lanes t q) (m.begun t h)
+          | yes q ↦ rw (q, finished_quiet, step_begun, own_thread s.next v s.threads step_lanes, count_busy s.next s.still) (omega (arith, m.begun (x / 16) small, count_busy (p.bench.threads (x / 16)) s.busy))
+          | no q ↦ rw (finished_quiet, step_begun, other_thread s.next v s.threads step_lanes t q) (m.begun t h)
         ];
         done = λ _. next_done;
         low = next_low;
@@ -269,52 +269,52 @@ module _ (file : List ℕ) (n : ℕ) (p : Progress) (l : Ledger) (m : Matches fi
       one_more_lem : 1 + p.finished ≡ suc p.finished
       one_more_lem = omega arith
 
-      lane-action : before (x / 16) % 8 ≡ a
-      lane-action = m.action (x / 16) small s.busy
+      lane_action : before (x / 16) % 8 ≡ a
+      lane_action = m.action (x / 16) small s.busy
 
-      end-answered : answered (p.rows ++ more) (row_width file) (1 + p.finished) ≡ sum (answered p.rows (row_width file) p.finished) (just (place (column y) a) 1)
-      end-answered =
+      end_answered : answered (p.rows ++ more) (row_width file) (1 + p.finished) ≡ sum (answered p.rows (row_width file) p.finished) (just (place (column y) a) 1)
+      end_answered =
           ap (answered (p.rows ++ more) (row_width file)) one_more_lem
-          ∙ (answered-more p.rows _ (row_width file) p.finished (x / 16) a (p.bench.threads (x / 16)).station (answer_number y) wide long
+          ∙ (answered_more p.rows _ (row_width file) p.finished (x / 16) a (p.bench.threads (x / 16)).station (answer_number y) wide long
           ∙ ap (λ (i : ℕ). sum (answered p.rows (row_width file) p.finished) (just i 1)) (ap (answer_place (answer_number y)) (let e : a % 8 ≡ a = omega (arith, number_small (p.bench.threads (x / 16)).action) in e) ∙ column_is y a))
 
-      end-finished : finished (p.rows ++ more) (row_width file) (1 + p.finished)
+      end_finished : finished (p.rows ++ more) (row_width file) (1 + p.finished)
           ≡ upd (finished p.rows (row_width file) p.finished) (x / 16) (finished p.rows (row_width file) p.finished (x / 16) + 1)
-      end-finished =
+      end_finished =
           ap (finished (p.rows ++ more) (row_width file)) one_more_lem
-          ∙ (finished-more p.rows _ (row_width file) p.finished (x / 16) a (p.bench.threads (x / 16)).station (answer_number y) wide long
+          ∙ (finished_more p.rows _ (row_width file) p.finished (x / 16) a (p.bench.threads (x / 16)).station (answer_number y) wide long
           ∙ ap (λ (t : ℕ). upd (finished p.rows (row_width file) p.finished) t (finished p.rows (row_width file) p.finished t + 1)) (let e : x / 16 % 4 ≡ x / 16 = omega arith in e))
 
-      end-left : four leaves ≡ sum (taken a (suc (l.own (x / 16)))) (others left (x / 16))
-      end-left =
-          four-now idle v s.threads step-lanes
-          ∙ ap (λ (t : Tally). sum t (others left (x / 16))) (rest-idle idle v refl ∙ ap₂ taken (let e : v % 8 ≡ a = omega (arith, lane-action) in e) (let e : v / 8 ≡ suc (l.own (x / 16)) = omega (arith, m.own (x / 16) small) in e))
+      end_left : four leaves ≡ sum (taken a (suc (l.own (x / 16)))) (others left (x / 16))
+      end_left =
+          four_now idle v s.threads step_lanes
+          ∙ ap (λ (t : Tally). sum t (others left (x / 16))) (rest_idle idle v refl ∙ ap₂ taken (let e : v % 8 ≡ a = omega (arith, lane_action) in e) (let e : v / 8 ≡ suc (l.own (x / 16)) = omega (arith, m.own (x / 16) small) in e))
 
-      was-left : four left ≡ others left (x / 16)
-      was-left = four_then ∙ (ap (λ (t : Tally). sum t (others left (x / 16))) (rest-busy (p.bench.threads (x / 16)) (before (x / 16)) s.busy) ∙ none_sum (others left (x / 16)))
+      was_left : four left ≡ others left (x / 16)
+      was_left = four_then ∙ (ap (λ (t : Tally). sum t (others left (x / 16))) (rest_busy (p.bench.threads (x / 16)) (before (x / 16)) s.busy) ∙ none_sum (others left (x / 16)))
 
       gather : (q w e t r : Tally) → sum (sum q (sum w e)) (sum t r) ≡ sum (sum (sum q w) r) (sum e t)
       gather q w e t r = simp (sum_assoc, sum_comm, sum_swap)
 
-      end-counts : sum (sum (walked file (width file) (suc p.done)) (answered (p.rows ++ more) (row_width file) (1 + p.finished))) (four leaves)
+      end_counts : sum (sum (walked file (width file) (suc p.done)) (answered (p.rows ++ more) (row_width file) (1 + p.finished))) (four leaves)
           ≡ sum l.counts (sum (just (place (column y) a) 1) (taken a (suc (l.own (x / 16)))))
-      end-counts =
-          ap₂ sum (ap₂ sum (walked_step file (width file) p.done x ex step) end-answered) end-left
+      end_counts =
+          ap₂ sum (ap₂ sum (walked_step file (width file) p.done x ex step) end_answered) end_left
           ∙ (gather (walked file (width file) p.done) (answered p.rows (row_width file) p.finished) (just (place (column y) a) 1) (taken a (suc (l.own (x / 16)))) (others left (x / 16))
-          ∙ ap (λ (t : Tally). sum t (sum (just (place (column y) a) 1) (taken a (suc (l.own (x / 16)))))) (ap (sum (sum (walked file (width file) p.done) (answered p.rows (row_width file) p.finished))) (sym was-left) ∙ m.counts))
+          ∙ ap (λ (t : Tally). sum t (sum (just (place (column y) a) 1) (taken a (suc (l.own (x / 16)))))) (ap (sum (sum (walked file (width file) p.done) (answered p.rows (row_width file) p.finished))) (sym was_left) ∙ m.counts))
 
-      pub end-matches : Matches file (suc n) (advance_by file p (x / 16) (carried b (row y d c)))
+      pub end_matches : Matches file (suc n) (advance_by file p (x / 16) (carried b (row y d c)))
           (ledger_of (upd l.own (x / 16) (suc (l.own (x / 16)))) (sum l.counts (sum (just (place (column y) a) 1) (taken a (suc (l.own (x / 16)))))))
-      end-matches = record {
-        counts = end-counts;
-        own = step-own idle s.threads;
+      end_matches = record {
+        counts = end_counts;
+        own = step_own idle s.threads;
         action = λ t h. elim (ℕ_discrete t (x / 16)) [
-          | yes q ↦ λ i. absurd (true≢false (sym (ap is_idle (ap b.threads q ∙ own_thread idle v s.threads step-lanes)) ∙ i))
-          | no q ↦ λ i. rw (other-lane idle v s.threads step-lanes t q, other-thread idle v s.threads step-lanes t q) (m.action t h (sym (ap is_idle (other-thread idle v s.threads step-lanes t q)) ∙ i))
+          | yes q ↦ λ i. absurd (true≢false (sym (ap is_idle (ap b.threads q ∙ own_thread idle v s.threads step_lanes)) ∙ i))
+          | no q ↦ λ i. rw (other_lane idle v s.threads step_lanes t q, other_thread idle v s.threads step_lanes t q) (m.action t h (sym (ap is_idle (other_thread idle v s.threads step_lanes t q)) ∙ i))
         ];
         begun = λ t h. elim (ℕ_discrete t (x / 16)) [
-          | yes q ↦ rw (q, end-finished, step-begun, own_thread idle v s.threads step-lanes, upd_same (finished p.rows (row_width file) p.finished) (x / 16) (finished p.rows (row_width file) p.finished (x / 16) + 1), count-idle idle refl) (omega (arith, m.begun (x / 16) small, count-busy (p.bench.threads (x / 16)) s.busy))
-          | no q ↦ rw (end-finished, step-begun, other-thread idle v s.threads step-lanes t q, upd_other (finished p.rows (row_width file) p.finished) (x / 16) (finished p.rows (row_width file) p.finished (x / 16) + 1) t q) (m.begun t h)
+          | yes q ↦ rw (q, end_finished, step_begun, own_thread idle v s.threads step_lanes, upd_same (finished p.rows (row_width file) p.finished) (x / 16) (finished p.rows (row_width file) p.finished (x / 16) + 1), count_idle idle refl) (omega (arith, m.begun (x / 16) small, count_busy (p.bench.threads (x / 16)) s.busy))
+          | no q ↦ rw (end_finished, step_begun, other_thread idle v s.threads step_lanes t q, upd_other (finished p.rows (row_width file) p.finished) (x / 16) (finished p.rows (row_width file) p.finished (x / 16) + 1) t q) (m.begun t h)
         ];
         done = λ _. next_done;
         low = next_low;
@@ -338,9 +338,9 @@ module _ (file : List ℕ) where
       → Matches file (suc n) (advance_by file p (r.first / 16) o) (entered_by o (r.first % 16) (r.first / 16) (p.bench.threads (r.first / 16)) l)
   by_result n p l r m z ex long (refused k) d = stopped n p (advance_by file p (r.first / 16) (refused k)) l l d refl refl refl refl refl m
   by_result n p l r m z ex long (carried b no_row) (h, inl s) =
-      rw (entered_start (r.first % 16) (r.first / 16) (p.bench.threads (r.first / 16)) no_row l (λ e. number_some s.what (sym s.number ∙ e))) (start-matches file n p l m z r.first b ex h r.second s)
-  by_result n p l r m z ex long (carried b no_row) (h, inr s) = rw s.number (move-matches file n p l m z r.first b ex h s.number s)
-  by_result n p l r m z ex long (carried b (row y d c)) (h, s) = rw s.number (end-matches file n p l m z r.first b ex h s.number long y d c s)
+      rw (entered_start (r.first % 16) (r.first / 16) (p.bench.threads (r.first / 16)) no_row l (λ e. number_some s.what (sym s.number ∙ e))) (start_matches file n p l m z r.first b ex h r.second s)
+  by_result n p l r m z ex long (carried b no_row) (h, inr s) = rw s.number (move_matches file n p l m z r.first b ex h s.number s)
+  by_result n p l r m z ex long (carried b (row y d c)) (h, s) = rw s.number (end_matches file n p l m z r.first b ex h s.number long y d c s)
 
 first_is : (file : List ℕ) (k : ℕ) → first_byte file (width file) k ≡ (record_at file k).first
 unfolding record_at

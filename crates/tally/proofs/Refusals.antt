@@ -22,7 +22,7 @@ use Rattle.definitions.specs.declared.Action.TheVariants.{Lookup, Insert, Remove
 use Rattle.definitions.specs.declared.Report.{Report}
 use Rattle.passing.proofs.RunRows.{advance_on, advance_off}
 use Rattle.season.specs.Season.{RefusalsRule}
-use Rattle.tally.proofs.Whole.{report-on, report-off}
+use Rattle.tally.proofs.Whole.{report_on, report_off}
 
 -- ---- a number that has a place
 record Has (k : ℕ) : Type 0 where
@@ -112,8 +112,8 @@ after_has file (suc n) = elim (ℕ_discrete (after file n).refusal 0) [
 
 report_has : (file : List ℕ) (n : ℕ) → Has (run_report file n).refusal
 report_has file n = elim (ℕ_discrete (run_refusal file n) 0) [
-  | yes z ↦ rw (report-on file n z) (after_has file (count_of file))
-  | no z ↦ rw (report-off file n z) (run_has file n)
+  | yes z ↦ rw (report_on file n z) (after_has file (count_of file))
+  | no z ↦ rw (report_off file n z) (run_has file n)
 ]
 
 pub refusals_rule : RefusalsRule

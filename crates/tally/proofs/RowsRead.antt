@@ -29,11 +29,11 @@ module _ (l k : List ℕ) (w : ℕ) (wide : 4 ≤ w) where
   answered_same (suc m) e =
       ap₂ sum (answered_same m (fewer m e)) (ap₂ (λ (y a : ℕ). just (answer_place y (a % 8)) 1) (byte m 3 (omega arith) e) (byte m 1 (omega arith) e))
 
-  pub finished-same : (m : ℕ) → Alike m → finished l w m ≡ finished k w m
+  pub finished_same : (m : ℕ) → Alike m → finished l w m ≡ finished k w m
   unfolding finished
-  finished-same zero e = refl
-  finished-same (suc m) e =
-      ap₂ (λ (f : ℕ → ℕ) (t : ℕ). upd f (t % 4) (f (t % 4) + 1)) (finished-same m (fewer m e)) (head m e)
+  finished_same zero e = refl
+  finished_same (suc m) e =
+      ap₂ (λ (f : ℕ → ℕ) (t : ℕ). upd f (t % 4) (f (t % 4) + 1)) (finished_same m (fewer m e)) (head m e)
 
 -- ---- one row more
 module _ (l rest : List ℕ) (w m t a s y : ℕ) (wide : 4 ≤ w) (long : length l ≡ w * m) where
@@ -46,11 +46,11 @@ module _ (l rest : List ℕ) (w m t a s y : ℕ) (wide : 4 ≤ w) (long : length
   at : (i j : ℕ) → j ≡ length l + i → get_or more j 0 ≡ get_or (t ∷ a ∷ s ∷ y ∷ rest) i 0
   at i j e = ap (λ n. get_or more n 0) e ∙ get_or-append-add l (t ∷ a ∷ s ∷ y ∷ rest) i 0
 
-  pub answered-more : answered more w (suc m) ≡ sum (answered l w m) (just (answer_place y (a % 8)) 1)
+  pub answered_more : answered more w (suc m) ≡ sum (answered l w m) (just (answer_place y (a % 8)) 1)
   unfolding answered
-  answered-more =
+  answered_more =
       ap₂ sum (answered_same more l w wide m before) (ap₂ (λ (z b : ℕ). just (answer_place z (b % 8)) 1) (at 3 (w * m + 3) (omega arith)) (at 1 (w * m + 1) (omega arith)))
 
-  pub finished-more : finished more w (suc m) ≡ upd (finished l w m) (t % 4) (finished l w m (t % 4) + 1)
+  pub finished_more : finished more w (suc m) ≡ upd (finished l w m) (t % 4) (finished l w m (t % 4) + 1)
   unfolding finished
-  finished-more = ap₂ (λ (f : ℕ → ℕ) (u : ℕ). upd f (u % 4) (f (u % 4) + 1)) (finished-same more l w wide m before) (at 0 (w * m) (omega arith))
+  finished_more = ap₂ (λ (f : ℕ → ℕ) (u : ℕ). upd f (u % 4) (f (u % 4) + 1)) (finished_same more l w wide m before) (at 0 (w * m) (omega arith))

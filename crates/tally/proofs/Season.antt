@@ -10,7 +10,7 @@ use lib.Dec.{eqb, ltb}
 use Rattle.container.specs.Choice.{ite}
 use Rattle.season.specs.Tally.{Tally, empty, sum, within, fits, added, add_refusal, laid, tally_numbers}
 use Rattle.season.specs.Season.{Lent, single, refusal_at, season, kept, total, blank, SeasonRule, NoneRefused, Reordered, same, keep, swap, then, OrderRule}
-use Rattle.tally.proofs.Sums.{sum_at, join-least, sum_comm, sum_assoc, sum_none, none_sum, sum_swap}
+use Rattle.tally.proofs.Sums.{sum_at, join_least, sum_comm, sum_assoc, sum_none, none_sum, sum_swap}
 use Rattle.tally.proofs.Laid.{tally_back, report_back}
 
 pub both : (a b : Bool) → (a && b) ≡ true → (a ≡ true) × (b ≡ true)
@@ -61,20 +61,20 @@ season_from t (f ∷ fs) =
     rest : List Lent
     rest = kept (tally_numbers f.file f.room (laid t)) fs
 
-    rest-is : rest ≡ kept (laid (added t (single f))) fs
-    rest-is = ap (λ (l : List ℕ). kept l fs) (tally_back f.file f.room t)
+    rest_is : rest ≡ kept (laid (added t (single f))) fs
+    rest_is = ap (λ (l : List ℕ). kept l fs) (tally_back f.file f.room t)
 
     by : (c : Bool) → fits (sum t (single f)) ≡ c → laid (sum (added t (single f)) (total (kept (laid (added t (single f))) fs))) ≡ laid (sum t (total (ite (eqb (refusal_at (laid t) f) 0) (f ∷ rest) rest)))
     by true e =
         ap laid
         (ap (λ (u : Tally). sum u (total (kept (laid (added t (single f))) fs))) (added_in t (single f) e)
         ∙ (sum_assoc t (single f) (total (kept (laid (added t (single f))) fs))
-        ∙ (ap (λ (gs : List Lent). sum t (sum (single f) (total gs))) (sym rest-is)
+        ∙ (ap (λ (gs : List Lent). sum t (sum (single f) (total gs))) (sym rest_is)
         ∙ ap (λ (n : ℕ). sum t (total (ite (eqb n 0) (f ∷ rest) rest))) (sym (report_back f.file f.room t ∙ refusal_in t (single f) e)))))
     by false e =
         ap laid
         (ap (λ (u : Tally). sum u (total (kept (laid (added t (single f))) fs))) (added_not t (single f) e)
-        ∙ (ap (λ (gs : List Lent). sum t (total gs)) (sym rest-is)
+        ∙ (ap (λ (gs : List Lent). sum t (total gs)) (sym rest_is)
         ∙ ap (λ (n : ℕ). sum t (total (ite (eqb n 0) (f ∷ rest) rest))) (sym (report_back f.file f.room t ∙ refusal_not t (single f) e))))
 
 pub season_rule : SeasonRule
@@ -88,7 +88,7 @@ unfolding within
 within_part zero t u e = refl
 within_part (suc n) t u e =
     let (a, b) = both (ltb (sum t u n) (2 ^ 32)) (within n (sum t u)) e in
-    two _ _ (lt-ltb (t n) (2 ^ 32) (omega (arith, ltb-true (sum t u n) (2 ^ 32) a, sum_at t u n, join-least n (t n) (u n)))) (within_part n t u b)
+    two _ _ (lt-ltb (t n) (2 ^ 32) (omega (arith, ltb-true (sum t u n) (2 ^ 32) a, sum_at t u n, join_least n (t n) (u n)))) (within_part n t u b)
 
 -- what fits as a whole fits file by file
 none_refused : (t : Tally) (fs : List Lent) → fits (sum t (total fs)) ≡ true → NoneRefused (laid t) fs × (season (laid t) fs ≡ laid (sum t (total fs)))

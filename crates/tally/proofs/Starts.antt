@@ -25,7 +25,7 @@ use Rattle.season.specs.Season.{Lent, single, total, StartsRule}
 use Rattle.tally.proofs.Sums.{sum_at, join_sum, just_same, just_other}
 use Rattle.tally.proofs.Walks.{taken_most}
 use Rattle.tally.proofs.Matching.{number_some, number_small, entered_start, enter_on, enter_off}
-use Rattle.tally.proofs.Whole.{records-on, records-off}
+use Rattle.tally.proofs.Whole.{records_on, records_off}
 
 -- where numbers are added
 plus : (t u : Tally) (i : ℕ) → i / 8 ≢ 5 → sum t u i ≡ t i + u i
@@ -85,8 +85,8 @@ module _ (a : ℕ) (low : a < 8) where
       by false = (omega (arith, same_field 16 c, just_other (16 + c) 1 (8 + a) (omega arith)), (just_other (16 + c) 1 a (omega arith), just_other (16 + c) 1 (24 + a) (omega arith)))
 
   module _ (file : List ℕ) (p : Progress) (l : Ledger) (m : Balanced p l) (b : Bench) (t : ℕ) (small : t < 4) where
-    start-even : (y n : ℕ) → Started p.bench t y n b → Balanced (advance_by file p t (carried b no_row)) (ledger_of (upd l.own t 0) (sum l.counts (just (place starts n) 1)))
-    start-even y n s =
+    start_even : (y n : ℕ) → Started p.bench t y n b → Balanced (advance_by file p t (carried b no_row)) (ledger_of (upd l.own t 0) (sum l.counts (just (place starts n) 1)))
+    start_even y n s =
         let c = action_number s.what in
         let q = number_small s.what in
         record {
@@ -108,15 +108,15 @@ module _ (a : ℕ) (low : a < 8) where
           none = rw s.number (omega (arith, m.none, plus l.counts (just c 1) (24 + a) (omega arith), just_other c 1 (24 + a) (omega arith)));
         }
 
-    move-even : (n : ℕ) (o : ℕ → ℕ) → Moved p.bench t n b → Balanced (advance_by file p t (carried b no_row)) (ledger_of o l.counts)
-    move-even n o s = record {
+    move_even : (n : ℕ) (o : ℕ → ℕ) → Moved p.bench t n b → Balanced (advance_by file p t (carried b no_row)) (ledger_of o l.counts)
+    move_even n o s = record {
       even = rw s.threads (omega (arith, m.even, replaced p.bench.threads s.next t small, busy_one_lem s.next s.still, busy_one_lem (p.bench.threads t) s.busy, ap (λ act. just (place unfinished (action_number act)) 1 (place unfinished a)) s.action));
       none = m.none;
     }
 
-    end-even : (n : ℕ) (o : ℕ → ℕ) (k : ℕ) (y : Answer) (d e : ℕ) → Ended p.bench t n b
+    end_even : (n : ℕ) (o : ℕ → ℕ) (k : ℕ) (y : Answer) (d e : ℕ) → Ended p.bench t n b
         → Balanced (advance_by file p t (carried b (row y d e))) (ledger_of o (sum l.counts (sum (just (place (column y) (action_number (p.bench.threads t).action)) 1) (taken (action_number (p.bench.threads t).action) k))))
-    end-even n o k y d e s =
+    end_even n o k y d e s =
         let c = action_number (p.bench.threads t).action in
         let (p1, (p2, p3)) = answer_adds y c (number_small (p.bench.threads t).action) in
         let u = just (place (column y) c) 1 in
@@ -131,9 +131,9 @@ module _ (a : ℕ) (low : a < 8) where
       → Balanced (advance_by file p (r.first / 16) o) (entered_by o (r.first % 16) (r.first / 16) (p.bench.threads (r.first / 16)) l)
   by_result file p l r m (refused k) d = record { even = m.even; none = m.none }
   by_result file p l r m (carried b no_row) (h, inl s) =
-      rw (entered_start (r.first % 16) (r.first / 16) (p.bench.threads (r.first / 16)) no_row l (λ e. number_some s.what (sym s.number ∙ e))) (start-even file p l m b (r.first / 16) h r.second (r.first % 16) s)
-  by_result file p l r m (carried b no_row) (h, inr s) = rw s.number (move-even file p l m b (r.first / 16) h (r.first % 16) _ s)
-  by_result file p l r m (carried b (row y d e)) (h, s) = rw s.number (end-even file p l m b (r.first / 16) h (r.first % 16) _ _ y d e s)
+      rw (entered_start (r.first % 16) (r.first / 16) (p.bench.threads (r.first / 16)) no_row l (λ e. number_some s.what (sym s.number ∙ e))) (start_even file p l m b (r.first / 16) h r.second (r.first % 16) s)
+  by_result file p l r m (carried b no_row) (h, inr s) = rw s.number (move_even file p l m b (r.first / 16) h (r.first % 16) _ s)
+  by_result file p l r m (carried b (row y d e)) (h, s) = rw s.number (end_even file p l m b (r.first / 16) h (r.first % 16) _ _ y d e s)
 
   at_first : (on : Bool) → Balanced (begin on) (ledger_of (λ _. 0) empty)
   at_first on = record { even = omega (arith, all_busy (λ _. idle), idle_one idle refl); none = refl }
@@ -182,8 +182,8 @@ module _ (a : ℕ) (low : a < 8) where
     | yes z ↦ let l = (ledger file (count_of file)).counts in
         let f = (ended file).bench.threads in
         let m = balanced file (count_of file) in
-        rw (records-on file n z) (omega (arith, m.even, m.none, plus l (left_busy f) a (omega arith), plus l (left_busy f) (8 + a) (omega arith), plus l (left_busy f) (16 + a) (omega arith), plus l (left_busy f) (24 + a) (omega arith), left_else f a (omega arith), left_else f (8 + a) (omega arith), left_else f (16 + a) (omega arith)))
-    | no z ↦ rw (records-off file n z) (omega arith)
+        rw (records_on file n z) (omega (arith, m.even, m.none, plus l (left_busy f) a (omega arith), plus l (left_busy f) (8 + a) (omega arith), plus l (left_busy f) (16 + a) (omega arith), plus l (left_busy f) (24 + a) (omega arith), left_else f a (omega arith), left_else f (8 + a) (omega arith), left_else f (16 + a) (omega arith)))
+    | no z ↦ rw (records_off file n z) (omega arith)
   ]
 
 pub starts_rule : StartsRule

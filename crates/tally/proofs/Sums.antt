@@ -77,27 +77,27 @@ module _ (i : ℕ) where
       by true = larger_assoc a b d
       by false = omega arith
 
-  pub join-zero : (a : ℕ) → join i a 0 ≡ a
+  pub join_zero : (a : ℕ) → join i a 0 ≡ a
   unfolding join ite
-  join-zero a = by (eqb (i / 8) 5)
+  join_zero a = by (eqb (i / 8) 5)
     where
       by : (c : Bool) → ite c (larger a 0) (a + 0) ≡ a
       by true = rw (le-ltb a 0 (omega arith))
       by false = omega arith
 
   -- a join is at most the sum
-  pub join-most : (a b : ℕ) → join i a b ≤ a + b
+  pub join_most : (a b : ℕ) → join i a b ≤ a + b
   unfolding join ite
-  join-most a b = by (eqb (i / 8) 5)
+  join_most a b = by (eqb (i / 8) 5)
     where
       by : (c : Bool) → ite c (larger a b) (a + b) ≤ a + b
       by true = larger_least a b (a + b) (omega arith) (omega arith)
       by false = omega arith
 
   -- and at least the first
-  pub join-least : (a b : ℕ) → a ≤ join i a b
+  pub join_least : (a b : ℕ) → a ≤ join i a b
   unfolding join ite
-  join-least a b = by (eqb (i / 8) 5)
+  join_least a b = by (eqb (i / 8) 5)
     where
       by : (c : Bool) → a ≤ ite c (larger a b) (a + b)
       by true = larger_left a b
@@ -128,7 +128,7 @@ sum_assoc t u v = fun_ext (λ i. join_assoc i (t i) (u i) (v i))
 
 pub sum_none : (t : Tally) → sum t empty ≡ t
 unfolding sum
-sum_none t = fun_ext (λ i. join-zero i (t i))
+sum_none t = fun_ext (λ i. join_zero i (t i))
 
 pub none_sum : (t : Tally) → sum empty t ≡ t
 none_sum t = sum_comm empty t ∙ sum_none t
@@ -164,7 +164,7 @@ module _ (l : List ℕ) (i n v : ℕ) (in_List : i < length l) (e : v ≡ join i
       at : (j : ℕ) → get_or (set l i v) j 0 ≡ join j (get_or l j 0) (just i n j)
       at j = elim (ℕ_discrete j i) [
         | yes q ↦ rw q (get_or-set_same l i v 0 in_List ∙ e ∙ ap (join i (get_or l i 0)) (sym (just_same i n)))
-        | no q ↦ get_or-set_other l i j v 0 q ∙ sym (join-zero j (get_or l j 0)) ∙ ap (join j (get_or l j 0)) (sym (just_other i n j q))
+        | no q ↦ get_or-set_other l i j v 0 q ∙ sym (join_zero j (get_or l j 0)) ∙ ap (join j (get_or l j 0)) (sym (just_other i n j q))
       ]
 
 pub more_is : (l : List ℕ) (i n : ℕ) → i < length l → i / 8 ≢ 5 → numbers (set l i (get_or l i 0 + n)) ≡ sum (numbers l) (just i n)
@@ -182,5 +182,5 @@ smaller_is l i n q s = fun_ext at
     at : (j : ℕ) → get_or l j 0 ≡ join j (get_or l j 0) (just i n j)
     at j = elim (ℕ_discrete j i) [
       | yes e ↦ rw e (sym (ap (join i (get_or l i 0)) (just_same i n) ∙ (join_larger i (get_or l i 0) n q ∙ rw (le-ltb (get_or l i 0) n s))))
-      | no e ↦ sym (ap (join j (get_or l j 0)) (just_other i n j e) ∙ join-zero j (get_or l j 0))
+      | no e ↦ sym (ap (join j (get_or l j 0)) (just_other i n j e) ∙ join_zero j (get_or l j 0))
     ]

@@ -17,9 +17,9 @@ use Rattle.definitions.specs.declared.Action.{Action}
 use Rattle.passing.proofs.Did.{Did, did}
 use Rattle.season.specs.Tally.{Field, starts, unfinished, steps, largest, place, refusal_place, Tally, empty, just, sum, Ledger, column, taken, entered_by, ledger, busy_with, left_busy, refused_once, records_tally, file_tally}
 use Rattle.season.specs.Season.{UnusedRule}
-use Rattle.tally.proofs.Sums.{sum_at, join-zero, just_other}
+use Rattle.tally.proofs.Sums.{sum_at, join_zero, just_other}
 use Rattle.tally.proofs.Matching.{number_some, number_small, entered_start, enter_on, enter_off}
-use Rattle.tally.proofs.Whole.{records-on, records-off}
+use Rattle.tally.proofs.Whole.{records_on, records_off}
 use Rattle.tally.proofs.Refusals.{refusals_rule}
 
 place_low : (f : Field) (a : ℕ) → a < 8 → (place f a % 8 ≡ a) × (place f a < 48)
@@ -33,7 +33,7 @@ place_low Field.largest a h = (omega arith, omega arith)
 -- ---- a place that no action has
 module _ (i : ℕ) (free : (f : Field) (c : Action) → i ≢ place f (action_number c)) where
   sum_zero : (t u : Tally) → t i ≡ 0 → u i ≡ 0 → sum t u i ≡ 0
-  sum_zero t u p q = sum_at t u i ∙ rw (p, q) (join-zero i 0)
+  sum_zero t u p q = sum_at t u i ∙ rw (p, q) (join_zero i 0)
 
   just_zero : (f : Field) (c : Action) (n : ℕ) → just (place f (action_number c)) n i ≡ 0
   just_zero f c n = just_other (place f (action_number c)) n i (free f c)
@@ -74,8 +74,8 @@ module _ (i : ℕ) (free : (f : Field) (c : Action) → i ≢ place f (action_nu
 
   records_zero : (file : List ℕ) (n : ℕ) → records_tally file n i ≡ 0
   records_zero file n = elim (ℕ_discrete (run_refusal file n) 0) [
-    | yes z ↦ rw (records-on file n z) (sum_zero (ledger file (count_of file)).counts (left_busy (ended file).bench.threads) (ledger_zero file (count_of file)) (left_zero (ended file).bench.threads))
-    | no z ↦ rw (records-off file n z)
+    | yes z ↦ rw (records_on file n z) (sum_zero (ledger file (count_of file)).counts (left_busy (ended file).bench.threads) (ledger_zero file (count_of file)) (left_zero (ended file).bench.threads))
+    | no z ↦ rw (records_off file n z)
   ]
 
 refusal_zero : (k i : ℕ) → (k ≢ 0 → i ≢ 48 + k) → refused_once k i ≡ 0

@@ -21,9 +21,9 @@ use Rattle.tally.proofs.Bits.{bits_same, Found, found, none_set}
 use Rattle.tally.proofs.Marking.{mark_low}
 use Rattle.tally.proofs.Blocks.{width_some}
 use Rattle.tally.proofs.Sums.{sum_none, just_none}
-use Rattle.tally.proofs.Walks.{lanes-most}
-use Rattle.tally.proofs.Lanes.{packed-fits, unit_small}
-use Rattle.tally.proofs.Loops.{ready, turned-held}
+use Rattle.tally.proofs.Walks.{lanes_most}
+use Rattle.tally.proofs.Lanes.{packed_fits, unit_small}
+use Rattle.tally.proofs.Loops.{ready, turned_held}
 
 -- ---- words
 pub word_none : (a u : ℕ) → step_word a 0 u ≡ a
@@ -54,16 +54,16 @@ start_some x n e = rw (ne_eqb (x % 16) 0 e)
 module _ (x a b : ℕ) (l : List ℕ) (ready : Ready x a b l) (v e f u : ℕ) (ev : v ≡ lane_in x a) (ee : e ≡ ite (eqb (x % 16) 0) 0 v) (ef : f ≡ ite (eqb (x % 16) 0) 0 1) (eu : u ≡ 65536 ^ (x / 16)) where
   -- a step
   module _ (s : x % 16 ≡ 0) where
-    lane-none : e ≡ 0
-    lane-none = ee ∙ sym (start_none x v s)
+    lane_none : e ≡ 0
+    lane_none = ee ∙ sym (start_none x v s)
 
     one_none : f ≡ 0
     one_none = ef ∙ sym (start_none x 1 s)
 
   -- a start
   module _ (s : x % 16 ≢ 0) where
-    lane-same : e ≡ lane_in x a
-    lane-same = ee ∙ (sym (start_some x v s) ∙ ev)
+    lane_same : e ≡ lane_in x a
+    lane_same = ee ∙ (sym (start_some x v s) ∙ ev)
 
     one_same : f ≡ 1
     one_same = ef ∙ sym (start_some x 1 s)
@@ -72,10 +72,10 @@ module _ (x a b : ℕ) (l : List ℕ) (ready : Ready x a b l) (v e f u : ℕ) (e
   pub chosen : (e < 65536) × ((f ≤ 1) × ((e * u ≤ a) × ((a - e * u + x % 8 * u < 18446744073709551616) × (b + f * u < 18446744073709551616))))
   chosen = elim (ℕ_discrete (x % 16) 0) [
     | yes s ↦ let z : x % 8 ≡ 0 = omega (arith, s) in
-        rw (lane-none s, one_none s, z) (omega arith, (omega arith, (omega arith, (omega (arith, ready.word), omega (arith, ready.other)))))
+        rw (lane_none s, one_none s, z) (omega arith, (omega arith, (omega arith, (omega (arith, ready.word), omega (arith, ready.other)))))
     | no s ↦ let (p, (q, r)) = ready.start s in
         let d : lane_in x a < 65536 = omega arith in
-        rw (lane-same s, one_same s, eu) (d, (omega arith, (p, (q, omega (arith, r)))))
+        rw (lane_same s, one_same s, eu) (d, (omega arith, (p, (q, omega (arith, r)))))
   ]
 
   -- what is made of them
@@ -83,21 +83,21 @@ module _ (x a b : ℕ) (l : List ℕ) (ready : Ready x a b l) (v e f u : ℕ) (e
       → Visited x a b l (a - e * u + x % 8 * u) (b + f * u) l'
   visited m l' p q = record {
     step = λ s. let z : x % 8 ≡ 0 = omega (arith, s) in
-        let y : e * u ≡ 0 = ap (λ (n : ℕ). n * u) (lane-none s) ∙ zero-mul u in
+        let y : e * u ≡ 0 = ap (λ (n : ℕ). n * u) (lane_none s) ∙ zero-mul u in
         let c : x % 8 * u ≡ 0 = ap (λ (n : ℕ). n * u) z ∙ zero-mul u in
         let d : f * u ≡ 0 = ap (λ (n : ℕ). n * u) (one_none s) ∙ zero-mul u in (
           omega (arith, y, c),
           (
             omega (arith, d),
             q ∙ (ap (λ (n : ℕ). sum (numbers m) (just (x % 8) n)) (one_none s)
-                ∙ (some_none (numbers m) (x % 8) ∙ (p ∙ (ap (λ (n : ℕ). sum (numbers l) (taken (n % 8) (n / 8))) (lane-none s) ∙ taken_none (numbers l))))),
+                ∙ (some_none (numbers m) (x % 8) ∙ (p ∙ (ap (λ (n : ℕ). sum (numbers l) (taken (n % 8) (n / 8))) (lane_none s) ∙ taken_none (numbers l))))),
           ),
         );
     start = λ s. (
-      ap₂ (λ (n y : ℕ). a - n * y + x % 8 * y) (lane-same s) eu,
+      ap₂ (λ (n y : ℕ). a - n * y + x % 8 * y) (lane_same s) eu,
       (
         ap₂ (λ (n y : ℕ). b + n * y) (one_same s) eu ∙ omega arith,
-        q ∙ ap₂ (λ (t : Tally) (n : ℕ). sum t (just (x % 8) n)) (p ∙ ap (λ (n : ℕ). sum (numbers l) (taken (n % 8) (n / 8))) (lane-same s)) (one_same s),
+        q ∙ ap₂ (λ (t : Tally) (n : ℕ). sum t (just (x % 8) n)) (p ∙ ap (λ (n : ℕ). sum (numbers l) (taken (n % 8) (n / 8))) (lane_same s)) (one_same s),
       ),
     );
   }
@@ -128,18 +128,18 @@ module _ (file : List ℕ) (w : ℕ) (first tally : List ℕ) (b t u : ℕ) (eu 
         step = λ _. (ap (λ (n : ℕ). a + 8 * n) (eu ∙ ap (λ (n : ℕ). 65536 ^ n) (sym d)), (refl, refl));
         start = λ z. absurd (z s);
       } in
-      (turned-held file w k first tally a b few h x refl low (a + 8 * u) b tally turned, ap (λ (n : ℕ). n % 4) d ∙ (let l : t < 4 = omega (arith, e, low) in omega (arith, l)))
+      (turned_held file w k first tally a b few h x refl low (a + 8 * u) b tally turned, ap (λ (n : ℕ). n % 4) d ∙ (let l : t < 4 = omega (arith, e, low) in omega (arith, l)))
 
   -- g steps more
-  pub steps-more : (g k a : ℕ) → 1 ≤ k → k + g ≤ 4096 → Low file w (k + g) → thread_of (first_byte file w (k - 1)) ≡ t → ((j : ℕ) → j < g → mark file w (3 + w * (k + j)) ≡ 0)
+  pub steps_more : (g k a : ℕ) → 1 ≤ k → k + g ≤ 4096 → Low file w (k + g) → thread_of (first_byte file w (k - 1)) ≡ t → ((j : ℕ) → j < g → mark file w (3 + w * (k + j)) ≡ 0)
       → Held file w k first tally a b → Held file w (k + g) first tally (step_word a g u) b × (thread_of (first_byte file w (k + g - 1)) ≡ t)
-  steps-more zero k a some few low same quiet h = (
+  steps_more zero k a some few low same quiet h = (
     subst₂ (λ (n m : ℕ). Held file w n first tally m b) (let e : k ≡ k + 0 = omega arith in e) (sym (word_none a u)) h,
     ap (λ (n : ℕ). thread_of (first_byte file w n)) (let e : k + 0 - 1 ≡ k - 1 = omega arith in e) ∙ same,
   )
-  steps-more (suc g) k a some few low same quiet h =
+  steps_more (suc g) k a some few low same quiet h =
       let less : Low file w (k + g) = record { at = λ i l. low.at i (omega arith) } in
-      let (p, q) = steps-more g k a some (omega arith) less same (λ j l. quiet j (omega arith)) h in
+      let (p, q) = steps_more g k a some (omega arith) less same (λ j l. quiet j (omega arith)) h in
       let (x, y) = one_step (k + g) (step_word a g u) (omega arith) (omega arith) (low.at (k + g) (omega arith)) q (quiet g (omega arith)) p in
       let e : step_word a g u + 8 * u ≡ step_word a (suc g) u = sym (word_one (step_word a g u) u) ∙ (word_more a g 1 u ∙ ap (λ (n : ℕ). step_word a n u) (add-one g)) in (
         subst₂ (λ (n m : ℕ). Held file w n first tally m b) (let f : k + g + 1 ≡ k + suc g = omega arith in f) e x,
@@ -183,12 +183,12 @@ module _ (file : List ℕ) (w k : ℕ) (first tally : List ℕ) (a b : ℕ) (few
         let (p, (q, r)) = t.step s in
         let g : step_word a' (1 - f) u ≡ a + 8 * 65536 ^ (x / 16) = ap (λ (n : ℕ). step_word a' (1 - n) u) z ∙ (word_one a' u ∙ ap₂ (λ (m n : ℕ). m + 8 * n) p eu) in
         let turned : Turned x a b tally (step_word a' (1 - f) u) b' l = record { step = λ _. (g, (q, r)); start = λ y. absurd (y s) } in
-        (omega (arith, z), turned-held file w k first tally a b few h x e low (step_word a' (1 - f) u) b' l turned)
+        (omega (arith, z), turned_held file w k first tally a b few h x e low (step_word a' (1 - f) u) b' l turned)
     | no s ↦ let z : f ≡ 1 = ef ∙ (rw (ne_eqb (x % 16) 0 s)) in
         let (p, (q, r)) = t.start s in
         let g : step_word a' (1 - f) u ≡ a' = ap (λ (n : ℕ). step_word a' (1 - n) u) z ∙ word_none a' u in
         let turned : Turned x a b tally (step_word a' (1 - f) u) b' l = record { step = λ y. absurd (s y); start = λ _. (g ∙ p, (q, r)) } in
-        (omega (arith, z), turned-held file w k first tally a b few h x e low (step_word a' (1 - f) u) b' l turned)
+        (omega (arith, z), turned_held file w k first tally a b few h x e low (step_word a' (1 - f) u) b' l turned)
   ]
 
 -- ---- what a turn needs and makes: the record of the lowest mark, its place i in the block, x its first byte
@@ -230,11 +230,11 @@ module _ (file : List ℕ) (w k n m₀ a₀ b₀ : ℕ) (l₀ : List ℕ) (h : R
   pub begins : (w * k ≤ 16384) × ((w ≤ 3 + w * k) × (3 + w * k - w < length file))
   begins = begin_in w k n (length file) h.width h.some h.end h.inside
 
-  pub before-low : get_or file (3 + w * k - w) 0 < 64
-  before-low = rw (before_it w k h.some) (h.low.at (k - 1) (omega (arith, h.some)))
+  pub before_low : get_or file (3 + w * k - w) 0 < 64
+  before_low = rw (before_it w k h.some) (h.low.at (k - 1) (omega (arith, h.some)))
 
-  pub visiting-first : (u : ℕ) → u ≡ 65536 ^ (get_or file (3 + w * k - w) 0 / 16) → Visiting file w k n m₀ u 0 a₀ b₀ l₀ a₀ b₀ l₀
-  visiting-first u e = record {
+  pub visiting_first : (u : ℕ) → u ≡ 65536 ^ (get_or file (3 + w * k - w) 0 / 16) → Visiting file w k n m₀ u 0 a₀ b₀ l₀ a₀ b₀ l₀
+  visiting_first u e = record {
     from = 0;
     seen = omega arith;
     end = omega arith;
@@ -244,7 +244,7 @@ module _ (file : List ℕ) (w k n m₀ a₀ b₀ : ℕ) (l₀ : List ℕ) (h : R
     thread = get_or file (3 + w * k - w) 0 / 16;
     unit = e;
     same = ap (λ (j : ℕ). thread_of (first_byte file w j)) (let q : k + 0 - 1 ≡ k - 1 = omega arith in q)
-        ∙ (ap (λ (j : ℕ). thread_of (get_or file j 0)) (sym (before_it w k h.some)) ∙ omega (arith, before-low));
+        ∙ (ap (λ (j : ℕ). thread_of (get_or file j 0)) (sym (before_it w k h.some)) ∙ omega (arith, before_low));
     held = λ first g. subst₂ (λ (i m : ℕ). Held file w i first l₀ m b₀) (let q : k ≡ k + 0 = omega arith in q) (sym (word_none a₀ u)) g;
   }
 
@@ -259,7 +259,7 @@ module _ (file : List ℕ) (w k n m₀ a₀ b₀ : ℕ) (l₀ : List ℕ) (h : R
         let low : Low file w (k + v.from + (i - v.from)) = record { at = λ j r. h.low.at j (omega arith) } in
         let at : (j : ℕ) → 3 + w * (k + v.from + j) ≡ 3 + w * k + w * (v.from + j) =
         λ j. let r = mul-add w k (v.from + j) in ap (λ (m : ℕ). 3 + w * m) (let u : k + v.from + j ≡ k + (v.from + j) = omega arith in u) ∙ omega arith in
-        let (x, y) = steps-more file w first l b v.thread one v.unit (i - v.from) (k + v.from) (step_word a (v.from - last) one)
+        let (x, y) = steps_more file w first l b v.thread one v.unit (i - v.from) (k + v.from) (step_word a (v.from - last) one)
         (omega (arith, h.some)) (omega (arith, h.end)) low v.same (λ j r. ap (mark file w) (at j) ∙ quiet j r) (v.held first g) in
         subst₂ (λ (m c : ℕ). Held file w m first l c b) (let u : k + v.from + (i - v.from) ≡ k + i = omega arith in u)
         (word_more a (v.from - last) (i - v.from) one ∙ ap (λ (m : ℕ). step_word a m one) (let u : v.from - last + (i - v.from) ≡ i - last = omega (arith, v.seen) in u))
@@ -267,23 +267,23 @@ module _ (file : List ℕ) (w k n m₀ a₀ b₀ : ℕ) (l₀ : List ℕ) (h : R
 
     -- a word of lanes
     word_fits : (i c : ℕ) → i ≤ n → Held file w (k + i) h.first l c b → c < 18446744073709551616
-    word_fits i c q g = rw g.lanes (packed-fits (lanes file w (k + i)) (λ t r. omega (arith, lanes-most file w (k + i) t, h.end)))
+    word_fits i c q g = rw g.lanes (packed_fits (lanes file w (k + i)) (λ t r. omega (arith, lanes_most file w (k + i) t, h.end)))
 
-    one-small : one ≤ 281474976710656
-    one-small = rw v.unit (unit_small v.thread (omega (arith, v.same)))
+    one_small : one ≤ 281474976710656
+    one_small = rw v.unit (unit_small v.thread (omega (arith, v.same)))
 
     -- none is left
     module _ (none : mask ≡ 0) where
-      last-held : (first : List ℕ) → Held file w k first l₀ a₀ b₀ → Held file w (k + n) first l (step_word a (n - last) one) b
-      last-held first g = up_to n v.end (omega arith) (λ j r. none_set (n - v.from) v.from marked (sym v.left ∙ none) j r) first g
+      last_held : (first : List ℕ) → Held file w k first l₀ a₀ b₀ → Held file w (k + n) first l (step_word a (n - last) one) b
+      last_held first g = up_to n v.end (omega arith) (λ j r. none_set (n - v.from) v.from marked (sym v.left ∙ none) j r) first g
 
       pub ended : Ended file w k n one last a b l a₀ b₀ l₀
       ended = record {
         seen = omega (arith, v.seen, v.end);
         few = h.few;
-        unit = one-small;
-        fits = word_fits n (step_word a (n - last) one) (omega arith) (last-held h.first h.held);
-        onward = λ g e. record { held = λ first r. subst (λ (m : ℕ). Held file w (k + n) first l m b) (sym e) (last-held first r) };
+        unit = one_small;
+        fits = word_fits n (step_word a (n - last) one) (omega arith) (last_held h.first h.held);
+        onward = λ g e. record { held = λ first r. subst (λ (m : ℕ). Held file w (k + n) first l m b) (sym e) (last_held first r) };
       }
 
     -- the lowest
@@ -309,17 +309,17 @@ module _ (file : List ℕ) (w k n m₀ a₀ b₀ : ℕ) (l₀ : List ℕ) (h : R
       come : (first : List ℕ) → Held file w k first l₀ a₀ b₀ → Held file w (k + i) first l (step_word a (i - last) one) b
       come first g = up_to i (omega (arith, is)) (omega (arith, inside.1)) (λ j r. here.quiet j (omega (arith, is))) first g
 
-      come-fits : step_word a (i - last) one < 18446744073709551616
-      come-fits = word_fits i (step_word a (i - last) one) (omega (arith, inside.1)) (come h.first h.held)
+      come_fits : step_word a (i - last) one < 18446744073709551616
+      come_fits = word_fits i (step_word a (i - last) one) (omega (arith, inside.1)) (come h.first h.held)
 
-      few-here : k + i < 4096
-      few-here = omega (arith, inside.1, h.end)
+      few_here : k + i < 4096
+      few_here = omega (arith, inside.1, h.end)
 
-      byte-is : first_byte file w (k + i) ≡ get_or file (3 + w * k + w * i) 0
-      byte-is = ap (λ (j : ℕ). get_or file j 0) (sym lies.0)
+      byte_is : first_byte file w (k + i) ≡ get_or file (3 + w * k + w * i) 0
+      byte_is = ap (λ (j : ℕ). get_or file j 0) (sym lies.0)
 
-      ready-here : Ready (get_or file (3 + w * k + w * i) 0) (step_word a (i - last) one) b l
-      ready-here = ready file w (k + i) h.first l (step_word a (i - last) one) b few-here (come h.first h.held) (get_or file (3 + w * k + w * i) 0) byte-is byte_low h.room
+      ready_here : Ready (get_or file (3 + w * k + w * i) 0) (step_word a (i - last) one) b l
+      ready_here = ready file w (k + i) h.first l (step_word a (i - last) one) b few_here (come h.first h.held) (get_or file (3 + w * k + w * i) 0) byte_is byte_low h.room
 
       rest : bit_and mask (mask - 1) ≡ bits (n - (i + 1)) (λ j. mark file w (3 + w * k + w * (i + 1 + j))) * 2 ^ (i + 1)
       rest =
@@ -332,20 +332,20 @@ module _ (file : List ℕ) (w k n m₀ a₀ b₀ : ℕ) (l₀ : List ℕ) (h : R
       module _ (f a' b' u : ℕ) (l' : List ℕ) (ef : f ≡ ite (eqb (get_or file (3 + w * k + w * i) 0 % 16) 0) 0 1) (eu : u ≡ 65536 ^ (get_or file (3 + w * k + w * i) 0 / 16))
           (t : Visited (get_or file (3 + w * k + w * i) 0) (step_word a (i - last) one) b l a' b' l') where
         done : (first : List ℕ) → Held file w k first l₀ a₀ b₀ → (f ≤ 1) × Held file w (k + i + 1) first l' (step_word a' (1 - f) u) b'
-        done first g = visited_held file w (k + i) first l (step_word a (i - last) one) b few-here (come first g) (get_or file (3 + w * k + w * i) 0) byte-is byte_low f a' b' u l' ef eu t
+        done first g = visited_held file w (k + i) first l (step_word a (i - last) one) b few_here (come first g) (get_or file (3 + w * k + w * i) 0) byte_is byte_low f a' b' u l' ef eu t
 
         small : f ≤ 1
         small = (done h.first h.held).0
 
-        visiting-next : Visiting file w k n (bit_and mask (mask - 1)) u (i + f) a' b' l' a₀ b₀ l₀
-        visiting-next = record {
+        visiting_next : Visiting file w k n (bit_and mask (mask - 1)) u (i + f) a' b' l' a₀ b₀ l₀
+        visiting_next = record {
           from = i + 1;
           seen = omega (arith, small);
           end = omega (arith, inside.1);
           left = rest;
           thread = get_or file (3 + w * k + w * i) 0 / 16;
           unit = eu;
-          same = ap (λ (j : ℕ). thread_of (first_byte file w j)) (let q : k + (i + 1) - 1 ≡ k + i = omega arith in q) ∙ (ap thread_of byte-is ∙ omega (arith, byte_low));
+          same = ap (λ (j : ℕ). thread_of (first_byte file w j)) (let q : k + (i + 1) - 1 ≡ k + i = omega arith in q) ∙ (ap thread_of byte_is ∙ omega (arith, byte_low));
           held = λ first g. subst₂ (λ (m c : ℕ). Held file w m first l' c b') (let q : k + i + 1 ≡ k + (i + 1) = omega arith in q)
               (ap (λ (m : ℕ). step_word a' m u) (let q : 1 - f ≡ i + 1 - (i + f) = omega (arith, small) in q))
               (done first g).1;
@@ -358,10 +358,10 @@ module _ (file : List ℕ) (w k n m₀ a₀ b₀ : ℕ) (l₀ : List ℕ) (h : R
         short = times_in w i h.width (omega (arith, inside.1, h.few));
         inside = lies.1;
         low = byte_low;
-        unit = one-small;
-        fits = come-fits;
+        unit = one_small;
+        fits = come_fits;
         less = here.less;
-        ready = λ g e. subst (λ (m : ℕ). Ready (get_or file (at w k mask) 0) m b l) (sym e) ready-here;
+        ready = λ g e. subst (λ (m : ℕ). Ready (get_or file (at w k mask) 0) m b l) (sym e) ready_here;
         small = λ f e. one_bit (get_or file (at w k mask) 0) f e;
-        next = λ g f a' b' u l' eg ef eu t. visiting-next f a' b' u l' ef eu (subst (λ (m : ℕ). Visited (get_or file (at w k mask) 0) m b l a' b' l') eg t);
+        next = λ g f a' b' u l' eg ef eu t. visiting_next f a' b' u l' ef eu (subst (λ (m : ℕ). Visited (get_or file (at w k mask) 0) m b l a' b' l') eg t);
       }

@@ -13,7 +13,7 @@ use lib.ListN.{get_or}
 use Rattle.container.specs.Choice.{ite, upd}
 use Rattle.season.specs.Tally.{starts, place, Tally, empty, just, sum, taken}
 use Rattle.tally.specs.Walk.{first_byte, thread_of, lanes, begun, walked, answer_place, answered, finished}
-use Rattle.tally.proofs.Sums.{sum_at, join-most, just_same, just_other}
+use Rattle.tally.proofs.Sums.{sum_at, join_most, just_same, just_other}
 
 module _ {A : Type 0} (f : ℕ → A) (i : ℕ) (v : A) where
   pub upd_same : upd f i v i ≡ v
@@ -32,13 +32,13 @@ module _ (file : List ℕ) (w k x : ℕ) (e : first_byte file w k ≡ x) where
   unfolding lanes ite
   lanes_start s = rw (e, ne_eqb (x % 16) 0 s)
 
-  pub begun-step : x % 16 ≡ 0 → begun file w (suc k) ≡ begun file w k
+  pub begun_step : x % 16 ≡ 0 → begun file w (suc k) ≡ begun file w k
   unfolding begun ite
-  begun-step s = rw (e, eq-eqb (x % 16) 0 s)
+  begun_step s = rw (e, eq-eqb (x % 16) 0 s)
 
-  pub begun-start : x % 16 ≢ 0 → begun file w (suc k) ≡ upd (begun file w k) (thread_of x) (begun file w k (thread_of x) + 1)
+  pub begun_start : x % 16 ≢ 0 → begun file w (suc k) ≡ upd (begun file w k) (thread_of x) (begun file w k (thread_of x) + 1)
   unfolding begun ite
-  begun-start s = rw (e, ne_eqb (x % 16) 0 s)
+  begun_start s = rw (e, ne_eqb (x % 16) 0 s)
 
   pub walked_step : x % 16 ≡ 0 → walked file w (suc k) ≡ walked file w k
   unfolding walked ite
@@ -58,27 +58,27 @@ more : (m n : ℕ) (f : ℕ → ℕ) → m ≤ n → ((j : ℕ) → f j ≤ m) �
 more m n f l h j = omega (arith, h j)
 
 module _ (file : List ℕ) (w : ℕ) where
-  pub lanes-most : (k t : ℕ) → lanes file w k t ≤ 8 * k + 7
+  pub lanes_most : (k t : ℕ) → lanes file w k t ≤ 8 * k + 7
   unfolding lanes
-  lanes-most zero t = omega arith
-  lanes-most (suc k) t = elim (ℕ_discrete (first_byte file w k % 16) 0) [
-    | yes s ↦ rw (lanes_step file w k _ refl s) (upd_most (8 * suc k + 7) (lanes file w k) _ _ (more (8 * k + 7) (8 * suc k + 7) (lanes file w k) (omega arith) (lanes-most k)) (omega (arith, lanes-most k (thread_of (first_byte file w k)))) t)
-    | no s ↦ rw (lanes_start file w k _ refl s) (upd_most (8 * suc k + 7) (lanes file w k) _ _ (more (8 * k + 7) (8 * suc k + 7) (lanes file w k) (omega arith) (lanes-most k)) (omega arith) t)
+  lanes_most zero t = omega arith
+  lanes_most (suc k) t = elim (ℕ_discrete (first_byte file w k % 16) 0) [
+    | yes s ↦ rw (lanes_step file w k _ refl s) (upd_most (8 * suc k + 7) (lanes file w k) _ _ (more (8 * k + 7) (8 * suc k + 7) (lanes file w k) (omega arith) (lanes_most k)) (omega (arith, lanes_most k (thread_of (first_byte file w k)))) t)
+    | no s ↦ rw (lanes_start file w k _ refl s) (upd_most (8 * suc k + 7) (lanes file w k) _ _ (more (8 * k + 7) (8 * suc k + 7) (lanes file w k) (omega arith) (lanes_most k)) (omega arith) t)
   ]
 
-  pub begun-most : (k t : ℕ) → begun file w k t ≤ k
+  pub begun_most : (k t : ℕ) → begun file w k t ≤ k
   unfolding begun
-  begun-most zero t = omega arith
-  begun-most (suc k) t = elim (ℕ_discrete (first_byte file w k % 16) 0) [
-    | yes s ↦ rw (begun-step file w k _ refl s) (omega (arith, begun-most k t))
-    | no s ↦ rw (begun-start file w k _ refl s) (upd_most (suc k) (begun file w k) _ _ (more k (suc k) (begun file w k) (omega arith) (begun-most k)) (omega (arith, begun-most k (thread_of (first_byte file w k)))) t)
+  begun_most zero t = omega arith
+  begun_most (suc k) t = elim (ℕ_discrete (first_byte file w k % 16) 0) [
+    | yes s ↦ rw (begun_step file w k _ refl s) (omega (arith, begun_most k t))
+    | no s ↦ rw (begun_start file w k _ refl s) (upd_most (suc k) (begun file w k) _ _ (more k (suc k) (begun file w k) (omega arith) (begun_most k)) (omega (arith, begun_most k (thread_of (first_byte file w k)))) t)
   ]
 
 pub just_most : (i n j : ℕ) → just i n j ≤ n
 just_most i n j = elim (ℕ_discrete j i) [ yes q ↦ rw q (omega (arith, just_same i n)) | no q ↦ omega (arith, just_other i n j q) ]
 
 pub sum_most : (t u : Tally) (i : ℕ) → sum t u i ≤ t i + u i
-sum_most t u i = omega (arith, sum_at t u i, join-most i (t i) (u i))
+sum_most t u i = omega (arith, sum_at t u i, join_most i (t i) (u i))
 
 pub taken_most : (a n i : ℕ) → taken a n i ≤ n
 unfolding taken
@@ -95,7 +95,7 @@ walked_most file w (suc k) i h = elim (ℕ_discrete (first_byte file w k % 16) 0
   | yes s ↦ rw (walked_step file w k _ refl s) (omega (arith, walked_most file w k i (omega arith)))
   | no s ↦ let e = lanes file w k (thread_of (first_byte file w k)) in
       rw (walked_start file w k _ refl s)
-      (omega (arith, walked_most file w k i (omega arith), lanes-most file w k (thread_of (first_byte file w k)), sum_most (sum (walked file w k) (taken (e % 8) (e / 8))) (just (first_byte file w k % 8) 1) i, sum_most (walked file w k) (taken (e % 8) (e / 8)) i, taken_most (e % 8) (e / 8) i, just_most (first_byte file w k % 8) 1 i))
+      (omega (arith, walked_most file w k i (omega arith), lanes_most file w k (thread_of (first_byte file w k)), sum_most (sum (walked file w k) (taken (e % 8) (e / 8))) (just (first_byte file w k % 8) 1) i, sum_most (walked file w k) (taken (e % 8) (e / 8)) i, taken_most (e % 8) (e / 8) i, just_most (first_byte file w k % 8) 1 i))
 ]
 
 pub answered_most : (rows : List ℕ) (w m i : ℕ) → answered rows w m i ≤ m

@@ -14,7 +14,7 @@ use Rattle.definitions.specs.Run.{Progress, after, ended, report_of, overlay, ru
 use Rattle.definitions.specs.Profile.{profile_after, profile_refusal, profile_report, profile_buffer}
 use Rattle.definitions.specs.declared.Report.{Report}
 use Rattle.profile.specs.Cut.{Cut, stopped_run, cut_run}
-use Rattle.profile.proofs.ByRun.{profile-by-run}
+use Rattle.profile.proofs.ByRun.{profile_by_run}
 use Rattle.writer.specs.Part.{halt}
 
 -- ---- a report that is stopped
@@ -36,48 +36,48 @@ pub three_long : (file : List ℕ) {b : Bool} → 3 ≤ length file → b ≡ st
 three_long file h e = e ∙ rw (le-leb 3 (length file) h)
 
 module _ (file : List ℕ) (o : leb 3 (length file) && stop_of file ≡ true) where
-  pub three-report : (n : ℕ) → record { refusal = 2; records = 0; rows = 0; set = 0; stored = 0; used = 0 } ≡ profile_report file n
+  pub three_report : (n : ℕ) → record { refusal = 2; records = 0; rows = 0; set = 0; stored = 0; used = 0 } ≡ profile_report file n
   unfolding profile_report profile_refusal ite
-  three-report n = rw o
+  three_report n = rw o
 
-  pub three-buffer : (rows : List ℕ) → rows ≡ profile_buffer file rows
+  pub three_buffer : (rows : List ℕ) → rows ≡ profile_buffer file rows
   unfolding profile_buffer profile_refusal ite
-  three-buffer rows = rw o
+  three_buffer rows = rw o
 
 -- ---- the profile run of another
 
 -- where Run goes no further
 module _ (file : List ℕ) (o : leb 3 (length file) && stop_of file ≡ false) where
   -- a file that is refused
-  pub refused-report : (n : ℕ) → (run_refusal file n ≡ 0 → ⊥) → run_report file n ≡ profile_report file n
+  pub refused_report_lem : (n : ℕ) → (run_refusal file n ≡ 0 → ⊥) → run_report file n ≡ profile_report file n
   unfolding profile_report profile_refusal run_report ite
-  refused-report n z = rw (o, ne_eqb (run_refusal file n) 0 z)
+  refused_report_lem n z = rw (o, ne_eqb (run_refusal file n) 0 z)
 
-  pub refused-buffer : (rows : List ℕ) → (run_refusal file (length rows) ≡ 0 → ⊥) → run_buffer file rows ≡ profile_buffer file rows
+  pub refused_buffer : (rows : List ℕ) → (run_refusal file (length rows) ≡ 0 → ⊥) → run_buffer file rows ≡ profile_buffer file rows
   unfolding profile_buffer profile_refusal run_buffer ite
-  refused-buffer rows z = rw (o, ne_eqb (run_refusal file (length rows)) 0 z)
+  refused_buffer rows z = rw (o, ne_eqb (run_refusal file (length rows)) 0 z)
 
   -- a file with no barred record
   module _ {k : ℕ} (c : Cut file (count_of file) k) where
     whole : count_of file ≤ k → profile_after file (count_of file) ≡ ended file
     unfolding cut_run ite
-    whole l = profile-by-run file (count_of file) k c ∙ rw (le-ltb k (count_of file) l) (ap (after file) (all c.low l))
+    whole l = profile_by_run file (count_of file) k c ∙ rw (le-ltb k (count_of file) l) (ap (after file) (all c.low l))
       where
         all : {a b : ℕ} → a ≤ b → b ≤ a → a ≡ b
         all h i = omega arith
 
-    pub whole-report : (n : ℕ) → count_of file ≤ k → run_report file n ≡ profile_report file n
+    pub whole_report : (n : ℕ) → count_of file ≤ k → run_report file n ≡ profile_report file n
     unfolding profile_report profile_refusal run_report ite
-    whole-report n l = rw (o, whole l)
+    whole_report n l = rw (o, whole l)
 
-    pub whole-buffer : (rows : List ℕ) → count_of file ≤ k → run_buffer file rows ≡ profile_buffer file rows
+    pub whole_buffer : (rows : List ℕ) → count_of file ≤ k → run_buffer file rows ≡ profile_buffer file rows
     unfolding profile_buffer profile_refusal run_buffer ite
-    whole-buffer rows l = rw (o, whole l)
+    whole_buffer rows l = rw (o, whole l)
 
     -- a file with one
     stop : k < count_of file → profile_after file (count_of file) ≡ ite (eqb (after file k).refusal 0) (stopped_run (after file k)) (after file k)
     unfolding cut_run ite
-    stop l = profile-by-run file (count_of file) k c ∙ rw (lt-ltb k (count_of file) l)
+    stop l = profile_by_run file (count_of file) k c ∙ rw (lt-ltb k (count_of file) l)
 
     -- its report, and its rows, whether or not Run went so far
     shown : (p : Progress) → halt (report_of p) ≡ report_of (ite (eqb p.refusal 0) (stopped_run p) p)
@@ -98,10 +98,10 @@ module _ (file : List ℕ) (o : leb 3 (length file) && stop_of file ≡ false) w
         by true = refl
         by false = refl
 
-    pub cut-report : (n : ℕ) {r q : Report} → run_refusal file n ≡ 0 → k < count_of file → r ≡ report_of (after file k) → q ≡ halt r → q ≡ profile_report file n
+    pub cut_report : (n : ℕ) {r q : Report} → run_refusal file n ≡ 0 → k < count_of file → r ≡ report_of (after file k) → q ≡ halt r → q ≡ profile_report file n
     unfolding profile_report profile_refusal ite
-    cut-report n z l e f = rw (o, eq-eqb (run_refusal file n) 0 z) (f ∙ (ap halt e ∙ (shown (after file k) ∙ ap report_of (sym (stop l)))))
+    cut_report n z l e f = rw (o, eq-eqb (run_refusal file n) 0 z) (f ∙ (ap halt e ∙ (shown (after file k) ∙ ap report_of (sym (stop l)))))
 
-    pub cut-buffer : (rows : List ℕ) {w : List ℕ} → run_refusal file (length rows) ≡ 0 → k < count_of file → w ≡ overlay (after file k).rows rows → w ≡ profile_buffer file rows
+    pub cut_buffer : (rows : List ℕ) {w : List ℕ} → run_refusal file (length rows) ≡ 0 → k < count_of file → w ≡ overlay (after file k).rows rows → w ≡ profile_buffer file rows
     unfolding profile_buffer profile_refusal ite
-    cut-buffer rows z l e = rw (o, eq-eqb (run_refusal file (length rows)) 0 z) (e ∙ ap (λ b. overlay b rows) (same_rows (after file k) ∙ ap (λ (p : Progress). p.rows) (sym (stop l))))
+    cut_buffer rows z l e = rw (o, eq-eqb (run_refusal file (length rows)) 0 z) (e ∙ ap (λ b. overlay b rows) (same_rows (after file k) ∙ ap (λ (p : Progress). p.rows) (sym (stop l))))

@@ -79,9 +79,9 @@ module _ (file : List ℕ) (k : ℕ) (z : file_refusal file ≡ 0) (l : k ≤ co
       by false e = omega arith
 
   -- room for the longest file
-  pub end-few : 3 + width file * k ≤ 16387
+  pub end_few : 3 + width file * k ≤ 16387
   unfolding ite
-  end-few = by (eqb (version file) 1) fine.few
+  end_few = by (eqb (version file) 1) fine.few
     where
       by : (v : Bool) → count_of file ≤ 4096 → 3 + ite v 2 4 * k ≤ 16387
       by true h = omega arith
@@ -139,8 +139,8 @@ module _ (file : List ℕ) (k : ℕ) (z : file_refusal file ≡ 0) (l : k ≤ co
     eq-eqb (length p) (3 + width file * k) s,
   )
 
-  pub part-fine : file_refusal (part file k) ≡ 0
-  part-fine = accepted (part file k) size head count
+  pub part_fine : file_refusal (part file k) ≡ 0
+  part_fine = accepted (part file k) size head count
 
   pub same : after (part file k) k ≡ after file k
   same = after_same (part file k) file k head rest k (omega arith)

@@ -13,7 +13,7 @@ use Rattle.definitions.specs.Schedule.{count_of, file_refusal}
 use Rattle.definitions.specs.Run.{after, report_of, overlay, run_refusal, run_report, run_buffer}
 use Rattle.definitions.specs.declared.Report.{Report}
 use Rattle.writer.specs.Part.{part}
-use Rattle.writer.proofs.First.{head, count, part-fine, same, made}
+use Rattle.writer.proofs.First.{head, count, part_fine, same, made}
 
 pub file_fine : (file : List ℕ) (n : ℕ) → run_refusal file n ≡ 0 → file_refusal file ≡ 0
 unfolding run_refusal ite
@@ -41,7 +41,7 @@ module _ (file : List ℕ) (n k : ℕ) (z : run_refusal file n ≡ 0) (r : row_r
   accepted p s h c = rw (s, h, c, le-ltb n (row_room file k) room)
 
   fits : run_refusal (part file k) n ≡ 0
-  fits = accepted (part file k) (part-fine file k fine l) (head file k fine l) (count file k fine l)
+  fits = accepted (part file k) (part_fine file k fine l) (head file k fine l) (count file k fine l)
 
   reports : (p : List ℕ) → run_refusal p n ≡ 0 → count_of p ≡ k → after p k ≡ after file k → run_report p n ≡ report_of (after file k)
   unfolding run_report ite
@@ -59,8 +59,8 @@ module _ (file : List ℕ) (n k : ℕ) (z : run_refusal file n ≡ 0) (r : row_r
 
   -- out has the part's bytes, and the count goes into it
   module _ (out : List ℕ) {end : ℕ} (e : end ≡ 3 + width file * k) (h : take end out ≡ take end file) where
-    pub made-report : {r : Report} → r ≡ run_report (take end (set (set out 1 (k / 256)) 2 (k % 256))) n → r ≡ report_of (after file k)
-    made-report q = q ∙ (ap (λ p. run_report p n) (made file k fine l out e h) ∙ part_report)
+    pub made_report : {r : Report} → r ≡ run_report (take end (set (set out 1 (k / 256)) 2 (k % 256))) n → r ≡ report_of (after file k)
+    made_report q = q ∙ (ap (λ p. run_report p n) (made file k fine l out e h) ∙ part_report)
 
-    pub made-buffer : (rows : List ℕ) {w : List ℕ} → length rows ≡ n → w ≡ run_buffer (take end (set (set out 1 (k / 256)) 2 (k % 256))) rows → w ≡ overlay (after file k).rows rows
-    made-buffer rows i q = q ∙ (ap (λ p. run_buffer p rows) (made file k fine l out e h) ∙ part_buffer rows i)
+    pub made_buffer : (rows : List ℕ) {w : List ℕ} → length rows ≡ n → w ≡ run_buffer (take end (set (set out 1 (k / 256)) 2 (k % 256))) rows → w ≡ overlay (after file k).rows rows
+    made_buffer rows i q = q ∙ (ap (λ p. run_buffer p rows) (made file k fine l out e h) ∙ part_buffer rows i)

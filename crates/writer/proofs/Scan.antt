@@ -30,36 +30,36 @@ module _ (v t a : ℕ) where
   abbrev barring : Bool
   barring = (leb t 3 && leb a (ite (eqb v 1) 5 6)) && outside t a
 
-  pub bars-low : a < 2 → false ≡ barring
-  bars-low h = sym (and_off (leb t 3 && leb a (ite (eqb v 1) 5 6)) _ (rw (ne_eqb a 6 (λ e. omega arith), lt-leb 2 a h) (and_off (ltb 0 t) false refl)))
+  pub bars_low : a < 2 → false ≡ barring
+  bars_low h = sym (and_off (leb t 3 && leb a (ite (eqb v 1) 5 6)) _ (rw (ne_eqb a 6 (λ e. omega arith), lt-leb 2 a h) (and_off (ltb 0 t) false refl)))
 
-  pub bars-high : 3 < t → false ≡ barring
-  bars-high h = rw (lt-leb t 3 h)
+  pub bars_high : 3 < t → false ≡ barring
+  bars_high h = rw (lt-leb t 3 h)
 
   module _ (h : t ≤ 3) where
     -- the last action by the version
     by_last : (b : Bool) → ((c : Bool) → b ≡ leb a (ite c 5 6) && outside t a) → b ≡ barring
     by_last b f = rw (le-leb t 3 h) (f (eqb v 1))
 
-    pub bars-query : a ≡ 6 → not (eqb v 1) ≡ barring
+    pub bars_query : a ≡ 6 → not (eqb v 1) ≡ barring
     unfolding ite
-    bars-query e = rw (le-leb t 3 h, e) (by (eqb v 1))
+    bars_query e = rw (le-leb t 3 h, e) (by (eqb v 1))
       where
         by : (c : Bool) → not c ≡ leb 6 (ite c 5 6) && outside t 6
         by true = refl
         by false = refl
 
-    pub bars-over : (a ≡ 6 → ⊥) → 5 < a → false ≡ barring
+    pub bars_over : (a ≡ 6 → ⊥) → 5 < a → false ≡ barring
     unfolding ite
-    bars-over n m = by_last false by
+    bars_over n m = by_last false by
       where
         by : (c : Bool) → false ≡ leb a (ite c 5 6) && outside t a
         by true = rw (lt-leb a 5 m)
         by false = rw (lt-leb a 6 (omega arith))
 
-    pub bars-rest : 2 ≤ a → a ≤ 5 → ltb 0 t ≡ barring
+    pub bars_rest : 2 ≤ a → a ≤ 5 → ltb 0 t ≡ barring
     unfolding ite
-    bars-rest l m = by_last (ltb 0 t) by
+    bars_rest l m = by_last (ltb 0 t) by
       where
         writes : ltb 0 t ≡ outside t a
         writes = rw (ne_eqb a 6 (λ e. omega arith), le-leb 2 a l, le-leb a 5 m) (sym (and_on (ltb 0 t)))
@@ -68,7 +68,7 @@ module _ (v t a : ℕ) where
         by true = writes ∙ ap (λ x. x && outside t a) (sym (le-leb a 5 m))
         by false = writes ∙ ap (λ x. x && outside t a) (sym (le-leb a 6 (omega arith)))
 
-pub ruleset bars_cases = (bars-low, bars-high, bars-query, bars-over, bars-rest)
+pub ruleset bars_cases = (bars_low, bars_high, bars_query, bars_over, bars_rest)
 
 -- ---- where a record starts
 

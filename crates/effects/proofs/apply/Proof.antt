@@ -1,5 +1,5 @@
 -- `effects::apply` meets its contract. Assumes nothing.
-use Rattle.effects.proofs.Laws.{apply_cases, apply-fork, apply-commit}
+use Rattle.effects.proofs.Laws.{apply_cases, apply_fork, apply_commit}
 use borrow.Author.Rules.{rules}
 use Rattle.effects.proofs.apply.Statement.{statement}
 use Rattle.effects.proofs.apply.Tie as tie
@@ -92,10 +92,10 @@ returns-6 : tie.Need-returns-6
 returns-6 c = search apply_cases
 
 returns-7 : tie.Need-returns-7
-returns-7 c = λ k j. apply-fork _ _ _ k j _ _ _ _ _ _ c.before.before.before.before.before.before.before.before.before.before.w6.given.1 c.before.before.before.before.before.before.node_at.ensures c.before.before.before.put-fork.ensures c.hang-at3.ensures
+returns-7 c = λ k j. apply_fork _ _ _ k j _ _ _ _ _ _ c.before.before.before.before.before.before.before.before.before.before.w6.given.1 c.before.before.before.before.before.before.node_at.ensures c.before.before.before.put-fork.ensures c.hang-at3.ensures
 
 returns-8 : tie.Need-returns-8
-returns-8 c = λ k j. apply-commit _ _ _ k j _ _ _ _ _ _ c.before.before.before.before.before.before.before.before.before.before.before.before.before.before.w7.given.1 c.before.before.before.before.before.before.before.before.before.before.node-at2.ensures c.before.before.before.before.before.before.before.node-at3.ensures c.before.before.before.before.before.before.united.ensures c.before.before.before.put-base2.ensures c.commit.ensures
+returns-8 c = λ k j. apply_commit _ _ _ k j _ _ _ _ _ _ c.before.before.before.before.before.before.before.before.before.before.before.before.before.before.w7.given.1 c.before.before.before.before.before.before.before.before.before.before.node-at2.ensures c.before.before.before.before.before.before.before.node-at3.ensures c.before.before.before.before.before.before.united.ensures c.before.before.before.put-base2.ensures c.commit.ensures
 
 pub apply-spec : {M : Type 1} → statement M
 apply-spec =

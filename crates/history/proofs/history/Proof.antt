@@ -3,7 +3,7 @@ use mathlib.Core.Path.{refl}
 use native.Mathlib.Omega.{arith}
 use lib.ListN.{replicate}
 use Rattle.history.proofs.Loop.{told_room}
-use Rattle.history.proofs.Whole.{told, refusal_is, refused-report, refused-buffer, ended-report, ended-buffer}
+use Rattle.history.proofs.Whole.{told, refusal_is, refused_report_lem, refused_buffer, ended_report, ended_buffer}
 use borrow.Author.Rules.{rules}
 use Rattle.history.proofs.history.Statement.{statement}
 use Rattle.history.proofs.history.Tie as tie
@@ -55,12 +55,12 @@ returns c =
     let n = c.before.before.before.before.before.before.before.before.before.count-starts.ensures.0 in
     let h = c.before.before.before.before.before.before.before.put-header.ensures in
     let g = c.before.before.put-events.ensures in
-    (ended-report _ _ e z t n h g (refusal_is _ (replicate 8192 0) _ e z (u.before.before.before.refusal-of.ensures.1 z) refl u.run.ensures.0), ended-buffer _ _ e z t n h g)
+    (ended_report _ _ e z t n h g (refusal_is _ (replicate 8192 0) _ e z (u.before.before.before.refusal-of.ensures.1 z) refl u.run.ensures.0), ended_buffer _ _ e z t n h g)
 
 returns-2 : tie.Need-returns-2
 returns-2 c =
     let e = c.before.refusal-of.ensures.0 in
-    (refused-report _ c.before.before.before.before.args.events.now e c.if1.false, refused-buffer _ _ e c.if1.false)
+    (refused_report_lem _ c.before.before.before.before.args.events.now e c.if1.false, refused_buffer _ _ e c.if1.false)
 
 pub history-spec : {M : Type 1} → statement M
 history-spec =

@@ -6,7 +6,7 @@ use lib.ListN.{length}
 use borrow.Author.Rules.{rules}
 use Rattle.buffer.specs.Page.{Page, page}
 use Rattle.buffer.proofs.Laws.{put_all_length}
-use Rattle.history.proofs.Loop.{Holds, holds_none, on-start, on-past, on-other, on-ahead, end_low, on-end, page_all, told_room}
+use Rattle.history.proofs.Loop.{Holds, holds_none, on_start, on_past, on_other, on_ahead, end_low, on_end, page_all, told_room}
 use Rattle.history.proofs.put_events.Statement.{statement}
 use Rattle.history.proofs.put_events.Tie as tie
 
@@ -37,8 +37,8 @@ add-y c = let i = c.before in let l = i.before in let s = l.before.before.before
 shared-slice-read-y : tie.Need-shared-slice-read-y invariant-loop decreases-loop
 shared-slice-read-y c = let i = c.before.before in let l = i.before in let s = l.before.before.before.before in omega (arith, i.loop-test.true, told_room _ _ _ _ s.requires)
 
-add-next : tie.Need-overflow-add-next invariant-loop decreases-loop
-add-next c = let i = c.before.before in let l = i.before in let s = l.before.before.before.before in omega (arith, i.loop-test.true, told_room _ _ _ _ s.requires)
+add_next : tie.Need-overflow-add-next invariant-loop decreases-loop
+add_next c = let i = c.before.before in let l = i.before in let s = l.before.before.before.before in omega (arith, i.loop-test.true, told_room _ _ _ _ s.requires)
 
 put-four-requires : tie.Need-put-four-requires invariant-loop decreases-loop
 put-four-requires c κs = search rules
@@ -62,31 +62,31 @@ loop-less : tie.Need-loop-smaller invariant-loop decreases-loop
 loop-less c = search rules
 
 loop-again : tie.Need-loop-preserved invariant-loop decreases-loop
-loop-again c = let i = c.before.before.before.before.before.before.before in let l = i.before in let s = l.before.before.before.before in (omega (arith, i.loop-test.true), on-start _ _ _ _ s.requires _ i.loop-test.true l.loop.invariant.1 c.before.before.before.before.if1.true c.before.before.put_four.ensures)
+loop-again c = let i = c.before.before.before.before.before.before.before in let l = i.before in let s = l.before.before.before.before in (omega (arith, i.loop-test.true), on_start _ _ _ _ s.requires _ i.loop-test.true l.loop.invariant.1 c.before.before.before.before.if1.true c.before.before.put_four.ensures)
 
 loop-less-2 : tie.Need-loop-smaller-2 invariant-loop decreases-loop
 loop-less-2 c = search rules
 
 loop-again-2 : tie.Need-loop-preserved-2 invariant-loop decreases-loop
-loop-again-2 c = let i = c.before.before.before.before.before.before.before.before.before.before.before.before in let l = i.before in let s = l.before.before.before.before in let q = c.before.before.before.before.before.before in (omega (arith, i.loop-test.true), on-end _ _ _ _ s.requires _ i.loop-test.true l.loop.invariant.1 q.before.before.before.if1.false c.before.before.before.before.before.step-ahead.ensures q.before.before.if2.true q.if3.true c.before.before.before.before.if4.true c.before.before.put-finish.ensures)
+loop-again-2 c = let i = c.before.before.before.before.before.before.before.before.before.before.before.before in let l = i.before in let s = l.before.before.before.before in let q = c.before.before.before.before.before.before in (omega (arith, i.loop-test.true), on_end _ _ _ _ s.requires _ i.loop-test.true l.loop.invariant.1 q.before.before.before.if1.false c.before.before.before.before.before.step-ahead.ensures q.before.before.if2.true q.if3.true c.before.before.before.before.if4.true c.before.before.put-finish.ensures)
 
 loop-less-3 : tie.Need-loop-smaller-3 invariant-loop decreases-loop
 loop-less-3 c = search rules
 
 loop-again-3 : tie.Need-loop-preserved-3 invariant-loop decreases-loop
-loop-again-3 c = let i = c.before.before.before.before.before.before.before.before in let l = i.before in let s = l.before.before.before.before in (omega (arith, i.loop-test.true), on-ahead _ _ _ _ s.requires _ i.loop-test.true l.loop.invariant.1 c.before.before.before.before.before.if1.false c.before.step-ahead.ensures c.if4.false)
+loop-again-3 c = let i = c.before.before.before.before.before.before.before.before in let l = i.before in let s = l.before.before.before.before in (omega (arith, i.loop-test.true), on_ahead _ _ _ _ s.requires _ i.loop-test.true l.loop.invariant.1 c.before.before.before.before.before.if1.false c.before.step-ahead.ensures c.if4.false)
 
 loop-less-4 : tie.Need-loop-smaller-4 invariant-loop decreases-loop
 loop-less-4 c = search rules
 
 loop-again-4 : tie.Need-loop-preserved-4 invariant-loop decreases-loop
-loop-again-4 c = let i = c.before.before.before.before.before.before in let l = i.before in let s = l.before.before.before.before in (omega (arith, i.loop-test.true), on-other _ _ _ _ s.requires _ i.loop-test.true l.loop.invariant.1 c.before.before.before.if1.false c.before.before.if2.true c.if3.false)
+loop-again-4 c = let i = c.before.before.before.before.before.before in let l = i.before in let s = l.before.before.before.before in (omega (arith, i.loop-test.true), on_other _ _ _ _ s.requires _ i.loop-test.true l.loop.invariant.1 c.before.before.before.if1.false c.before.before.if2.true c.if3.false)
 
 loop-less-5 : tie.Need-loop-smaller-5 invariant-loop decreases-loop
 loop-less-5 c = search rules
 
 loop-again-5 : tie.Need-loop-preserved-5 invariant-loop decreases-loop
-loop-again-5 c = let i = c.before.before.before.before in let l = i.before in let s = l.before.before.before.before in (omega (arith, i.loop-test.true), on-past _ _ _ _ s.requires _ i.loop-test.true l.loop.invariant.1 c.before.if1.false c.if2.false)
+loop-again-5 c = let i = c.before.before.before.before in let l = i.before in let s = l.before.before.before.before in (omega (arith, i.loop-test.true), on_past _ _ _ _ s.requires _ i.loop-test.true l.loop.invariant.1 c.before.if1.false c.if2.false)
 
 same_length : tie.Need-same-length invariant-loop decreases-loop
 same_length c = ap (λ (q : Page). length q.bytes) c.before.loop.invariant.1.page ∙ put_all_length _ _
@@ -107,7 +107,7 @@ put-events-spec =
     mul-y
     add-y
     shared-slice-read-y
-    add-next
+    add_next
     put-four-requires
     mul-row-thread
     shared-slice-read-row-thread

@@ -4,7 +4,7 @@ use mathlib.Core.Path.{◌≡◌, refl}
 use native.Mathlib.Omega.{arith}
 use borrow.Author.Rules.{rules}
 use Rattle.history.specs.Ahead.{ahead}
-use Rattle.history.proofs.Cases.{ahead_end, ahead-hit, ahead-miss}
+use Rattle.history.proofs.Cases.{ahead_end, ahead_hit, ahead_miss}
 use Rattle.history.proofs.step_ahead.Statement.{statement}
 use Rattle.history.proofs.step_ahead.Tie as tie
 
@@ -27,7 +27,7 @@ shared-slice-read-x : tie.Need-shared-slice-read-x invariant-loop decreases-loop
 shared-slice-read-x c = search rules
 
 returns : tie.Need-returns invariant-loop decreases-loop
-returns c = let l = c.before.before.before in ahead-hit _ _ _ _ _ c.before.before.loop-test.true l.loop.invariant.1 c.if1.true
+returns c = let l = c.before.before.before in ahead_hit _ _ _ _ _ c.before.before.loop-test.true l.loop.invariant.1 c.if1.true
 
 add-k : tie.Need-overflow-add-k invariant-loop decreases-loop
 add-k c = search rules
@@ -36,7 +36,7 @@ loop-less : tie.Need-loop-smaller invariant-loop decreases-loop
 loop-less c = search rules
 
 loop-again : tie.Need-loop-preserved invariant-loop decreases-loop
-loop-again c = let l = c.before.before.before in (omega arith, ahead-miss _ _ _ _ _ c.before.before.loop-test.true l.loop.invariant.1 c.if1.false)
+loop-again c = let l = c.before.before.before in (omega arith, ahead_miss _ _ _ _ _ c.before.before.loop-test.true l.loop.invariant.1 c.if1.false)
 
 returns-2 : tie.Need-returns-2 invariant-loop decreases-loop
 returns-2 c = ahead_end _ _ _ _ _ (omega arith) c.before.loop.invariant.1

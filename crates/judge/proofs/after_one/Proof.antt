@@ -1,5 +1,5 @@
 -- `judge::after_one` meets its contract. Assumes nothing.
-use Rattle.judge.proofs.Cases.{state-skip, state-keep, state-turn}
+use Rattle.judge.proofs.Cases.{state_skip, state_keep, state_turn}
 use borrow.Author.Rules.{rules}
 use Rattle.judge.proofs.after_one.Statement.{statement}
 use Rattle.judge.proofs.after_one.Tie as tie
@@ -27,15 +27,15 @@ turn-requires c κs = let s = c.before.before.before.before.before.before.before
 
 returns : tie.Need-returns
 returns c so = let s = c.before.before.before.before.before.before.before.before in
-    state-turn s.args.t1 s.args.mask s.args.i s.args.set so c.before.before.before.before.before.before.before.contains.ensures c.before.before.before.turns-over.ensures _ c.before.before.before.before.before.before.if1.true c.before.before.if2.true c.turn.ensures
+    state_turn s.args.t1 s.args.mask s.args.i s.args.set so c.before.before.before.before.before.before.before.contains.ensures c.before.before.before.turns-over.ensures _ c.before.before.before.before.before.before.if1.true c.before.before.if2.true c.turn.ensures
 
 returns-2 : tie.Need-returns-2
 returns-2 c so = let s = c.before.before.before.before.before.before in
-    state-keep s.args.t1 s.args.mask s.args.i s.args.set so c.before.before.before.before.before.contains.ensures c.before.turns-over.ensures c.before.before.before.before.if1.true c.if2.false
+    state_keep s.args.t1 s.args.mask s.args.i s.args.set so c.before.before.before.before.before.contains.ensures c.before.turns-over.ensures c.before.before.before.before.if1.true c.if2.false
 
 returns-3 : tie.Need-returns-3
 returns-3 c so = let s = c.before.before in
-    state-skip s.args.t1 s.args.mask s.args.i s.args.set so c.before.contains.ensures c.if1.false
+    state_skip s.args.t1 s.args.mask s.args.i s.args.set so c.before.contains.ensures c.if1.false
 
 pub after-one-spec : {M : Type 1} → statement M
 after-one-spec =

@@ -1,6 +1,6 @@
 -- `judge::begin_op` meets its contract. Assumes nothing.
 use native.Mathlib.Omega.{arith}
-use Rattle.judge.proofs.Noting.{begin_in, begin-past}
+use Rattle.judge.proofs.Noting.{begin_in, begin_past}
 use borrow.Author.Rules.{rules}
 use Rattle.judge.proofs.begin_op.Statement.{statement}
 use Rattle.judge.proofs.begin_op.Tie as tie
@@ -20,8 +20,8 @@ mul_next c = search rules
 element-write-next-4 : tie.Need-element-write-next-4
 element-write-next-4 c = search rules
 
-add-next : tie.Need-overflow-add-next
-add-next c = search rules
+add_next : tie.Need-overflow-add-next
+add_next c = search rules
 
 returns : tie.Need-returns
 returns c = let s = c.before in begin_in s.args.w s.args.a s.args.s s.args.done s.requires.1 (omega arith)
@@ -30,7 +30,7 @@ add-next-2 : tie.Need-overflow-add-next-2
 add-next-2 c = search rules
 
 returns-2 : tie.Need-returns-2
-returns-2 c = let s = c.before in begin-past s.args.w s.args.a s.args.s s.args.done s.requires.1 (omega arith)
+returns-2 c = let s = c.before in begin_past s.args.w s.args.a s.args.s s.args.done s.requires.1 (omega arith)
 
 pub begin-op-spec : {M : Type 1} → statement M
 begin-op-spec =
@@ -41,7 +41,7 @@ begin-op-spec =
     element-write-next-3
     mul_next
     element-write-next-4
-    add-next
+    add_next
     returns
     add-next-2
     returns-2)

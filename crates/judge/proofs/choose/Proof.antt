@@ -6,7 +6,7 @@ use mathlib.Core.Logic.{⊎_elim}
 use native.Mathlib.Omega.{arith}
 use borrow.Author.Rules.{rules}
 use Rattle.judge.specs.Search.{held}
-use Rattle.judge.proofs.Table.{Lower, Left, choose-here, lower-none, lower-done, lower-stuck, left-none, left-done, left-some, entry-dead, entry-full}
+use Rattle.judge.proofs.Table.{Lower, Left, choose_here, lower_none, lower_done, lower_stuck, left_none, left_done, left_some, entry_dead, entry_full}
 use Rattle.judge.proofs.choose.Statement.{statement}
 use Rattle.judge.proofs.choose.Tie as tie
 
@@ -17,7 +17,7 @@ abbrev decreases-loop : tie.decreases-loop
 decreases-loop w next mask n some₀ i₀ some i = n - i
 
 loop-holds : tie.Need-loop-init invariant-loop decreases-loop
-loop-holds c = (omega arith, (lower-none (held c.args.w) c.args.mask c.requires.0, left-none (held c.args.w) c.args.mask c.requires.0))
+loop-holds c = (omega arith, (lower_none (held c.args.w) c.args.mask c.requires.0, left_none (held c.args.w) c.args.mask c.requires.0))
 
 cast-contains : tie.Need-overflow-cast-contains invariant-loop decreases-loop
 cast-contains c = omega (arith, c.before.before.requires.0.few)
@@ -35,7 +35,7 @@ add-result : tie.Need-overflow-add-result invariant-loop decreases-loop
 add-result c = omega (arith, c.before.before.before.before.before.before.requires.0.few)
 
 returns : tie.Need-returns invariant-loop decreases-loop
-returns c = let t = c.before.before in let l = t.before.before.before in let s = l.before in choose-here (held s.args.w) s.args.mask s.requires.0 l.loop.i (omega arith) (sym t.before.contains.ensures ∙ not-true _ t.if1.true) l.loop.invariant.1.0 c.before.can-go.ensures c.if2.true
+returns c = let t = c.before.before in let l = t.before.before.before in let s = l.before in choose_here (held s.args.w) s.args.mask s.requires.0 l.loop.i (omega arith) (sym t.before.contains.ensures ∙ not-true _ t.if1.true) l.loop.invariant.1.0 c.before.can-go.ensures c.if2.true
 
 add-i : tie.Need-overflow-add-i invariant-loop decreases-loop
 add-i c = search rules
@@ -52,24 +52,24 @@ loop-again c =
     (λ w. (
       omega arith,
       (
-        lower-stuck R M s.requires.0 i l.loop.invariant.1.0 w.1.ensures w.2.left,
-        subst (λ b. Left R M (i + 1) b) (sym w.3) (left-some R M s.requires.0 i here (sym c.before.contains.ensures ∙ not-true _ w.0.taken)),
+        lower_stuck R M s.requires.0 i l.loop.invariant.1.0 w.1.ensures w.2.left,
+        subst (λ b. Left R M (i + 1) b) (sym w.3) (left_some R M s.requires.0 i here (sym c.before.contains.ensures ∙ not-true _ w.0.taken)),
       ),
     ))
     (λ w. (
       omega arith,
       (
-        lower-done R M s.requires.0 i l.loop.invariant.1.0 c.before.contains.ensures (not-false _ w.0.left),
-        subst (λ b. Left R M (i + 1) b) (sym w.1) (left-done R M s.requires.0 i l.loop.some l.loop.invariant.1.1 c.before.contains.ensures (not-false _ w.0.left)),
+        lower_done R M s.requires.0 i l.loop.invariant.1.0 c.before.contains.ensures (not-false _ w.0.left),
+        subst (λ b. Left R M (i + 1) b) (sym w.1) (left_done R M s.requires.0 i l.loop.some l.loop.invariant.1.1 c.before.contains.ensures (not-false _ w.0.left)),
       ),
     ))
     c.if1.branch
 
 returns-2 : tie.Need-returns-2 invariant-loop decreases-loop
-returns-2 c = let l = c.before.before in let s = l.before in entry-dead (held s.args.w) s.args.mask s.requires.0 l.loop.i l.loop.some (omega arith) l.loop.invariant.1.0 l.loop.invariant.1.1 c.if3.true
+returns-2 c = let l = c.before.before in let s = l.before in entry_dead (held s.args.w) s.args.mask s.requires.0 l.loop.i l.loop.some (omega arith) l.loop.invariant.1.0 l.loop.invariant.1.1 c.if3.true
 
 returns-3 : tie.Need-returns-3 invariant-loop decreases-loop
-returns-3 c = let l = c.before.before in let s = l.before in entry-full (held s.args.w) s.args.mask s.requires.0 l.loop.i l.loop.some (omega arith) l.loop.invariant.1.1 c.if3.false
+returns-3 c = let l = c.before.before in let s = l.before in entry_full (held s.args.w) s.args.mask s.requires.0 l.loop.i l.loop.some (omega arith) l.loop.invariant.1.1 c.if3.false
 
 pub choose_spec : {M : Type 1} → statement M
 choose_spec =

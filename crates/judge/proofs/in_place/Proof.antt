@@ -1,24 +1,24 @@
 -- `judge::in_place` meets its contract. Assumes nothing.
 use native.Mathlib.Omega.{arith}
-use Rattle.judge.proofs.Noting.{place-thread, place_none, place-action, place-station, place-mark, place_start, place_same, place_other}
+use Rattle.judge.proofs.Noting.{place_thread, place_none, place_action, place_station, place_mark, place_start, place_same, place_other}
 use borrow.Author.Rules.{rules}
 use Rattle.judge.proofs.in_place.Statement.{statement}
 use Rattle.judge.proofs.in_place.Tie as tie
 
 returns : tie.Need-returns
-returns c = λ R so. let s = c.before in place-thread s.args.t s.args.a s.args.s s.args.m R (omega arith)
+returns c = λ R so. let s = c.before in place_thread s.args.t s.args.a s.args.s s.args.m R (omega arith)
 
 returns-2 : tie.Need-returns-2
 returns-2 c = λ R so. let s = c.before.before in place_none s.args.t s.args.a s.args.s s.args.m R (omega arith) (omega arith)
 
 returns-3 : tie.Need-returns-3
-returns-3 c = λ R so. let s = c.before.before.before in place-action s.args.t s.args.a s.args.s s.args.m R (omega arith) (λ e. omega arith) (omega arith)
+returns-3 c = λ R so. let s = c.before.before.before in place_action s.args.t s.args.a s.args.s s.args.m R (omega arith) (λ e. omega arith) (omega arith)
 
 returns-4 : tie.Need-returns-4
-returns-4 c = λ R so. let s = c.before.before.before.before in place-station s.args.t s.args.a s.args.s s.args.m R (omega arith) (λ e. omega arith) (omega arith) (omega arith)
+returns-4 c = λ R so. let s = c.before.before.before.before in place_station s.args.t s.args.a s.args.s s.args.m R (omega arith) (λ e. omega arith) (omega arith) (omega arith)
 
 returns-5 : tie.Need-returns-5
-returns-5 c = λ R so. let s = c.before.before.before.before.before in place-mark s.args.t s.args.a s.args.s s.args.m R (omega arith) (λ e. omega arith) (omega arith) (omega arith) (omega arith)
+returns-5 c = λ R so. let s = c.before.before.before.before.before in place_mark s.args.t s.args.a s.args.s s.args.m R (omega arith) (λ e. omega arith) (omega arith) (omega arith) (omega arith)
 
 element-copy-out-busy : tie.Need-element-copy-out-busy
 element-copy-out-busy c = search rules

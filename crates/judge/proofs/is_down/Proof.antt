@@ -6,7 +6,7 @@ use native.Mathlib.Omega.{arith}
 use borrow.Author.Rules.{rules}
 use lib.ListN.{get_or}
 use Rattle.judge.specs.Search.{held}
-use Rattle.judge.proofs.Table.{DownFrom, down-skip, down-keep, down-broken}
+use Rattle.judge.proofs.Table.{DownFrom, down_skip, down_keep, down_broken}
 use Rattle.judge.proofs.is_down.Statement.{statement}
 use Rattle.judge.proofs.is_down.Tie as tie
 
@@ -38,19 +38,19 @@ united-requires : tie.Need-united-requires invariant-loop decreases-loop
 united-requires c κs = search rules
 
 returns : tie.Need-returns invariant-loop decreases-loop
-returns c = let l = c.before.before.before.before.before.before in let s = l.before in let i = l.loop.i - 1 in (λ z. absurd (true≢false (sym z)), λ _. down-broken (held s.args.t1) s.args.mask i (get_or s.args.t1.befores i 0) (λ j. refl) c.before.before.before.before.contains.ensures c.before.united.ensures c.if2.true c.before.before.before.if1.true (omega arith))
+returns c = let l = c.before.before.before.before.before.before in let s = l.before in let i = l.loop.i - 1 in (λ z. absurd (true≢false (sym z)), λ _. down_broken (held s.args.t1) s.args.mask i (get_or s.args.t1.befores i 0) (λ j. refl) c.before.before.before.before.contains.ensures c.before.united.ensures c.if2.true c.before.before.before.if1.true (omega arith))
 
 loop-less : tie.Need-loop-smaller invariant-loop decreases-loop
 loop-less c = search rules
 
 loop-again : tie.Need-loop-preserved invariant-loop decreases-loop
-loop-again c = let l = c.before.before.before.before.before.before in let s = l.before in let i = l.loop.i - 1 in (omega arith, down-keep (held s.args.t1) s.args.mask i (get_or s.args.t1.befores i 0) (λ j. refl) c.before.before.before.before.contains.ensures c.before.united.ensures c.if2.false (λ j a. l.loop.invariant.1 j (omega arith)))
+loop-again c = let l = c.before.before.before.before.before.before in let s = l.before in let i = l.loop.i - 1 in (omega arith, down_keep (held s.args.t1) s.args.mask i (get_or s.args.t1.befores i 0) (λ j. refl) c.before.before.before.before.contains.ensures c.before.united.ensures c.if2.false (λ j a. l.loop.invariant.1 j (omega arith)))
 
 loop-less-2 : tie.Need-loop-smaller-2 invariant-loop decreases-loop
 loop-less-2 c = search rules
 
 loop-again-2 : tie.Need-loop-preserved-2 invariant-loop decreases-loop
-loop-again-2 c = let l = c.before.before.before in let s = l.before in let i = l.loop.i - 1 in (omega arith, down-skip (held s.args.t1) s.args.mask i (get_or s.args.t1.befores i 0) (λ j. refl) c.before.contains.ensures c.if1.false (λ j a. l.loop.invariant.1 j (omega arith)))
+loop-again-2 c = let l = c.before.before.before in let s = l.before in let i = l.loop.i - 1 in (omega arith, down_skip (held s.args.t1) s.args.mask i (get_or s.args.t1.befores i 0) (λ j. refl) c.before.contains.ensures c.if1.false (λ j a. l.loop.invariant.1 j (omega arith)))
 
 returns-2 : tie.Need-returns-2 invariant-loop decreases-loop
 returns-2 c = let l = c.before in (λ _ j h. l.loop.invariant.1 j (omega arith) h, λ z. absurd (true≢false z))

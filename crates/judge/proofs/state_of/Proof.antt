@@ -5,7 +5,7 @@ use native.Mathlib.Omega.{arith}
 use borrow.Author.Rules.{rules}
 use Rattle.container.specs.Container.{has}
 use Rattle.judge.specs.Search.{state_to, held}
-use Rattle.judge.proofs.Cases.{state-start}
+use Rattle.judge.proofs.Cases.{state_start}
 use Rattle.judge.proofs.state_of.Statement.{statement}
 use Rattle.judge.proofs.state_of.Tie as tie
 
@@ -16,7 +16,7 @@ abbrev decreases-loop : tie.decreases-loop
 decreases-loop w mask n set₀ i₀ set i = n - i
 
 loop-holds : tie.Need-loop-init invariant-loop decreases-loop
-loop-holds c = (omega arith, state-start c.args.w c.args.mask)
+loop-holds c = (omega arith, state_start c.args.w c.args.mask)
 
 after-one-requires : tie.Need-after-one-requires invariant-loop decreases-loop
 after-one-requires c κs = let s = c.before.before in (s.requires.0, (s.requires.1, omega arith))

@@ -1,6 +1,6 @@
 -- `judge::turn` meets its contract. Assumes nothing.
 use native.Mathlib.Omega.{arith}
-use Rattle.judge.proofs.Cases.{turn-out, turn_in}
+use Rattle.judge.proofs.Cases.{turn_out, turn_in}
 use borrow.Author.Rules.{rules}
 use Rattle.judge.proofs.turn.Statement.{statement}
 use Rattle.judge.proofs.turn.Tie as tie
@@ -15,7 +15,7 @@ with-requires : tie.Need-with-requires
 with-requires c κs = search rules
 
 returns : tie.Need-returns
-returns c = turn-out _ _ c.before.before.contains.ensures c.before.if1.true c.without.ensures
+returns c = turn_out _ _ c.before.before.contains.ensures c.before.if1.true c.without.ensures
 
 returns-2 : tie.Need-returns-2
 returns-2 c = turn_in _ _ (omega arith) c.before.before.contains.ensures c.before.if1.false c.with.ensures

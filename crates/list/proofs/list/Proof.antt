@@ -2,7 +2,7 @@
 use native.Mathlib.Omega.{arith}
 use borrow.Author.Rules.{rules}
 use Rattle.run.proofs.Ended.{lent_none, lent_all, spare_all}
-use Rattle.list.proofs.Cases.{has_text_room, refused-report, refused-buffer, listed-report, listed-buffer}
+use Rattle.list.proofs.Cases.{has_text_room, refused_report_lem, refused_buffer, listed_report, listed_buffer}
 use Rattle.list.proofs.list.Statement.{statement}
 use Rattle.list.proofs.list.Tie as tie
 
@@ -39,7 +39,7 @@ returns c =
     let e = f.refusal-of.ensures.0 in
     let z = t.if1.true in
     let a = s.args.text.now in
-    (listed-report _ a e z r.plain-report.ensures.0, listed-buffer _ a e z r.plain-report.ensures.1)
+    (listed_report _ a e z r.plain-report.ensures.0, listed_buffer _ a e z r.plain-report.ensures.1)
 
 may-ask-requires : tie.Need-may-ask-requires
 may-ask-requires c κs = search rules
@@ -83,7 +83,7 @@ returns-2 c =
     let e = f.refusal-of.ensures.0 in
     let z = t.if1.true in
     let a = s.args.text.now in
-    (listed-report _ a e z r.report.ensures.0, listed-buffer _ a e z r.report.ensures.1)
+    (listed_report _ a e z r.report.ensures.0, listed_buffer _ a e z r.report.ensures.1)
 
 slice-aggregate-plain-report-2 : tie.Need-slice-aggregate-plain-report-2
 slice-aggregate-plain-report-2 c = search rules
@@ -111,7 +111,7 @@ returns-3 c =
     let e = f.refusal-of.ensures.0 in
     let z = t.if1.true in
     let a = s.args.text.now in
-    (listed-report _ a e z r.plain-report2.ensures.0, listed-buffer _ a e z r.plain-report2.ensures.1)
+    (listed_report _ a e z r.plain-report2.ensures.0, listed_buffer _ a e z r.plain-report2.ensures.1)
 
 returns-4 : tie.Need-returns-4
 returns-4 c =
@@ -119,7 +119,7 @@ returns-4 c =
     let s = f.before.before.before in
     let e = f.refusal-of.ensures.0 in
     let a = s.args.text.now in
-    (refused-report _ a e c.if1.false, refused-buffer _ a e c.if1.false)
+    (refused_report_lem _ a e c.if1.false, refused_buffer _ a e c.if1.false)
 
 pub list-spec : {M : Type 1} → statement M
 list-spec =

@@ -4,7 +4,7 @@ use native.Mathlib.Omega.{arith}
 use borrow.Author.Rules.{rules}
 use Rattle.nodes.proofs.Fresh.{blank}
 use Rattle.run.proofs.Ended.{none_set}
-use Rattle.list.proofs.Cases.{ended-report, ended-text}
+use Rattle.list.proofs.Cases.{ended_report, ended_text}
 use Rattle.list.proofs.report.Statement.{statement}
 use Rattle.list.proofs.report.Tie as tie
 
@@ -55,7 +55,7 @@ returns c =
     let p = t.requires in
     let h = g.carry-out.ensures.0 in
     let w = y.write-tree.ensures in
-    (ended-report _ _ refl (λ i. omega (arith, p.1.0.whole i)) p.1.1.1 h w, ended-text _ _ refl (λ i. omega (arith, p.1.0.whole i)) p.1.1.1 h w)
+    (ended_report _ _ refl (λ i. omega (arith, p.1.0.whole i)) p.1.1.1 h w, ended_text _ _ refl (λ i. omega (arith, p.1.0.whole i)) p.1.1.1 h w)
 
 pub report-spec : {M : Type 1} → statement M
 report-spec =

@@ -3,7 +3,7 @@ use Prim.Native.Nat.{◌≤◌, ◌-◌}
 use mathlib.Core.Path.{◌≡◌, ap, ◌∙◌}
 use native.Mathlib.Omega.{arith}
 use Rattle.definitions.specs.Merge.{foreign}
-use Rattle.merge.proofs.Cases.{foreign-none, foreign-more}
+use Rattle.merge.proofs.Cases.{foreign_none, foreign_more}
 use borrow.Author.Rules.{rules}
 use Rattle.merge.proofs.foreign_in.Statement.{statement}
 use Rattle.merge.proofs.foreign_in.Tie as tie
@@ -15,7 +15,7 @@ abbrev decreases-loop : tie.decreases-loop
 decreases-loop f s count refusal₀ k₀ refusal k = count - k
 
 loop-holds : tie.Need-loop-init invariant-loop decreases-loop
-loop-holds c = (omega arith, foreign-none _ _)
+loop-holds c = (omega arith, foreign_none _ _)
 
 mul-x : tie.Need-overflow-mul-x invariant-loop decreases-loop
 mul-x c = search rules
@@ -36,7 +36,7 @@ loop-less : tie.Need-loop-smaller invariant-loop decreases-loop
 loop-less c = search rules
 
 loop-again : tie.Need-loop-preserved invariant-loop decreases-loop
-loop-again c = let r = c.before.before in (omega (arith, r.loop-test.true), foreign-more _ _ _ r.before.loop.invariant.1 c.refused-by.ensures)
+loop-again c = let r = c.before.before in (omega (arith, r.loop-test.true), foreign_more _ _ _ r.before.loop.invariant.1 c.refused-by.ensures)
 
 wide-requires : tie.Need-wide-requires invariant-loop decreases-loop
 wide-requires c κs = search rules

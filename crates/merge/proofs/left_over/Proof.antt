@@ -1,5 +1,5 @@
 -- `merge::left_over` meets its contract. Assumes nothing.
-use Rattle.merge.proofs.Output.{rest-second, rest-first}
+use Rattle.merge.proofs.Output.{rest_second, rest_first}
 use borrow.Author.Rules.{rules}
 use Rattle.merge.proofs.left_over.Statement.{statement}
 use Rattle.merge.proofs.left_over.Tie as tie
@@ -26,7 +26,7 @@ part-result-end : tie.Need-slice-bounds-result-end
 part-result-end c = search rules
 
 returns : tie.Need-returns
-returns c = let n = c.before.before in rest-second _ _ n.before.before.before.before.requires n.before.count_of.ensures n.count-of2.ensures c.before.if1.true
+returns c = let n = c.before.before in rest_second _ _ n.before.before.before.before.requires n.before.count_of.ensures n.count-of2.ensures c.before.if1.true
 
 mul-result-2 : tie.Need-overflow-mul-result-2
 mul-result-2 c = search rules
@@ -44,7 +44,7 @@ part-result-end-2 : tie.Need-slice-bounds-result-end-2
 part-result-end-2 c = search rules
 
 returns-2 : tie.Need-returns-2
-returns-2 c = let n = c.before.before in rest-first _ _ n.before.before.before.before.requires n.before.count_of.ensures n.count-of2.ensures c.before.if1.false
+returns-2 c = let n = c.before.before in rest_first _ _ n.before.before.before.before.requires n.before.count_of.ensures n.count-of2.ensures c.before.if1.false
 
 pub left-over-spec : {M : Type 1} → statement M
 left-over-spec =

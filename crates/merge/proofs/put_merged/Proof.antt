@@ -1,8 +1,8 @@
 -- `merge::put_merged` meets its contract. Assumes nothing.
 use native.Mathlib.Omega.{arith}
 use Rattle.definitions.specs.Merge.{turns}
-use Rattle.merge.proofs.Cases.{in_two, in_three, page-kept}
-use Rattle.merge.proofs.Output.{output-put}
+use Rattle.merge.proofs.Cases.{in_two, in_three, page_kept}
+use Rattle.merge.proofs.Output.{output_put}
 use borrow.Author.Rules.{rules, Below-set}
 use Rattle.merge.proofs.put_merged.Statement.{statement}
 use Rattle.merge.proofs.put_merged.Tie as tie
@@ -48,13 +48,13 @@ same_length : tie.Need-same-length
 same_length c =
     let n = c.before.before.before.before in
     let s = n.before.before.before.before.before.before in
-    page-kept s.args.out.now 0 _ 1 _ 2 _ 3 _ c.before.before.put-turns.ensures
+    page_kept s.args.out.now 0 _ 1 _ 2 _ 3 _ c.before.before.put-turns.ensures
 
 returns : tie.Need-returns
 returns c =
     let n = c.before.before.before.before in
     let s = n.before.before.before.before.before.before in
-    output-put _ _ _ s.requires n.before.before.count_of.ensures n.before.count-of2.ensures n.smaller-of.ensures c.before.before.put-turns.ensures
+    output_put _ _ _ s.requires n.before.before.count_of.ensures n.before.count-of2.ensures n.smaller-of.ensures c.before.before.put-turns.ensures
 
 pub put-merged-spec : {M : Type 1} → statement M
 put-merged-spec =

@@ -5,7 +5,7 @@ use native.Mathlib.Omega.{arith}
 use lib.ListN.{length}
 use Rattle.buffer.specs.Page.{page, put_all}
 use Rattle.definitions.specs.Merge.{turns}
-use Rattle.merge.proofs.Cases.{four, turns-none, turns_more, in_two, in_three, four-kept}
+use Rattle.merge.proofs.Cases.{four, turns_none, turns_more, in_two, in_three, four_kept}
 use borrow.Author.Rules.{rules, Below-set}
 use Rattle.merge.proofs.put_turns.Statement.{statement}
 use Rattle.merge.proofs.put_turns.Tie as tie
@@ -17,7 +17,7 @@ abbrev decreases-loop : tie.decreases-loop
 decreases-loop first second count out₀ k₀ out k = count - k
 
 loop-holds : tie.Need-loop-init invariant-loop decreases-loop
-loop-holds c = (omega arith, refl, turns-none _ _ _)
+loop-holds c = (omega arith, refl, turns_none _ _ _)
 
 mul-x : tie.Need-overflow-mul-x invariant-loop decreases-loop
 mul-x c = search rules
@@ -112,7 +112,7 @@ loop-again c =
     let s = i.before.loop in
     let h : 3 + 4 * (s.k + 1) ≤ length s.out = omega (arith, i.loop-test.true, i.before.before.requires, s.invariant.1) in (
       omega (arith, i.loop-test.true),
-      four-kept s.out _ _ _ _ _ _ _ _ ∙ s.invariant.1,
+      four_kept s.out _ _ _ _ _ _ _ _ ∙ s.invariant.1,
       turns_more _ _ s.k _ s.invariant.2 (four _ _ _ _ _ _ (omega arith) (omega arith) (omega arith) (omega arith) h),
     )
 

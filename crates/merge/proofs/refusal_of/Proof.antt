@@ -3,7 +3,7 @@ use mathlib.Core.Path.{◌≡◌, sym, ◌∙◌}
 use native.Mathlib.Omega.{arith}
 use Rattle.schedule.proofs.Laws.{plain}
 use Rattle.definitions.specs.Merge.{merge_refusal}
-use Rattle.merge.proofs.Refusals.{last_two, by_first, by-second, by-foreign, by-foreign-2, so_far, by_total, by-short, by-none}
+use Rattle.merge.proofs.Refusals.{last_two, by_first, by_second, by_foreign, by_foreign_2, so_far, by_total, by_short, by_none}
 use borrow.Author.Rules.{rules}
 use Rattle.merge.proofs.refusal_of.Statement.{statement}
 use Rattle.merge.proofs.refusal_of.Tie as tie
@@ -29,7 +29,7 @@ fault-of-requires-2 : tie.Need-fault-of-requires-2
 fault-of-requires-2 c κs = search rules
 
 returns-2 : tie.Need-returns-2
-returns-2 c = let v = c.before in by-second _ _ _ v.before.before.fault-of.ensures v.before.if1.false v.fault-of2.ensures c.if2.true
+returns-2 c = let v = c.before in by_second _ _ _ v.before.before.fault-of.ensures v.before.if1.false v.fault-of2.ensures c.if2.true
 
 count-of-requires : tie.Need-count-of-requires
 count-of-requires c κs = omega (arith, (plain _ (sym c.before.before.before.fault-of.ensures ∙ c.before.before.if1.false)).whole)
@@ -47,7 +47,7 @@ returns-3 : tie.Need-returns-3
 returns-3 c =
     let n = c.before.before in
     let v = n.before.before.before in
-    by-foreign _ _ _ v.before.before.fault-of.ensures v.before.if1.false v.fault-of2.ensures n.before.before.if2.false n.before.count_of.ensures n.count-of2.ensures c.before.foreign-in.ensures c.if3.true
+    by_foreign _ _ _ v.before.before.fault-of.ensures v.before.if1.false v.fault-of2.ensures n.before.before.if2.false n.before.count_of.ensures n.count-of2.ensures c.before.foreign-in.ensures c.if3.true
 
 foreign-in-requires-2 : tie.Need-foreign-in-requires-2
 foreign-in-requires-2 c κs =
@@ -60,7 +60,7 @@ returns-4 c =
     let s = c.before.before in
     let n = s.before.before in
     let v = n.before.before.before in
-    by-foreign-2 _ _ _ v.before.before.fault-of.ensures v.before.if1.false v.fault-of2.ensures n.before.before.if2.false n.before.count_of.ensures n.count-of2.ensures s.before.foreign-in.ensures s.if3.false c.before.foreign-in2.ensures c.if4.true
+    by_foreign_2 _ _ _ v.before.before.fault-of.ensures v.before.if1.false v.fault-of2.ensures n.before.before.if2.false n.before.count_of.ensures n.count-of2.ensures s.before.foreign-in.ensures s.if3.false c.before.foreign-in2.ensures c.if4.true
 
 add-if5 : tie.Need-overflow-add-if5
 add-if5 c =
@@ -83,10 +83,10 @@ add-if6 : tie.Need-overflow-add-if6
 add-if6 c = search rules
 
 returns-6 : tie.Need-returns-6
-returns-6 c = let m = c.before in by-short _ _ _ (passed m.before.before) m.before.if5.false m.smaller-of.ensures c.if6.true
+returns-6 c = let m = c.before in by_short _ _ _ (passed m.before.before) m.before.if5.false m.smaller-of.ensures c.if6.true
 
 returns-7 : tie.Need-returns-7
-returns-7 c = let m = c.before in by-none _ _ _ (passed m.before.before) m.before.if5.false m.smaller-of.ensures c.if6.false
+returns-7 c = let m = c.before in by_none _ _ _ (passed m.before.before) m.before.if5.false m.smaller-of.ensures c.if6.false
 
 pub refusal-of-spec : {M : Type 1} → statement M
 refusal-of-spec =

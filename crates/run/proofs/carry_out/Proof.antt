@@ -13,7 +13,7 @@ use Rattle.run.proofs.carry_out.Proof.Round.{loop-less-2, loop-again-2, loop-les
 use Rattle.run.proofs.carry_out.Proof.Ends.{loop-holds, same_length, same-length-2, same-length-3, same-length-4, same-length-5}
 use Rattle.run.proofs.carry_out.Proof.Ends.{same-length-6, same-length-7, same-length-8, same-length-9, same-length-10}
 use Rattle.run.proofs.carry_out.Proof.Ends.{same-length-11, same-length-12, same-length-13, same-length-14, returns-2}
-use Rattle.run.proofs.carry_out.Proof.Reads.{version-of-requires, idle-notes-requires, shared-slice-read-x, add-y, shared-slice-read-y, add-after, add-next}
+use Rattle.run.proofs.carry_out.Proof.Reads.{version-of-requires, idle-notes-requires, shared-slice-read-x, add-y, shared-slice-read-y, add-after, add_next}
 use Rattle.run.proofs.carry_out.Proof.Reads.{cast_t, mul-place, element-copy-out-place, ask-requires, extra-at-requires, add-after-2, ask-requires-2}
 use Rattle.run.proofs.carry_out.Proof.Reads.{mul-read-after, array-copy-out-read-after, read-after-requires, mul-threads, way-write-given-threads, mul-find}
 use Rattle.run.proofs.carry_out.Proof.Reads.{array-copy-out-find, find-requires, enum_told, mul-threads-2, way-write-given-threads-2, mul-threads-3}
@@ -43,7 +43,7 @@ carry-out-spec =
     add-y
     shared-slice-read-y
     add-after
-    add-next
+    add_next
     cast_t
     mul-place
     element-copy-out-place

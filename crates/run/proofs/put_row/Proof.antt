@@ -1,5 +1,5 @@
 -- `run::put_row` meets its contract. Assumes nothing.
-use Rattle.run.proofs.Cases.{row_put, wide-row-put}
+use Rattle.run.proofs.Cases.{row_put, wide_row_put}
 use borrow.Author.Rules.{rules}
 use Rattle.run.proofs.put_row.Statement.{statement}
 use Rattle.run.proofs.put_row.Tie as tie
@@ -29,7 +29,7 @@ same-length-2 : tie.Need-same-length-2
 same-length-2 c = search rules
 
 returns-2 : tie.Need-returns-2
-returns-2 c = search wide-row-put
+returns-2 c = search wide_row_put
 
 pub put-row-spec : {M : Type 1} → statement M
 put-row-spec =

@@ -1,6 +1,6 @@
 -- `run::refusal_of` meets its contract. Assumes nothing.
 use native.Mathlib.Omega.{arith}
-use Rattle.run.proofs.Cases.{refusal-file, refusal-room, refusal_none}
+use Rattle.run.proofs.Cases.{refusal_file, refusal_room, refusal_none}
 use borrow.Author.Rules.{rules}
 use Rattle.run.proofs.refusal_of.Statement.{statement}
 use Rattle.run.proofs.refusal_of.Tie as tie
@@ -18,13 +18,13 @@ room-for-requires : tie.Need-room-for-requires
 room-for-requires c κs = let p = c.before.before.before.file-refusal.ensures.1 c.before.before.if1.true in omega (arith, p.few, c.before.count_of.ensures)
 
 returns : tie.Need-returns
-returns c = (refusal-room _ _ c.before.before.before.before.before.file-refusal.ensures.0 c.before.before.before.before.if1.true c.before.before.before.count_of.ensures c.before.room_for.ensures c.if2.true, λ e. absurd (omega arith))
+returns c = (refusal_room _ _ c.before.before.before.before.before.file-refusal.ensures.0 c.before.before.before.before.if1.true c.before.before.before.count_of.ensures c.before.room_for.ensures c.if2.true, λ e. absurd (omega arith))
 
 returns-2 : tie.Need-returns-2
 returns-2 c = (refusal_none _ _ c.before.before.before.before.before.file-refusal.ensures.0 c.before.before.before.before.if1.true c.before.before.before.count_of.ensures c.before.room_for.ensures c.if2.false, λ e. c.before.before.before.before.before.file-refusal.ensures.1 c.before.before.before.before.if1.true)
 
 returns-3 : tie.Need-returns-3
-returns-3 c = (refusal-file _ _ c.before.file-refusal.ensures.0 c.if1.false, λ e. absurd (c.if1.false e))
+returns-3 c = (refusal_file _ _ c.before.file-refusal.ensures.0 c.if1.false, λ e. absurd (c.if1.false e))
 
 pub refusal-of-spec : {M : Type 1} → statement M
 refusal-of-spec =

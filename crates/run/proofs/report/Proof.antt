@@ -2,7 +2,7 @@
 use mathlib.Core.Path.{refl}
 use borrow.Author.Rules.{rules}
 use Rattle.nodes.proofs.Fresh.{blank}
-use Rattle.run.proofs.Ended.{none_set, ended-report, ended-buffer}
+use Rattle.run.proofs.Ended.{none_set, ended_report, ended_buffer}
 use Rattle.run.proofs.report.Statement.{statement}
 use Rattle.run.proofs.report.Tie as tie
 
@@ -49,7 +49,7 @@ returns c =
     let g = b.before.before.before.before.before.before.before.before.before.before.before.before.before in
     let t = g.before.before.before.before.before.before.before.before.before.before.before.before.before.before.before in
     let h = g.carry-out.ensures.0 in
-    (ended-report _ _ refl h b.set_below.ensures s.stored-below.ensures, ended-buffer _ _ refl h t.requires.1.1.1)
+    (ended_report _ _ refl h b.set_below.ensures s.stored-below.ensures, ended_buffer _ _ refl h t.requires.1.1.1)
 
 pub report-spec : {M : Type 1} → statement M
 report-spec =

@@ -2,7 +2,7 @@
 use mathlib.Core.Path.{sym, ◌∙◌}
 use native.Mathlib.Omega.{arith}
 use borrow.Author.Rules.{rules}
-use Rattle.run.proofs.Ended.{room_for, lent_none, lent_all, spare_all, refused-report, refused-buffer, passed-report, passed-buffer}
+use Rattle.run.proofs.Ended.{room_for, lent_none, lent_all, spare_all, refused_report_lem, refused_buffer, passed_report, passed_buffer}
 use Rattle.run.proofs.run.Statement.{statement}
 use Rattle.run.proofs.run.Tie as tie
 
@@ -39,7 +39,7 @@ returns c =
     let e = f.refusal-of.ensures.0 in
     let z = t.if1.true in
     let a = s.args.rows.now in
-    (passed-report _ a e z r.plain-report.ensures.0, passed-buffer _ a e z r.plain-report.ensures.1)
+    (passed_report _ a e z r.plain-report.ensures.0, passed_buffer _ a e z r.plain-report.ensures.1)
 
 may-ask-requires : tie.Need-may-ask-requires
 may-ask-requires c κs = search rules
@@ -83,7 +83,7 @@ returns-2 c =
     let e = f.refusal-of.ensures.0 in
     let z = t.if1.true in
     let a = s.args.rows.now in
-    (passed-report _ a e z r.report.ensures.0, passed-buffer _ a e z r.report.ensures.1)
+    (passed_report _ a e z r.report.ensures.0, passed_buffer _ a e z r.report.ensures.1)
 
 slice-aggregate-plain-report-2 : tie.Need-slice-aggregate-plain-report-2
 slice-aggregate-plain-report-2 c = search rules
@@ -111,7 +111,7 @@ returns-3 c =
     let e = f.refusal-of.ensures.0 in
     let z = t.if1.true in
     let a = s.args.rows.now in
-    (passed-report _ a e z r.plain-report2.ensures.0, passed-buffer _ a e z r.plain-report2.ensures.1)
+    (passed_report _ a e z r.plain-report2.ensures.0, passed_buffer _ a e z r.plain-report2.ensures.1)
 
 returns-4 : tie.Need-returns-4
 returns-4 c =
@@ -119,7 +119,7 @@ returns-4 c =
     let s = f.before.before.before in
     let e = f.refusal-of.ensures.0 in
     let a = s.args.rows.now in
-    (refused-report _ a e c.if1.false, refused-buffer _ a e c.if1.false)
+    (refused_report_lem _ a e c.if1.false, refused_buffer _ a e c.if1.false)
 
 pub run_spec : {M : Type 1} → statement M
 run_spec =

@@ -9,7 +9,7 @@ use Rattle.nodes.specs.Cells.{table}
 use Rattle.nodes.specs.Stores.{stores}
 use Rattle.depths.specs.Rows.{rows, full}
 use Rattle.snapshot.specs.Layout.{each, node_bytes}
-use Rattle.state.proofs.Cases.{each_start, each_step, each-done, node_at}
+use Rattle.state.proofs.Cases.{each_start, each_step, each_done, node_at}
 use Rattle.state.proofs.put_nodes.Statement.{statement}
 use Rattle.state.proofs.put_nodes.Tie as tie
 
@@ -52,7 +52,7 @@ same_length : tie.Need-same-length invariant-loop decreases-loop
 same_length c = search rules
 
 returns : tie.Need-returns invariant-loop decreases-loop
-returns c = let i = c.before.loop.invariant in each-done _ _ _ _ i.0 c.loop-test.false i.1.1
+returns c = let i = c.before.loop.invariant in each_done _ _ _ _ i.0 c.loop-test.false i.1.1
 
 pub put-nodes-spec : {M : Type 1} → statement M
 put-nodes-spec =

@@ -6,7 +6,7 @@ use borrow.Author.Rules.{rules}
 use Rattle.buffer.specs.Page.{page, put_all}
 use Rattle.nodes.specs.Stores.{stores}
 use Rattle.snapshot.specs.Layout.{each, shared_bytes}
-use Rattle.state.proofs.Cases.{each_start, each_step, each-done}
+use Rattle.state.proofs.Cases.{each_start, each_step, each_done}
 use Rattle.state.proofs.put_stores.Statement.{statement}
 use Rattle.state.proofs.put_stores.Tie as tie
 
@@ -46,7 +46,7 @@ same_length : tie.Need-same-length invariant-loop decreases-loop
 same_length c = search rules
 
 returns : tie.Need-returns invariant-loop decreases-loop
-returns c = let i = c.before.loop.invariant in each-done _ _ _ _ i.0 c.loop-test.false i.1.1
+returns c = let i = c.before.loop.invariant in each_done _ _ _ _ i.0 c.loop-test.false i.1.1
 
 pub put-stores-spec : {M : Type 1} → statement M
 put-stores-spec =

@@ -1,6 +1,6 @@
 -- `state::put_thread` meets its contract. Assumes nothing.
 use borrow.Author.Rules.{rules}
-use Rattle.state.proofs.Cases.{thread-flat, thread-deep}
+use Rattle.state.proofs.Cases.{thread_flat, thread_deep}
 use Rattle.state.proofs.put_thread.Statement.{statement}
 use Rattle.state.proofs.put_thread.Tie as tie
 
@@ -14,7 +14,7 @@ same_length : tie.Need-same-length
 same_length c = search rules
 
 returns : tie.Need-returns
-returns c = search thread-flat
+returns c = search thread_flat
 
 put-head-requires-2 : tie.Need-put-head-requires-2
 put-head-requires-2 c κs = search rules
@@ -38,7 +38,7 @@ same-length-2 : tie.Need-same-length-2
 same-length-2 c = search rules
 
 returns-2 : tie.Need-returns-2
-returns-2 c = search thread-deep
+returns-2 c = search thread_deep
 
 pub put-thread-spec : {M : Type 1} → statement M
 put-thread-spec =

@@ -7,7 +7,7 @@ use borrow.Author.Rules.{rules}
 use Rattle.buffer.specs.Page.{page, put_all}
 use Rattle.run.specs.Threads.{threads_of, held_in}
 use Rattle.snapshot.specs.Layout.{each, thread_bytes}
-use Rattle.state.proofs.Cases.{each_start, each_step, each-done, thread_at, thread_few}
+use Rattle.state.proofs.Cases.{each_start, each_step, each_done, thread_at, thread_few}
 use Rattle.state.proofs.put_threads.Statement.{statement}
 use Rattle.state.proofs.put_threads.Tie as tie
 
@@ -60,7 +60,7 @@ same_length : tie.Need-same-length invariant-loop decreases-loop
 same_length c = search rules
 
 returns : tie.Need-returns invariant-loop decreases-loop
-returns c = let i = c.before.loop.invariant in each-done _ _ _ _ i.0 c.loop-test.false i.1.1
+returns c = let i = c.before.loop.invariant in each_done _ _ _ _ i.0 c.loop-test.false i.1.1
 
 pub put-threads-spec : {M : Type 1} → statement M
 put-threads-spec =

@@ -3,7 +3,7 @@ use native.Mathlib.Omega.{arith}
 use borrow.Author.Rules.{rules}
 use Rattle.nodes.proofs.Fresh.{blank}
 use Rattle.run.proofs.Ended.{none_set}
-use Rattle.state.proofs.Ended.{whole-put, all_few, held-report, held-buffer}
+use Rattle.state.proofs.Ended.{whole_put, all_few, held_report, held_buffer}
 use Rattle.state.proofs.report.Statement.{statement}
 use Rattle.state.proofs.report.Tie as tie
 
@@ -67,8 +67,8 @@ returns c =
     let p = g.requires in
     let h = k.carry-out.ensures.0 in
     let o = k.carry-out.ensures.1 in
-    let e = whole-put _ _ h (λ v. omega (arith, p.1.0.whole v)) _ _ o.threads o.stop b.put-bench.ensures in
-    (held-report _ _ _ p.1.1.1.1 e h.refusal h.done, held-buffer _ _ _ p.1.1.1.1 e)
+    let e = whole_put _ _ h (λ v. omega (arith, p.1.0.whole v)) _ _ o.threads o.stop b.put-bench.ensures in
+    (held_report _ _ _ p.1.1.1.1 e h.refusal h.done, held_buffer _ _ _ p.1.1.1.1 e)
 
 pub report-spec : {M : Type 1} → statement M
 report-spec =

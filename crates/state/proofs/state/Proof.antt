@@ -3,7 +3,7 @@ use mathlib.Core.Path.{sym, ◌∙◌}
 use native.Mathlib.Omega.{arith}
 use borrow.Author.Rules.{rules}
 use Rattle.writer.proofs.Scan.{started}
-use Rattle.state.proofs.Answer.{file_fine, room_for, refused-report, refused-buffer, some-report, some-buffer, all-report, all-buffer}
+use Rattle.state.proofs.Answer.{file_fine, room_for, refused_report_lem, refused_buffer, some_report, some_buffer, all_report, all_buffer}
 use Rattle.state.proofs.state.Statement.{statement}
 use Rattle.state.proofs.state.Tie as tie
 
@@ -46,8 +46,8 @@ returns c =
     let g = t.before.before.before.before in
     let e = t.before.refusal-of.ensures.0 in
     let z = t.if1.true in (
-      some-report _ g.args.out.now _ e z (omega (arith, i.if2.true, n.count_of.ensures)) r.before2.ensures.0,
-      some-buffer _ g.args.out.now _ e z (omega (arith, i.if2.true, n.count_of.ensures)) r.before2.ensures.1,
+      some_report _ g.args.out.now _ e z (omega (arith, i.if2.true, n.count_of.ensures)) r.before2.ensures.0,
+      some_buffer _ g.args.out.now _ e z (omega (arith, i.if2.true, n.count_of.ensures)) r.before2.ensures.1,
     )
 
 whole-requires : tie.Need-whole-requires
@@ -68,8 +68,8 @@ returns-2 c =
     let g = t.before.before.before.before in
     let e = t.before.refusal-of.ensures.0 in
     let z = t.if1.true in (
-      all-report _ g.args.out.now _ e z (omega (arith, i.if2.false, n.count_of.ensures)) r.whole.ensures.0,
-      all-buffer _ g.args.out.now _ e z (omega (arith, i.if2.false, n.count_of.ensures)) r.whole.ensures.1,
+      all_report _ g.args.out.now _ e z (omega (arith, i.if2.false, n.count_of.ensures)) r.whole.ensures.0,
+      all_buffer _ g.args.out.now _ e z (omega (arith, i.if2.false, n.count_of.ensures)) r.whole.ensures.1,
     )
 
 returns-3 : tie.Need-returns-3
@@ -77,7 +77,7 @@ returns-3 c =
     let f = c.before in
     let g = f.before.before.before in
     let e = f.refusal-of.ensures.0 in
-    (refused-report _ g.args.out.now _ e c.if1.false, refused-buffer _ g.args.out.now _ e c.if1.false)
+    (refused_report_lem _ g.args.out.now _ e c.if1.false, refused_buffer _ g.args.out.now _ e c.if1.false)
 
 pub state-spec : {M : Type 1} → statement M
 state-spec =

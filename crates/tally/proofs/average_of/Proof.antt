@@ -1,7 +1,7 @@
 -- `tally::average_of` meets its contract. Assumes nothing.
 use mathlib.Core.Path.{◌∙◌}
 use borrow.Author.Rules.{rules}
-use Rattle.tally.proofs.Cases.{average-row, average-first, average-past}
+use Rattle.tally.proofs.Cases.{average_row, average_first, average_past}
 use Rattle.tally.proofs.average_of.Statement.{statement}
 use Rattle.tally.proofs.average_of.Tie as tie
 
@@ -54,13 +54,13 @@ returns c =
     let x = y.before.before in
     let t = x.before.before in
     let s = t.before.before in
-    c.in-lowest.ensures ∙ average-row s.args.tally.now s.args.action t.before.if1.true t.if2.true x.wide.ensures.0 y.wide2.ensures.0 n.wide3.ensures.0
+    c.in-lowest.ensures ∙ average_row s.args.tally.now s.args.action t.before.if1.true t.if2.true x.wide.ensures.0 y.wide2.ensures.0 n.wide3.ensures.0
 
 returns-2 : tie.Need-returns-2
-returns-2 c = let s = c.before.before in average-past s.args.tally.now s.args.action c.if2.false
+returns-2 c = let s = c.before.before in average_past s.args.tally.now s.args.action c.if2.false
 
 returns-3 : tie.Need-returns-3
-returns-3 c = let s = c.before in average-first s.args.tally.now s.args.action c.if1.false
+returns-3 c = let s = c.before in average_first s.args.tally.now s.args.action c.if1.false
 
 pub average-of-spec : {M : Type 1} → statement M
 average-of-spec =

@@ -5,7 +5,7 @@ use native.Mathlib.Omega.{arith}
 use native.Mathlib.Nat.{zero-add}
 use lib.ListN.{length, get_or}
 use borrow.Author.Rules.{rules}
-use Rattle.tally.proofs.Loops.{part_in, Answering, answering_none, room-answer, ended-fits, answering-next}
+use Rattle.tally.proofs.Loops.{part_in, Answering, answering_none, room_answer, ended_fits, answering_next}
 use Rattle.tally.proofs.count_answers.Statement.{statement}
 use Rattle.tally.proofs.count_answers.Tie as tie
 
@@ -52,7 +52,7 @@ count-one-requires c κs =
     let i = c.before.before.before.before.before in
     let l = i.before in
     let s = l.before.before in
-    (omega (arith, c.before.answer-place.ensures.1), room-answer s.args.rows.now s.args.width l.loop.m s.args.tally.now l.loop.tally l.loop.ended (few i) l.loop.invariant.1.1 l.loop.at l.loop.invariant.1.0 s.requires.1.1.1)
+    (omega (arith, c.before.answer-place.ensures.1), room_answer s.args.rows.now s.args.width l.loop.m s.args.tally.now l.loop.tally l.loop.ended (few i) l.loop.invariant.1.1 l.loop.at l.loop.invariant.1.0 s.requires.1.1.1)
 
 unit-requires : tie.Need-unit-requires invariant-loop decreases-loop
 unit-requires c κs = omega arith
@@ -62,7 +62,7 @@ add-ended c =
     let i = c.before.before.before.before.before.before.before in
     let l = i.before in
     let s = l.before.before in
-    rw c.unit.ensures (record { fits = ended-fits s.args.rows.now s.args.width l.loop.m s.args.tally.now l.loop.tally l.loop.ended (few i) l.loop.invariant.1.1 l.loop.at l.loop.invariant.1.0 })
+    rw c.unit.ensures (record { fits = ended_fits s.args.rows.now s.args.width l.loop.m s.args.tally.now l.loop.tally l.loop.ended (few i) l.loop.invariant.1.1 l.loop.at l.loop.invariant.1.0 })
 
 add_at : tie.Need-overflow-add-at invariant-loop decreases-loop
 add_at c = let i = c.before.before.before.before.before.before.before in omega (arith, (inside i).0)
@@ -81,7 +81,7 @@ loop-again c =
       omega (arith, i.loop-test.true),
       (
         omega (arith, (inside i).1),
-        rw c.unit.ensures (answering-next s.args.rows.now s.args.width l.loop.m s.args.tally.now l.loop.tally l.loop.ended (few i) l.loop.invariant.1.1 l.loop.at l.loop.invariant.1.0 c.before.count-one.new.0 c.before.before.before.answer-place.result c.before.before.before.answer-place.ensures.0 c.before.count-one.ensures),
+        rw c.unit.ensures (answering_next s.args.rows.now s.args.width l.loop.m s.args.tally.now l.loop.tally l.loop.ended (few i) l.loop.invariant.1.1 l.loop.at l.loop.invariant.1.0 c.before.count-one.new.0 c.before.before.before.answer-place.result c.before.before.before.answer-place.ensures.0 c.before.count-one.ensures),
       ),
     )
 

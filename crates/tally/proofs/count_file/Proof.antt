@@ -2,20 +2,20 @@
 use lib.ListN.{get_or}
 use borrow.Author.Rules.{rules}
 use Rattle.tally.proofs.Cases.{by_one, by_other}
-use Rattle.tally.proofs.Files.{refusal-low, file-short, walk-needs, answers-needs, close-needs, file-whole}
+use Rattle.tally.proofs.Files.{refusal_low, file_short, walk_needs, answers_needs, close_needs, file_whole}
 use Rattle.tally.proofs.count_file.Statement.{statement}
 use Rattle.tally.proofs.count_file.Tie as tie
 
 count-refusal-requires : tie.Need-count-refusal-requires
 count-refusal-requires c κs =
     let s = c.before.before.before in
-    (refusal-low s.args.schedule.now s.args.rows.now s.args.bad s.args.done s.args.finished s.requires.0, s.requires.1.refusal)
+    (refusal_low s.args.schedule.now s.args.rows.now s.args.bad s.args.done s.args.finished s.requires.0, s.requires.1.refusal)
 
 returns : tie.Need-returns
 returns c =
     let r = c.before in
     let s = r.before.before.before.before in
-    file-short s.args.schedule.now s.args.rows.now s.args.bad s.args.done s.args.finished s.requires.0 s.args.tally.now r.count-refusal.new.0 s.requires.1 r.count-refusal.ensures c.if1.true
+    file_short s.args.schedule.now s.args.rows.now s.args.bad s.args.done s.args.finished s.requires.0 s.args.tally.now r.count-refusal.new.0 s.requires.1 r.count-refusal.ensures c.if1.true
 
 shared-slice-read-if2 : tie.Need-shared-slice-read-if2
 shared-slice-read-if2 c = search rules
@@ -26,7 +26,7 @@ walk-requires c κs =
     let t = v.before.before in
     let r = t.before in
     let s = r.before.before.before.before in
-    walk-needs s.args.schedule.now s.args.rows.now s.args.bad s.args.done s.args.finished s.requires.0 s.args.tally.now r.count-refusal.new.0 s.requires.1 r.count-refusal.ensures t.if1.false 2 (by_one (get_or s.args.schedule.now 0 0) 2 4 v.if2.true)
+    walk_needs s.args.schedule.now s.args.rows.now s.args.bad s.args.done s.args.finished s.requires.0 s.args.tally.now r.count-refusal.new.0 s.requires.1 r.count-refusal.ensures t.if1.false 2 (by_one (get_or s.args.schedule.now 0 0) 2 4 v.if2.true)
 
 count-answers-requires : tie.Need-count-answers-requires
 count-answers-requires c κs =
@@ -35,7 +35,7 @@ count-answers-requires c κs =
     let t = v.before.before in
     let r = t.before in
     let s = r.before.before.before.before in
-    answers-needs s.args.schedule.now s.args.rows.now s.args.bad s.args.done s.args.finished s.requires.0 s.args.tally.now r.count-refusal.new.0 s.requires.1 r.count-refusal.ensures t.if1.false 2 (by_one (get_or s.args.schedule.now 0 0) 2 4 v.if2.true) a.walk.new.1.1.1.0 a.walk.result.lanes a.walk.result.begun a.walk.ensures.0 a.walk.ensures.1.0 a.walk.ensures.1.1 4 (by_one (get_or s.args.schedule.now 0 0) 4 14 v.if2.true)
+    answers_needs s.args.schedule.now s.args.rows.now s.args.bad s.args.done s.args.finished s.requires.0 s.args.tally.now r.count-refusal.new.0 s.requires.1 r.count-refusal.ensures t.if1.false 2 (by_one (get_or s.args.schedule.now 0 0) 2 4 v.if2.true) a.walk.new.1.1.1.0 a.walk.result.lanes a.walk.result.begun a.walk.ensures.0 a.walk.ensures.1.0 a.walk.ensures.1.1 4 (by_one (get_or s.args.schedule.now 0 0) 4 14 v.if2.true)
 
 sub-close : tie.Need-overflow-sub-close
 sub-close c =
@@ -45,7 +45,7 @@ sub-close c =
     let t = v.before.before in
     let r = t.before in
     let s = r.before.before.before.before in
-    (close-needs s.args.schedule.now s.args.rows.now s.args.bad s.args.done s.args.finished s.requires.0 s.args.tally.now r.count-refusal.new.0 s.requires.1 r.count-refusal.ensures t.if1.false 2 (by_one (get_or s.args.schedule.now 0 0) 2 4 v.if2.true) a.walk.new.1.1.1.0 a.walk.result.lanes a.walk.result.begun a.walk.ensures.0 a.walk.ensures.1.0 a.walk.ensures.1.1 4 (by_one (get_or s.args.schedule.now 0 0) 4 14 v.if2.true) n.count-answers.new.1.1.1.0 n.count-answers.result n.count-answers.ensures.0 n.count-answers.ensures.1).0
+    (close_needs s.args.schedule.now s.args.rows.now s.args.bad s.args.done s.args.finished s.requires.0 s.args.tally.now r.count-refusal.new.0 s.requires.1 r.count-refusal.ensures t.if1.false 2 (by_one (get_or s.args.schedule.now 0 0) 2 4 v.if2.true) a.walk.new.1.1.1.0 a.walk.result.lanes a.walk.result.begun a.walk.ensures.0 a.walk.ensures.1.0 a.walk.ensures.1.1 4 (by_one (get_or s.args.schedule.now 0 0) 4 14 v.if2.true) n.count-answers.new.1.1.1.0 n.count-answers.result n.count-answers.ensures.0 n.count-answers.ensures.1).0
 
 close-requires : tie.Need-close-requires
 close-requires c κs =
@@ -55,7 +55,7 @@ close-requires c κs =
     let t = v.before.before in
     let r = t.before in
     let s = r.before.before.before.before in
-    (close-needs s.args.schedule.now s.args.rows.now s.args.bad s.args.done s.args.finished s.requires.0 s.args.tally.now r.count-refusal.new.0 s.requires.1 r.count-refusal.ensures t.if1.false 2 (by_one (get_or s.args.schedule.now 0 0) 2 4 v.if2.true) a.walk.new.1.1.1.0 a.walk.result.lanes a.walk.result.begun a.walk.ensures.0 a.walk.ensures.1.0 a.walk.ensures.1.1 4 (by_one (get_or s.args.schedule.now 0 0) 4 14 v.if2.true) n.count-answers.new.1.1.1.0 n.count-answers.result n.count-answers.ensures.0 n.count-answers.ensures.1).1
+    (close_needs s.args.schedule.now s.args.rows.now s.args.bad s.args.done s.args.finished s.requires.0 s.args.tally.now r.count-refusal.new.0 s.requires.1 r.count-refusal.ensures t.if1.false 2 (by_one (get_or s.args.schedule.now 0 0) 2 4 v.if2.true) a.walk.new.1.1.1.0 a.walk.result.lanes a.walk.result.begun a.walk.ensures.0 a.walk.ensures.1.0 a.walk.ensures.1.1 4 (by_one (get_or s.args.schedule.now 0 0) 4 14 v.if2.true) n.count-answers.new.1.1.1.0 n.count-answers.result n.count-answers.ensures.0 n.count-answers.ensures.1).1
 
 returns-2 : tie.Need-returns-2
 returns-2 c =
@@ -65,7 +65,7 @@ returns-2 c =
     let t = v.before.before in
     let r = t.before in
     let s = r.before.before.before.before in
-    file-whole s.args.schedule.now s.args.rows.now s.args.bad s.args.done s.args.finished s.requires.0 s.args.tally.now r.count-refusal.new.0 s.requires.1 r.count-refusal.ensures t.if1.false 2 (by_one (get_or s.args.schedule.now 0 0) 2 4 v.if2.true) a.walk.new.1.1.1.0 a.walk.result.lanes a.walk.result.begun a.walk.ensures.0 a.walk.ensures.1.0 a.walk.ensures.1.1 4 (by_one (get_or s.args.schedule.now 0 0) 4 14 v.if2.true) n.count-answers.new.1.1.1.0 n.count-answers.result n.count-answers.ensures.0 n.count-answers.ensures.1 c.close.new.1.1.0 c.close.ensures
+    file_whole s.args.schedule.now s.args.rows.now s.args.bad s.args.done s.args.finished s.requires.0 s.args.tally.now r.count-refusal.new.0 s.requires.1 r.count-refusal.ensures t.if1.false 2 (by_one (get_or s.args.schedule.now 0 0) 2 4 v.if2.true) a.walk.new.1.1.1.0 a.walk.result.lanes a.walk.result.begun a.walk.ensures.0 a.walk.ensures.1.0 a.walk.ensures.1.1 4 (by_one (get_or s.args.schedule.now 0 0) 4 14 v.if2.true) n.count-answers.new.1.1.1.0 n.count-answers.result n.count-answers.ensures.0 n.count-answers.ensures.1 c.close.new.1.1.0 c.close.ensures
 
 walk-requires-2 : tie.Need-walk-requires-2
 walk-requires-2 c κs =
@@ -73,7 +73,7 @@ walk-requires-2 c κs =
     let t = v.before.before in
     let r = t.before in
     let s = r.before.before.before.before in
-    walk-needs s.args.schedule.now s.args.rows.now s.args.bad s.args.done s.args.finished s.requires.0 s.args.tally.now r.count-refusal.new.0 s.requires.1 r.count-refusal.ensures t.if1.false 4 (by_other (get_or s.args.schedule.now 0 0) 2 4 v.if2.false)
+    walk_needs s.args.schedule.now s.args.rows.now s.args.bad s.args.done s.args.finished s.requires.0 s.args.tally.now r.count-refusal.new.0 s.requires.1 r.count-refusal.ensures t.if1.false 4 (by_other (get_or s.args.schedule.now 0 0) 2 4 v.if2.false)
 
 count-answers-requires-2 : tie.Need-count-answers-requires-2
 count-answers-requires-2 c κs =
@@ -82,7 +82,7 @@ count-answers-requires-2 c κs =
     let t = v.before.before in
     let r = t.before in
     let s = r.before.before.before.before in
-    answers-needs s.args.schedule.now s.args.rows.now s.args.bad s.args.done s.args.finished s.requires.0 s.args.tally.now r.count-refusal.new.0 s.requires.1 r.count-refusal.ensures t.if1.false 4 (by_other (get_or s.args.schedule.now 0 0) 2 4 v.if2.false) a.walk2.new.1.1.1.0 a.walk2.result.lanes a.walk2.result.begun a.walk2.ensures.0 a.walk2.ensures.1.0 a.walk2.ensures.1.1 14 (by_other (get_or s.args.schedule.now 0 0) 4 14 v.if2.false)
+    answers_needs s.args.schedule.now s.args.rows.now s.args.bad s.args.done s.args.finished s.requires.0 s.args.tally.now r.count-refusal.new.0 s.requires.1 r.count-refusal.ensures t.if1.false 4 (by_other (get_or s.args.schedule.now 0 0) 2 4 v.if2.false) a.walk2.new.1.1.1.0 a.walk2.result.lanes a.walk2.result.begun a.walk2.ensures.0 a.walk2.ensures.1.0 a.walk2.ensures.1.1 14 (by_other (get_or s.args.schedule.now 0 0) 4 14 v.if2.false)
 
 sub-close-2 : tie.Need-overflow-sub-close-2
 sub-close-2 c =
@@ -92,7 +92,7 @@ sub-close-2 c =
     let t = v.before.before in
     let r = t.before in
     let s = r.before.before.before.before in
-    (close-needs s.args.schedule.now s.args.rows.now s.args.bad s.args.done s.args.finished s.requires.0 s.args.tally.now r.count-refusal.new.0 s.requires.1 r.count-refusal.ensures t.if1.false 4 (by_other (get_or s.args.schedule.now 0 0) 2 4 v.if2.false) a.walk2.new.1.1.1.0 a.walk2.result.lanes a.walk2.result.begun a.walk2.ensures.0 a.walk2.ensures.1.0 a.walk2.ensures.1.1 14 (by_other (get_or s.args.schedule.now 0 0) 4 14 v.if2.false) n.count-answers2.new.1.1.1.0 n.count-answers2.result n.count-answers2.ensures.0 n.count-answers2.ensures.1).0
+    (close_needs s.args.schedule.now s.args.rows.now s.args.bad s.args.done s.args.finished s.requires.0 s.args.tally.now r.count-refusal.new.0 s.requires.1 r.count-refusal.ensures t.if1.false 4 (by_other (get_or s.args.schedule.now 0 0) 2 4 v.if2.false) a.walk2.new.1.1.1.0 a.walk2.result.lanes a.walk2.result.begun a.walk2.ensures.0 a.walk2.ensures.1.0 a.walk2.ensures.1.1 14 (by_other (get_or s.args.schedule.now 0 0) 4 14 v.if2.false) n.count-answers2.new.1.1.1.0 n.count-answers2.result n.count-answers2.ensures.0 n.count-answers2.ensures.1).0
 
 close-requires-2 : tie.Need-close-requires-2
 close-requires-2 c κs =
@@ -102,7 +102,7 @@ close-requires-2 c κs =
     let t = v.before.before in
     let r = t.before in
     let s = r.before.before.before.before in
-    (close-needs s.args.schedule.now s.args.rows.now s.args.bad s.args.done s.args.finished s.requires.0 s.args.tally.now r.count-refusal.new.0 s.requires.1 r.count-refusal.ensures t.if1.false 4 (by_other (get_or s.args.schedule.now 0 0) 2 4 v.if2.false) a.walk2.new.1.1.1.0 a.walk2.result.lanes a.walk2.result.begun a.walk2.ensures.0 a.walk2.ensures.1.0 a.walk2.ensures.1.1 14 (by_other (get_or s.args.schedule.now 0 0) 4 14 v.if2.false) n.count-answers2.new.1.1.1.0 n.count-answers2.result n.count-answers2.ensures.0 n.count-answers2.ensures.1).1
+    (close_needs s.args.schedule.now s.args.rows.now s.args.bad s.args.done s.args.finished s.requires.0 s.args.tally.now r.count-refusal.new.0 s.requires.1 r.count-refusal.ensures t.if1.false 4 (by_other (get_or s.args.schedule.now 0 0) 2 4 v.if2.false) a.walk2.new.1.1.1.0 a.walk2.result.lanes a.walk2.result.begun a.walk2.ensures.0 a.walk2.ensures.1.0 a.walk2.ensures.1.1 14 (by_other (get_or s.args.schedule.now 0 0) 4 14 v.if2.false) n.count-answers2.new.1.1.1.0 n.count-answers2.result n.count-answers2.ensures.0 n.count-answers2.ensures.1).1
 
 returns-3 : tie.Need-returns-3
 returns-3 c =
@@ -112,7 +112,7 @@ returns-3 c =
     let t = v.before.before in
     let r = t.before in
     let s = r.before.before.before.before in
-    file-whole s.args.schedule.now s.args.rows.now s.args.bad s.args.done s.args.finished s.requires.0 s.args.tally.now r.count-refusal.new.0 s.requires.1 r.count-refusal.ensures t.if1.false 4 (by_other (get_or s.args.schedule.now 0 0) 2 4 v.if2.false) a.walk2.new.1.1.1.0 a.walk2.result.lanes a.walk2.result.begun a.walk2.ensures.0 a.walk2.ensures.1.0 a.walk2.ensures.1.1 14 (by_other (get_or s.args.schedule.now 0 0) 4 14 v.if2.false) n.count-answers2.new.1.1.1.0 n.count-answers2.result n.count-answers2.ensures.0 n.count-answers2.ensures.1 c.close2.new.1.1.0 c.close2.ensures
+    file_whole s.args.schedule.now s.args.rows.now s.args.bad s.args.done s.args.finished s.requires.0 s.args.tally.now r.count-refusal.new.0 s.requires.1 r.count-refusal.ensures t.if1.false 4 (by_other (get_or s.args.schedule.now 0 0) 2 4 v.if2.false) a.walk2.new.1.1.1.0 a.walk2.result.lanes a.walk2.result.begun a.walk2.ensures.0 a.walk2.ensures.1.0 a.walk2.ensures.1.1 14 (by_other (get_or s.args.schedule.now 0 0) 4 14 v.if2.false) n.count-answers2.new.1.1.1.0 n.count-answers2.result n.count-answers2.ensures.0 n.count-answers2.ensures.1 c.close2.new.1.1.0 c.close2.ensures
 
 pub count-file-spec : {M : Type 1} → statement M
 count-file-spec =

@@ -4,7 +4,7 @@ use Prim.Native.Nat.{◌+◌}
 use native.Mathlib.Omega.{arith}
 use lib.ListN.{length}
 use borrow.Author.Rules.{rules}
-use Rattle.tally.proofs.Cases.{steps-larger, steps-smaller}
+use Rattle.tally.proofs.Cases.{steps_larger, steps_smaller}
 use Rattle.tally.proofs.count_steps.Statement.{statement}
 use Rattle.tally.proofs.count_steps.Tie as tie
 
@@ -51,13 +51,13 @@ returns : tie.Need-returns
 returns c =
     let s = c.before.before.before.before.before in
     let long : length s.args.tally.now ≡ 65 = search rules in
-    steps-larger s.args.tally.now s.args.a s.args.n s.requires.0 long c.if1.true
+    steps_larger s.args.tally.now s.args.a s.args.n s.requires.0 long c.if1.true
 
 returns-2 : tie.Need-returns-2
 returns-2 c =
     let s = c.before.before.before.before.before in
     let long : length s.args.tally.now ≡ 65 = search rules in
-    steps-smaller s.args.tally.now s.args.a s.args.n s.requires.0 long c.if1.false
+    steps_smaller s.args.tally.now s.args.a s.args.n s.requires.0 long c.if1.false
 
 pub count-steps-spec : {M : Type 1} → statement M
 count-steps-spec =

@@ -1,6 +1,6 @@
 -- `tally::in_lowest` meets its contract. Assumes nothing.
 use mathlib.Core.Path.{sym, ◌∙◌}
-use Rattle.tally.proofs.Averages.{gcd-positive, average_none, average_some}
+use Rattle.tally.proofs.Averages.{gcd_positive, average_none, average_some}
 use borrow.Author.Rules.{rules}
 use Rattle.tally.proofs.in_lowest.Statement.{statement}
 use Rattle.tally.proofs.in_lowest.Tie as tie
@@ -12,10 +12,10 @@ gcd-requires : tie.Need-gcd-requires
 gcd-requires c κs = search rules
 
 div-t5 : tie.Need-nonzero-div-t5
-div-t5 c = rw c.gcd.ensures (gcd-positive _ _ c.before.if1.false)
+div-t5 c = rw c.gcd.ensures (gcd_positive _ _ c.before.if1.false)
 
 div-t6 : tie.Need-nonzero-div-t6
-div-t6 c = rw c.gcd.ensures (gcd-positive _ _ c.before.if1.false)
+div-t6 c = rw c.gcd.ensures (gcd_positive _ _ c.before.if1.false)
 
 returns-2 : tie.Need-returns-2
 returns-2 c = rw c.gcd.ensures (sym (average_some _ _ c.before.if1.false))

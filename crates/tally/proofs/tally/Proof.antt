@@ -10,7 +10,7 @@ use Rattle.definitions.specs.declared.Report.{Report}
 use Rattle.season.specs.Tally.{Tally, sum, file_tally, fits, numbers}
 use Rattle.tally.specs.Walk.{Told}
 use Rattle.tally.proofs.Refusals.{refusals_rule}
-use Rattle.tally.proofs.Files.{told_by, fits-report, past-report, fits-numbers, past-numbers, words-fit, none_spare, none_numbers}
+use Rattle.tally.proofs.Files.{told_by, fits_report, past_report, fits_numbers, past_numbers, words_fit, none_spare, none_numbers}
 use Rattle.tally.proofs.tally.Statement.{statement}
 use Rattle.tally.proofs.tally.Tie as tie
 
@@ -52,9 +52,9 @@ returns c =
     let m = f.count-file.new.1.1.1.1.1.0 in
     let long : length m ≡ 65 = search rules in
     let e = by_room u s.args.tally.now m f.count-file.ensures in
-    let h = words-fit s.args.schedule.now (length s.args.rows.now) s.args.tally.now u.run.result u.run.ensures.0 m c.words.ensures e in (
-      fits-report s.args.schedule.now (length s.args.rows.now) s.args.tally.now u.run.result u.run.ensures.0 h,
-      (u.run.ensures.1, fits-numbers s.args.schedule.now (length s.args.rows.now) s.args.tally.now u.run.result u.run.ensures.0 m long e h),
+    let h = words_fit s.args.schedule.now (length s.args.rows.now) s.args.tally.now u.run.result u.run.ensures.0 m c.words.ensures e in (
+      fits_report s.args.schedule.now (length s.args.rows.now) s.args.tally.now u.run.result u.run.ensures.0 h,
+      (u.run.ensures.1, fits_numbers s.args.schedule.now (length s.args.rows.now) s.args.tally.now u.run.result u.run.ensures.0 m long e h),
     )
 
 count-file-requires-2 : tie.Need-count-file-requires-2
@@ -90,8 +90,8 @@ returns-2 c =
     let o = apart f in
     let e : numbers m ≡ sum (numbers s.args.tally.now) (file_tally s.args.schedule.now (length s.args.rows.now)) = a.add.ensures ∙ ap (sum (numbers s.args.tally.now)) o in
     let h : fits (sum (numbers s.args.tally.now) (file_tally s.args.schedule.now (length s.args.rows.now))) ≡ true = ap (λ (z : Tally). fits (sum (numbers s.args.tally.now) z)) (sym o) ∙ (sym v.all_fit.ensures ∙ t.if2.true) in (
-      fits-report s.args.schedule.now (length s.args.rows.now) s.args.tally.now u.run.result u.run.ensures.0 h,
-      (u.run.ensures.1, fits-numbers s.args.schedule.now (length s.args.rows.now) s.args.tally.now u.run.result u.run.ensures.0 m long e h),
+      fits_report s.args.schedule.now (length s.args.rows.now) s.args.tally.now u.run.result u.run.ensures.0 h,
+      (u.run.ensures.1, fits_numbers s.args.schedule.now (length s.args.rows.now) s.args.tally.now u.run.result u.run.ensures.0 m long e h),
     )
 
 same-length-3 : tie.Need-same-length-3
@@ -106,8 +106,8 @@ returns-3 c =
     let s = u.before.before.before.before in
     let long : length s.args.tally.now ≡ 65 = search rules in
     let h : fits (sum (numbers s.args.tally.now) (file_tally s.args.schedule.now (length s.args.rows.now))) ≡ false = ap (λ (z : Tally). fits (sum (numbers s.args.tally.now) z)) (sym (apart f)) ∙ (sym v.all_fit.ensures ∙ t.if2.false) in (
-      past-report s.args.schedule.now (length s.args.rows.now) s.args.tally.now u.run.result u.run.ensures.0 h,
-      (u.run.ensures.1, past-numbers s.args.schedule.now (length s.args.rows.now) s.args.tally.now u.run.result u.run.ensures.0 long h),
+      past_report s.args.schedule.now (length s.args.rows.now) s.args.tally.now u.run.result u.run.ensures.0 h,
+      (u.run.ensures.1, past_numbers s.args.schedule.now (length s.args.rows.now) s.args.tally.now u.run.result u.run.ensures.0 long h),
     )
 
 pub tally-spec : {M : Type 1} → statement M

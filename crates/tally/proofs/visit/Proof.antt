@@ -4,7 +4,7 @@ use Prim.Native.Nat.{ℕ, ◌+◌, ◌-◌, ◌*◌, ◌/◌, ◌%◌, ◌≤◌
 use native.Mathlib.Omega.{arith}
 use lib.ListN.{length, get_or}
 use borrow.Author.Rules.{rules}
-use Rattle.tally.proofs.Visits.{Visiting, Lowest, Ended, begins, before-low, visiting-first, ended, lowest}
+use Rattle.tally.proofs.Visits.{Visiting, Lowest, Ended, begins, before_low, visiting_first, ended, lowest}
 use Rattle.tally.proofs.visit.Statement.{statement}
 use Rattle.tally.proofs.visit.Tie as tie
 
@@ -35,12 +35,12 @@ shared-slice-read-unit c = (first c.before.before).1.1
 unit-requires : tie.Need-unit-requires invariant-loop decreases-loop
 unit-requires c κs =
     let s = c.before.before in
-    omega (arith, before-low s.args.schedule.now s.args.width s.args.k s.args.size s.args.marks s.args.before.lanes s.args.before.begun s.args.tally.now s.requires)
+    omega (arith, before_low s.args.schedule.now s.args.width s.args.k s.args.size s.args.marks s.args.before.lanes s.args.before.begun s.args.tally.now s.requires)
 
 loop-holds : tie.Need-loop-init invariant-loop decreases-loop
 loop-holds c =
     let s = c.before.before.before in
-    visiting-first s.args.schedule.now s.args.width s.args.k s.args.size s.args.marks s.args.before.lanes s.args.before.begun s.args.tally.now s.requires
+    visiting_first s.args.schedule.now s.args.width s.args.k s.args.size s.args.marks s.args.before.lanes s.args.before.begun s.args.tally.now s.requires
     c.unit.result c.unit.ensures
 
 -- the lowest mark of those that are left
@@ -80,8 +80,8 @@ unit-requires-2 c κs = omega (arith, (here c.before.before.before.before).low)
 of-start-requires : tie.Need-of-start-requires invariant-loop decreases-loop
 of-start-requires c κs = search rules
 
-add-last : tie.Need-overflow-add-last invariant-loop decreases-loop
-add-last c = let h = here c.before.before.before.before.before.before in record { fits = omega (arith, h.near, h.small c.of-start.result c.of-start.ensures) }
+add_last : tie.Need-overflow-add-last invariant-loop decreases-loop
+add_last c = let h = here c.before.before.before.before.before.before in record { fits = omega (arith, h.near, h.small c.of-start.result c.of-start.ensures) }
 
 sub-mask : tie.Need-overflow-sub-mask invariant-loop decreases-loop
 sub-mask c = let h = here c.before.before.before.before.before.before in omega (arith, h.less)
@@ -137,7 +137,7 @@ visit-spec =
     visit-one-requires
     unit-requires-2
     of-start-requires
-    add-last
+    add_last
     sub-mask
     loop-less
     loop-again

@@ -92,7 +92,7 @@ returns c =
     let s = j.before in
     visited s.args.x s.args.w.lanes s.args.w.begun s.args.tally.now s.requires i.lane.result o.of-start.result n.of-start2.result j.unit.result
     i.lane.ensures o.of-start.ensures n.of-start2.ensures j.unit.ensures
-    g.count-steps.new.0 h.count-some.new.0 g.count-steps.ensures h.count-some.ensures
+    g.count-steps.new.0 h.count_some_lem.new.0 g.count-steps.ensures h.count_some_lem.ensures
 
 pub visit-one-spec : {M : Type 1} → statement M
 visit-one-spec =

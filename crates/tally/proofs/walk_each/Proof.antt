@@ -6,7 +6,7 @@ use native.Mathlib.Omega.{arith}
 use lib.ListN.{length, get_or}
 use borrow.Author.Rules.{rules}
 use Rattle.tally.specs.Walk.{first_byte, Held}
-use Rattle.tally.proofs.Loops.{part_in, Four, four_in, held_none, ready, turned-held}
+use Rattle.tally.proofs.Loops.{part_in, Four, four_in, held_none, ready, turned_held}
 use Rattle.tally.proofs.walk_each.Statement.{statement}
 use Rattle.tally.proofs.walk_each.Tie as tie
 
@@ -70,7 +70,7 @@ held1 c =
     let i = c.before.before.before in
     let l = i.before in
     let s = l.before.before in
-    turned-held s.args.schedule.now s.args.width l.loop.k s.args.tally.now l.loop.tally l.loop.w.lanes l.loop.w.begun (omega (arith, few i)) l.loop.invariant.1.1 (get_or s.args.schedule.now l.loop.at 0) (first0 i) (low0 i) c.walk-one.result.lanes c.walk-one.result.begun c.walk-one.new.1.1.0 c.walk-one.ensures
+    turned_held s.args.schedule.now s.args.width l.loop.k s.args.tally.now l.loop.tally l.loop.w.lanes l.loop.w.begun (omega (arith, few i)) l.loop.invariant.1.1 (get_or s.args.schedule.now l.loop.at 0) (first0 i) (low0 i) c.walk-one.result.lanes c.walk-one.result.begun c.walk-one.new.1.1.0 c.walk-one.ensures
 
 held2 : (c : tie.After-walk-one2 invariant-loop decreases-loop invariant-loop2 decreases-loop2) → let l = c.before.before.before.before.before.before.before in let s = l.before.before in Held s.args.schedule.now s.args.width (l.loop.k + 1 + 1) s.args.tally.now c.walk-one2.new.1.1.0 c.walk-one2.result.lanes c.walk-one2.result.begun
 held2 c =
@@ -78,7 +78,7 @@ held2 c =
     let l = i.before in
     let s = l.before.before in
     let p = c.before.before.before in
-    turned-held s.args.schedule.now s.args.width (l.loop.k + 1) s.args.tally.now p.walk-one.new.1.1.0 p.walk-one.result.lanes p.walk-one.result.begun (omega (arith, few i)) (held1 p) (get_or s.args.schedule.now (l.loop.at + s.args.width) 0) (first1 i) (low1 i) c.walk-one2.result.lanes c.walk-one2.result.begun c.walk-one2.new.1.1.0 c.walk-one2.ensures
+    turned_held s.args.schedule.now s.args.width (l.loop.k + 1) s.args.tally.now p.walk-one.new.1.1.0 p.walk-one.result.lanes p.walk-one.result.begun (omega (arith, few i)) (held1 p) (get_or s.args.schedule.now (l.loop.at + s.args.width) 0) (first1 i) (low1 i) c.walk-one2.result.lanes c.walk-one2.result.begun c.walk-one2.new.1.1.0 c.walk-one2.ensures
 
 held3 : (c : tie.After-walk-one3 invariant-loop decreases-loop invariant-loop2 decreases-loop2) → let l = c.before.before.before.before.before.before.before.before.before.before in let s = l.before.before in Held s.args.schedule.now s.args.width (l.loop.k + 1 + 1 + 1) s.args.tally.now c.walk-one3.new.1.1.0 c.walk-one3.result.lanes c.walk-one3.result.begun
 held3 c =
@@ -86,7 +86,7 @@ held3 c =
     let l = i.before in
     let s = l.before.before in
     let p = c.before.before.before in
-    turned-held s.args.schedule.now s.args.width (l.loop.k + 1 + 1) s.args.tally.now p.walk-one2.new.1.1.0 p.walk-one2.result.lanes p.walk-one2.result.begun (omega (arith, few i)) (held2 p) (get_or s.args.schedule.now (l.loop.at + 2 * s.args.width) 0) (first2 i) (low2 i) c.walk-one3.result.lanes c.walk-one3.result.begun c.walk-one3.new.1.1.0 c.walk-one3.ensures
+    turned_held s.args.schedule.now s.args.width (l.loop.k + 1 + 1) s.args.tally.now p.walk-one2.new.1.1.0 p.walk-one2.result.lanes p.walk-one2.result.begun (omega (arith, few i)) (held2 p) (get_or s.args.schedule.now (l.loop.at + 2 * s.args.width) 0) (first2 i) (low2 i) c.walk-one3.result.lanes c.walk-one3.result.begun c.walk-one3.new.1.1.0 c.walk-one3.ensures
 
 held4 : (c : tie.After-walk-one4 invariant-loop decreases-loop invariant-loop2 decreases-loop2) → let l = c.before.before.before.before.before.before.before.before.before.before.before.before.before in let s = l.before.before in Held s.args.schedule.now s.args.width (l.loop.k + 1 + 1 + 1 + 1) s.args.tally.now c.walk-one4.new.1.1.0 c.walk-one4.result.lanes c.walk-one4.result.begun
 held4 c =
@@ -94,7 +94,7 @@ held4 c =
     let l = i.before in
     let s = l.before.before in
     let p = c.before.before.before in
-    turned-held s.args.schedule.now s.args.width (l.loop.k + 1 + 1 + 1) s.args.tally.now p.walk-one3.new.1.1.0 p.walk-one3.result.lanes p.walk-one3.result.begun (omega (arith, few i)) (held3 p) (get_or s.args.schedule.now (l.loop.at + 3 * s.args.width) 0) (first3 i) (low3 i) c.walk-one4.result.lanes c.walk-one4.result.begun c.walk-one4.new.1.1.0 c.walk-one4.ensures
+    turned_held s.args.schedule.now s.args.width (l.loop.k + 1 + 1 + 1) s.args.tally.now p.walk-one3.new.1.1.0 p.walk-one3.result.lanes p.walk-one3.result.begun (omega (arith, few i)) (held3 p) (get_or s.args.schedule.now (l.loop.at + 3 * s.args.width) 0) (first3 i) (low3 i) c.walk-one4.result.lanes c.walk-one4.result.begun c.walk-one4.new.1.1.0 c.walk-one4.ensures
 
 shared-slice-read-walk-one : tie.Need-shared-slice-read-walk-one invariant-loop decreases-loop invariant-loop2 decreases-loop2
 shared-slice-read-walk-one c = let i = c.before in omega (arith, (inside i).ranges, i.before.before.before.requires.0)
@@ -224,7 +224,7 @@ loop2-again c =
       omega (arith, i.loop2-test.true),
       (
         (inside2 i).1,
-        λ first h. turned-held s.args.schedule.now s.args.width m.loop2.k first m.loop2.tally m.loop2.w.lanes m.loop2.w.begun (few2 i) (m.loop2.invariant.1.1 first h) (get_or s.args.schedule.now m.loop2.at 0) (first_left i) (low_left i) c.walk-one5.result.lanes c.walk-one5.result.begun c.walk-one5.new.1.1.0 c.walk-one5.ensures,
+        λ first h. turned_held s.args.schedule.now s.args.width m.loop2.k first m.loop2.tally m.loop2.w.lanes m.loop2.w.begun (few2 i) (m.loop2.invariant.1.1 first h) (get_or s.args.schedule.now m.loop2.at 0) (first_left i) (low_left i) c.walk-one5.result.lanes c.walk-one5.result.begun c.walk-one5.new.1.1.0 c.walk-one5.ensures,
       ),
     )
 

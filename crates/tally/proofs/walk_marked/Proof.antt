@@ -5,8 +5,8 @@ use native.Mathlib.Omega.{arith}
 use lib.ListN.{length, get_or}
 use borrow.Author.Rules.{rules}
 use Rattle.tally.specs.Walk.{Held}
-use Rattle.tally.proofs.Loops.{held_none, ready, turned-held}
-use Rattle.tally.proofs.Marked.{Walking, Block, width_low, first_in, first_byte_lem, first_marks, walking-first, block}
+use Rattle.tally.proofs.Loops.{held_none, ready, turned_held}
+use Rattle.tally.proofs.Marked.{Walking, Block, width_low, first_in, first_byte_lem, first_marks, walking_first, block}
 use Rattle.tally.proofs.walk_marked.Statement.{statement}
 use Rattle.tally.proofs.walk_marked.Tie as tie
 
@@ -52,7 +52,7 @@ loop-holds c =
     let v = c.before in
     let s = v.before.before.before.before in
     let p = s.requires in
-    walking-first s.args.schedule.now s.args.width s.args.done p.1.0 p.0 p.1.1.0 p.1.1.1.0 p.1.1.1.1.0
+    walking_first s.args.schedule.now s.args.width s.args.done p.1.0 p.0 p.1.1.0 p.1.1.1.0 p.1.1.1.1.0
     c.marks.result v.walk-one.result.lanes v.walk-one.result.begun v.walk-one.new.1.1.0 c.marks.ensures
 
 -- what is held after the first record
@@ -61,7 +61,7 @@ held : (v : tie.After-walk-one invariant-loop decreases-loop) → let s = v.befo
 held v =
     let s = v.before.before.before.before in
     let t = s.args.tally.now in
-    turned-held s.args.schedule.now s.args.width 0 t t 0 0 (omega arith) (held_none s.args.schedule.now s.args.width t)
+    turned_held s.args.schedule.now s.args.width 0 t t 0 0 (omega arith) (held_none s.args.schedule.now s.args.width t)
     (get_or s.args.schedule.now 3 0) (first_byte_lem s.args.schedule.now s.args.width) (low s)
     v.walk-one.result.lanes v.walk-one.result.begun v.walk-one.new.1.1.0 v.walk-one.ensures
 

@@ -7,8 +7,8 @@ use borrow.Author.Rules.{rules}
 use Rattle.schedule.proofs.Laws.{proper}
 use Rattle.run.proofs.Ended.{room_for}
 use Rattle.writer.proofs.Scan.{part_inside, part_length}
-use Rattle.writer.proofs.First.{inside, end-few}
-use Rattle.writer.proofs.Parts.{file_fine, made-report, made-buffer}
+use Rattle.writer.proofs.First.{inside, end_few}
+use Rattle.writer.proofs.Parts.{file_fine, made_report, made_buffer}
 use Rattle.writer.proofs.before.Statement.{statement}
 use Rattle.writer.proofs.before.Tie as tie
 
@@ -21,7 +21,7 @@ copy-requires c κs =
     let z = file_fine _ _ g.requires.0 in
     let l = g.requires.1.0 in
     let e = g.requires.1.1 in
-    (omega (arith, inside _ _ z l), omega (arith, end-few _ _ z l))
+    (omega (arith, inside _ _ z l), omega (arith, end_few _ _ z l))
 
 cast-part : tie.Need-overflow-cast-part
 cast-part c =
@@ -42,13 +42,13 @@ array-share-prefix-part : tie.Need-array-share-prefix-part
 array-share-prefix-part c =
     let g = c.before.before.before.before.before in
     let z = g.requires.0 in
-    part_inside c.before.copy.new.1.1.0 (g.args.k / 256) (g.args.k % 256) c.part2.given (omega (arith, g.requires.1.1, end-few _ _ (file_fine _ _ z) g.requires.1.0))
+    part_inside c.before.copy.new.1.1.0 (g.args.k / 256) (g.args.k % 256) c.part2.given (omega (arith, g.requires.1.1, end_few _ _ (file_fine _ _ z) g.requires.1.0))
 
 slice-aggregate-run : tie.Need-slice-aggregate-run
 slice-aggregate-run c =
     let g = c.before.before.before.before.before.before in
     let z = g.requires.0 in
-    part_length c.before.before.copy.new.1.1.0 (g.args.k / 256) (g.args.k % 256) c.before.part2.given (omega (arith, g.requires.1.1, end-few _ _ (file_fine _ _ z) g.requires.1.0))
+    part_length c.before.before.copy.new.1.1.0 (g.args.k / 256) (g.args.k % 256) c.before.part2.given (omega (arith, g.requires.1.1, end_few _ _ (file_fine _ _ z) g.requires.1.0))
 
 run-requires : tie.Need-run-requires
 run-requires c κs = search rules
@@ -65,8 +65,8 @@ returns c =
     let w = r.before.before.before.before.copy in
     let out = w.new.1.1.0 in
     let rows = g.args.rows.now in (
-      made-report _ (length rows) g.args.k z (room_for _ _ z) l out g.requires.1.1 w.ensures r.run.ensures.0,
-      made-buffer _ (length rows) g.args.k z (room_for _ _ z) l out g.requires.1.1 w.ensures rows refl r.run.ensures.1,
+      made_report _ (length rows) g.args.k z (room_for _ _ z) l out g.requires.1.1 w.ensures r.run.ensures.0,
+      made_buffer _ (length rows) g.args.k z (room_for _ _ z) l out g.requires.1.1 w.ensures rows refl r.run.ensures.1,
     )
 
 pub before-spec : {M : Type 1} → statement M

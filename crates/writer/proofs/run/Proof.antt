@@ -7,7 +7,7 @@ use borrow.Author.Rules.{rules}
 use Prim.Native.Nat.{◌<◌, ◌≤◌}
 use Rattle.definitions.specs.Schedule.{count_of}
 use Rattle.writer.proofs.Scan.{scanned, started, cut_of}
-use Rattle.writer.proofs.Cases.{three-report, three-buffer, refused-report, refused-buffer, whole-report, whole-buffer, cut-report, cut-buffer}
+use Rattle.writer.proofs.Cases.{three_report, three_buffer, refused_report_lem, refused_buffer, whole_report, whole_buffer, cut_report, cut_buffer}
 use Rattle.writer.proofs.run.Statement.{statement}
 use Rattle.writer.proofs.run.Tie as tie
 
@@ -20,7 +20,7 @@ returns c =
     let h = g.before in
     let s = h.before.before.before in
     let on = sym h.is-of-3.ensures ∙ g.if1.true in
-    (three-report s.args.schedule.now on _, three-buffer s.args.schedule.now on _)
+    (three_report s.args.schedule.now on _, three_buffer s.args.schedule.now on _)
 
 refusal-of-requires : tie.Need-refusal-of-requires
 refusal-of-requires c κs = search rules
@@ -84,7 +84,7 @@ returns-2 c =
     let file = s.args.schedule.now in
     let rows = s.args.rows.now in
     let l : f.first-barred.result < count_of file = omega (arith, u.if3.true, n.count_of.ensures) in
-    (cut-report file off k (length rows) z l b.before2.ensures.0 e.stopped.ensures, cut-buffer file off k rows z l b.before2.ensures.1)
+    (cut_report file off k (length rows) z l b.before2.ensures.0 e.stopped.ensures, cut_buffer file off k rows z l b.before2.ensures.1)
 
 run-requires : tie.Need-run-requires
 run-requires c κs = search rules
@@ -108,8 +108,8 @@ returns-3 c =
     (λ w.
     let k = cut_of file w.2.ensures w.3.ensures in
     let l : count_of file ≤ w.3.result = omega (arith, w.4.left, w.2.ensures) in
-    (r.run.ensures.0 ∙ whole-report file off k (length rows) l, r.run.ensures.1 ∙ whole-buffer file off k rows l))
-    (λ w. (r.run.ensures.0 ∙ refused-report file off (length rows) (λ z. w.left (e ∙ z)), r.run.ensures.1 ∙ refused-buffer file off rows (λ z. w.left (e ∙ z))))
+    (r.run.ensures.0 ∙ whole_report file off k (length rows) l, r.run.ensures.1 ∙ whole_buffer file off k rows l))
+    (λ w. (r.run.ensures.0 ∙ refused_report_lem file off (length rows) (λ z. w.left (e ∙ z)), r.run.ensures.1 ∙ refused_buffer file off rows (λ z. w.left (e ∙ z))))
     j.if2.branch
 
 pub run_spec : {M : Type 1} → statement M

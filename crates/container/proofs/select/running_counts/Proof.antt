@@ -1,6 +1,6 @@
 -- `running_counts` meets its contract: three steps make the counts of bytes, three sums the running counts.
 use Rattle.container.proofs.Fields.{pairs_fit, nibbles_fit, bytes_fit}
-use Rattle.container.proofs.Running.{first_fits, second_fits, third-fits, third-is}
+use Rattle.container.proofs.Running.{first_fits, second_fits, third_fits, third_is}
 use Rattle.container.proofs.select.running_counts.Statement.{statement}
 use Rattle.container.proofs.select.running_counts.Tie as tie
 
@@ -20,10 +20,10 @@ add-y : tie.Need-overflow-add-y
 add-y c = record { fits = second_fits c.args.w c.ranges.w.fits }
 
 add-result : tie.Need-overflow-add-result
-add-result c = record { fits = third-fits c.args.w c.ranges.w.fits }
+add-result c = record { fits = third_fits c.args.w c.ranges.w.fits }
 
 returns : tie.Need-returns
-returns c = third-is c.args.w c.ranges.w.fits
+returns c = third_is c.args.w c.ranges.w.fits
 
 pub running-counts-spec : {M : Type 1} → statement M
 running-counts-spec = tie.close (tie.spec sub-a add-b add-c add-x add-y add-result returns)

@@ -1,5 +1,5 @@
 -- `queries::first::go_down` meets its contract. Assumes nothing.
-use Rattle.queries.proofs.Places.{at-61}
+use Rattle.queries.proofs.Places.{at_61}
 use borrow.Author.Rules.{rules}
 use Rattle.queries.proofs.first.go_down.Statement.{statement}
 use Rattle.queries.proofs.first.go_down.Tie as tie
@@ -17,7 +17,7 @@ reach-requires : tie.Need-reach-requires
 reach-requires c κs = search rules
 
 returns : tie.Need-returns
-returns c = search (at-61, rules)
+returns c = search (at_61, rules)
 
 pub go-down-spec : {M : Type 1} → statement M
 go-down-spec =

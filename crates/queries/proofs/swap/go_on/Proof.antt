@@ -1,5 +1,5 @@
 -- `queries::swap::go_on` meets its contract. Assumes nothing.
-use Rattle.queries.proofs.Places.{at-go-on}
+use Rattle.queries.proofs.Places.{at_go_on}
 use borrow.Author.Rules.{rules}
 use Rattle.queries.proofs.swap.go_on.Statement.{statement}
 use Rattle.queries.proofs.swap.go_on.Tie as tie
@@ -23,7 +23,7 @@ go-on-requires : tie.Need-go-on-requires
 go-on-requires c κs = search rules
 
 returns : tie.Need-returns
-returns c = search (at-go-on, rules)
+returns c = search (at_go_on, rules)
 
 pub go-on-spec : {M : Type 1} → statement M
 go-on-spec =

@@ -20,10 +20,10 @@ use Rattle.definitions.specs.Schedule.{count_of}
 use Rattle.definitions.specs.Run.{after}
 use Rattle.run.specs.Threads.{threads_of, held_in}
 use Rattle.run.specs.Standing.{Sizes, Stands}
-use Rattle.run.proofs.Reading.{before-end, Read, read_plain, read_wide}
-use Rattle.run.proofs.Threads.{Kept, kept-sizes}
-use Rattle.run.proofs.Changed.{Begun, begun-off, begun-on}
-use Rattle.run.proofs.Chosen.{Chosen, chosen_at, chosen-count}
+use Rattle.run.proofs.Reading.{before_end, Read, read_plain, read_wide}
+use Rattle.run.proofs.Threads.{Kept, kept_sizes}
+use Rattle.run.proofs.Changed.{Begun, begun_off, begun_on}
+use Rattle.run.proofs.Chosen.{Chosen, chosen_at, chosen_count}
 use Rattle.run.proofs.Turn.{Asking, seen, stand, awake}
 use Rattle.run.proofs.carry_out.Tie as tie
 
@@ -64,7 +64,7 @@ pub few : (i : tie.In-loop Inv-loop μ-loop) → let l = i.before in let s = l.b
 few i =
     let l = i.before in
     let s = l.before.before.before.before.before.before.before in
-    before-end s.args.schedule.now s.requires.0 l.loop.k (omega (arith, i.loop-test.true, l.loop.invariant.1.0))
+    before_end s.args.schedule.now s.requires.0 l.loop.k (omega (arith, i.loop-test.true, l.loop.invariant.1.0))
 
 -- the record has been read: what it has, where the next one starts, what it asks
 pub read : (j : tie.Joined1 Inv-loop μ-loop) →
@@ -107,7 +107,7 @@ pub sizes : (j : tie.Joined1 Inv-loop μ-loop) →
 sizes j v =
     let l = j.before.before.before.before in
     let s = l.before.before.before.before.before.before.before in
-    kept-sizes l.loop.invariant.1.1.0 s.args.schedule.now s.requires.1.1.1.1 v
+    kept_sizes l.loop.invariant.1.1.0 s.args.schedule.now s.requires.1.1.1.1 v
 
 -- 1 and 2 decide once the routes read are noted
 pub begun : (c : tie.Joined3 Inv-loop μ-loop) (d : Decision) →
@@ -126,8 +126,8 @@ begun c d i =
     let up = awake (asking j) t.before.match.keys1 in
     rw (← o.version_of.ensures)
     (⊎_elim
-    (λ v. begun-on _ _ _ _ _ _ _ _ _ _ up t.if2.true i v.0.taken (omega (arith, (asking j).four)) v.2.ensures v.4)
-    (λ v. begun-off _ _ _ _ _ _ _ _ _ _ up t.if2.true i v.0.left v.1)
+    (λ v. begun_on _ _ _ _ _ _ _ _ _ _ up t.if2.true i v.0.taken (omega (arith, (asking j).four)) v.2.ensures v.4)
+    (λ v. begun_off _ _ _ _ _ _ _ _ _ _ up t.if2.true i v.0.left v.1)
     c.if3.branch)
 
 -- what is decided from 3 to 51, and the count after it
@@ -140,7 +140,7 @@ chosen c =
     let on = ap (λ v. eqb v 3) o.version_of.ensures in
     ⊎_elim
     (λ w. chosen_at (asking j) (λ u. omega (arith, w.0.taken)) (λ u. omega (arith, w.0.taken)) on w.3 w.4 w.2.ensures)
-    (⊎_elim (λ w. chosen-count (asking j) m.match.keys1 (omega (arith, e.if2.false, w.0.left)) w.1.taken w.2.ensures w.5 w.6 w.4.ensures)
+    (⊎_elim (λ w. chosen_count (asking j) m.match.keys1 (omega (arith, e.if2.false, w.0.left)) w.1.taken w.2.ensures w.5 w.6 w.4.ensures)
     (⊎_elim (λ w. chosen_at (asking j) (λ u. omega (arith, w.1.left)) (λ u. omega (arith, w.1.left)) on w.5 w.6 w.4.ensures)
     (λ w. chosen_at (asking j) (λ u. omega (arith, w.1.left)) (λ u. omega (arith, w.1.left)) on w.5 w.6 w.4.ensures)))
     c.if6.branch

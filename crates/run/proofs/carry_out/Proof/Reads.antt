@@ -5,7 +5,7 @@ use native.Mathlib.Omega.{arith}
 use borrow.Author.Rules.{rules}
 use Rattle.run.proofs.Reading.{inside, near, far, short}
 use Rattle.run.proofs.Changed.{reread_place}
-use Rattle.run.proofs.Turn.{thread_few, count_few, count-some}
+use Rattle.run.proofs.Turn.{thread_few, count_few, count_some_lem}
 use Rattle.run.proofs.carry_out.Tie as tie
 use Rattle.run.proofs.carry_out.Proof.Loop.{Inv-loop, μ-loop, past, few, asking}
 
@@ -45,7 +45,7 @@ extra-at-requires c κs =
 pub recount-requires : tie.Need-recount-requires Inv-loop μ-loop
 recount-requires c κs =
     let j = c.before.before.before.before.before.before.before.before.before in
-    (omega (arith, count_few (asking j)), count-some (asking j))
+    (omega (arith, count_few (asking j)), count_some_lem (asking j))
 
 pub find-requires : tie.Need-find-requires Inv-loop μ-loop
 find-requires c κs =
@@ -76,8 +76,8 @@ idle-notes-requires c κs = search rules
 pub shared-slice-read-x : tie.Need-shared-slice-read-x Inv-loop μ-loop
 shared-slice-read-x c = search rules
 
-pub add-next : tie.Need-overflow-add-next Inv-loop μ-loop
-add-next c = search rules
+pub add_next : tie.Need-overflow-add-next Inv-loop μ-loop
+add_next c = search rules
 
 pub cast_t : tie.Need-overflow-cast-t Inv-loop μ-loop
 cast_t c = search rules

@@ -15,10 +15,10 @@ use Rattle.run.specs.Threads.{held_in}
 use Rattle.run.specs.Query.{found_row}
 use Rattle.run.proofs.Rows.{finished_few}
 use Rattle.run.proofs.Reading.{onwards}
-use Rattle.run.proofs.Threads.{kept-deep, kept_on}
+use Rattle.run.proofs.Threads.{kept_deep, kept_on}
 use Rattle.run.proofs.Noting.{placed}
 use Rattle.run.proofs.Turn.{seen}
-use Rattle.run.proofs.Staged.{Next, Rounded, is_done_lem, is_row, is-round}
+use Rattle.run.proofs.Staged.{Next, Rounded, is_done_lem, is_row, is_round}
 use Rattle.run.proofs.Ended.{stopped}
 use Rattle.run.proofs.carry_out.Tie as tie
 use Rattle.run.proofs.carry_out.Proof.Loop.{Inv-loop, μ-loop, past, few, read, sizes}
@@ -39,7 +39,7 @@ rounded : (c : tie.After-depths2 Inv-loop μ-loop) →
 rounded c =
     let f = c.before in
     let m = c.before.before.before.before.before.before.before.before.before.before.before.before.before.before in
-    (is-round (staged m) c.before.before.before.before.before.before.before.before.before.before.before.before.before.if14.false
+    (is_round (staged m) c.before.before.before.before.before.before.before.before.before.before.before.before.before.if14.false
     c.before.before.before.before.before.before.before.before.before.before.before.before.if15.true).on c.depths2.given f.round.ensures
 
 -- the row of a set that it has found, and the record after it
@@ -120,7 +120,7 @@ loop-again c =
       (
         (read j).1.0,
         (
-          kept-deep l.loop.invariant.1.1.0 g.same,
+          kept_deep l.loop.invariant.1.1.0 g.same,
           (
             length-set m.match.threads _ _ ∙ g.four,
             (
@@ -213,7 +213,7 @@ loop-again-4 c =
     let s = o.before.before.before.before.before in
     let g = staged m in (
       omega (arith, few i),
-      ((read j).1.0, (kept-deep l.loop.invariant.1.1.0 g.same, (g.four, (g.each, is_done_lem g c.if15.false)))),
+      ((read j).1.0, (kept_deep l.loop.invariant.1.1.0 g.same, (g.four, (g.each, is_done_lem g c.if15.false)))),
     )
 
 pub add-finished : tie.Need-overflow-add-finished Inv-loop μ-loop
@@ -235,7 +235,7 @@ pub round-requires : tie.Need-round-requires Inv-loop μ-loop
 round-requires c κs =
     let m = c.before.before.before.before.before.before.before.before.before.before.before.before in
     let j = m.before in
-    let r = is-round (staged m) c.before.before.before.before.before.before.before.before.before.before.before.if14.false
+    let r = is_round (staged m) c.before.before.before.before.before.before.before.before.before.before.before.if14.false
     c.before.before.before.before.before.before.before.before.before.before.if15.true in
     record { thread = omega arith; frames = r.frames; memory = λ u v. sizes j (r.wide u v); more = r.more; room = r.room }
 

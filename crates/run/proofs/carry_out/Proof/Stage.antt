@@ -14,8 +14,8 @@ use Rattle.definitions.specs.Places.{to_route}
 use Rattle.run.specs.Threads.{held_in}
 use Rattle.run.proofs.Changed.{reread_none}
 use Rattle.run.proofs.Noting.{placed, nothing_noted_lem, route_noted, not_opened, unopened}
-use Rattle.run.proofs.Turn.{seen, full-on, start-on, refused-on, over, deeper}
-use Rattle.run.proofs.Staged.{Staged, restaged, tables, noted-done, answer-row, round-refused, round-step, round-start, round-back, round-open, found-done, found-twice, found_row_lem}
+use Rattle.run.proofs.Turn.{seen, full_on, start_on, refused_on, over, deeper}
+use Rattle.run.proofs.Staged.{Staged, restaged, tables, noted_done, answer_row, round_refused, round_step, round_start, round_back, round_open, found_done, found_twice, found_row_lem}
 use Rattle.run.proofs.carry_out.Tie as tie
 use Rattle.run.proofs.carry_out.Proof.Loop.{Inv-loop, μ-loop, past, asking, begun, chosen}
 
@@ -45,14 +45,14 @@ staged_11 c u1 u2 u3 u4 u5 u6 u7 u8 u9 u10 u11 =
       four = length-set l.loop.threads _ _ ∙ (asking j).four;
       each = length-set l.loop.frames _ _ ∙ (asking j).each;
       same = refl;
-      stage = inl (record { none = refl; next = start-on (asking j) (omega (arith, w.0.rest.1, w.1.taken, w.3.left)) w.2.ensures });
+      stage = inl (record { none = refl; next = start_on (asking j) (omega (arith, w.0.rest.1, w.1.taken, w.3.left)) w.2.ensures });
     }))
     (λ w.
     restaged (tables w.2 w.3) w.4 w.5 w.6 w.7 w.8 w.9 w.10 (record {
       four = (asking j).four;
       each = (asking j).each;
       same = refl;
-      stage = inr (inr (round-refused (asking j) refl refl _ (over (asking j) w.1.left) (refused-on (asking j) (omega (arith, w.1.left)))));
+      stage = inr (inr (round_refused (asking j) refl refl _ (over (asking j) w.1.left) (refused_on (asking j) (omega (arith, w.1.left)))));
     }))
     u11
 
@@ -70,7 +70,7 @@ staged_10 c u1 u2 u3 u4 u5 u6 u7 u8 u9 u10 =
       four = length-set l.loop.threads _ _ ∙ (asking j).four;
       each = length-set l.loop.frames _ _ ∙ (asking j).each;
       same = refl;
-      stage = inr (inr (round-start (asking j) w.3.taken w.2.ensures));
+      stage = inr (inr (round_start (asking j) w.3.taken w.2.ensures));
     }))
     (staged_11 c u1 u2 u3 u4 u5 u6 u7 u8 u9 u10)
     u10
@@ -86,7 +86,7 @@ staged_9 c u1 u2 u3 u4 u5 u6 u7 u8 u9 =
     ⊎_elim {C = Left c}
     (λ w.
     restaged (tables w.3 w.4) w.5 w.6 w.7 w.8 w.9 w.10 w.11
-    (record { four = (asking j).four; each = (asking j).each; same = refl; stage = inr (inr (round-step (asking j) w.0.keys1 (omega (arith, w.2.left)))) }))
+    (record { four = (asking j).four; each = (asking j).each; same = refl; stage = inr (inr (round_step (asking j) w.0.keys1 (omega (arith, w.2.left)))) }))
     (staged_10 c u1 u2 u3 u4 u5 u6 u7 u8 u9)
     u9
 
@@ -114,7 +114,7 @@ staged_8 c u1 u2 u3 u4 u5 u6 u7 u8 =
       four = (asking j).four;
       each = h.recounts.size ∙ (asking j).each;
       same = w.13.given;
-      stage = inr (inr (round-back (asking j) w.0.keys1 w.7.d (omega (arith, w.2.taken)) h.decided _ e.nodes
+      stage = inr (inr (round_back (asking j) w.0.keys1 w.7.d (omega (arith, w.2.taken)) h.decided _ e.nodes
           (deeper (asking j).stands e w.13.given) w.15.ensures (reread_none _ _ _) h.recounts (omega (arith, w.17.left, w.16.left, w.8.left))));
     }))
     (staged_9 c u1 u2 u3 u4 u5 u6 u7 u8)
@@ -144,7 +144,7 @@ staged_7 c u1 u2 u3 u4 u5 u6 u7 =
       four = (asking j).four;
       each = h.recounts.size ∙ (asking j).each;
       same = w.13.given;
-      stage = inr (inl (answer-row (asking j) w.0.keys1 w.7.d (omega (arith, w.2.taken)) h.decided _ e.nodes
+      stage = inr (inl (answer_row (asking j) w.0.keys1 w.7.d (omega (arith, w.2.taken)) h.decided _ e.nodes
           (deeper (asking j).stands e w.13.given) w.15.ensures (reread_none _ _ _) h.recounts w.17.taken));
     }))
     (staged_8 c u1 u2 u3 u4 u5 u6 u7)
@@ -174,7 +174,7 @@ staged_6 c u1 u2 u3 u4 u5 u6 =
       four = length-set l.loop.threads _ _ ∙ (asking j).four;
       each = h.recounts.size ∙ (asking j).each;
       same = w.13.given;
-      stage = inl (noted-done (asking j) w.0.keys1 w.7.d (omega (arith, w.2.taken)) h.decided _ e.nodes (deeper (asking j).stands e w.13.given)
+      stage = inl (noted_done (asking j) w.0.keys1 w.7.d (omega (arith, w.2.taken)) h.decided _ e.nodes (deeper (asking j).stands e w.13.given)
           w.15.ensures (reread_none _ _ _) h.recounts w.16.taken w.19.ensures (not_opened w.7.d.note w.17.keys3));
     }))
     (staged_7 c u1 u2 u3 u4 u5 u6)
@@ -204,7 +204,7 @@ staged_5 c u1 u2 u3 u4 u5 =
       four = length-set l.loop.threads _ _ ∙ (asking j).four;
       each = h.recounts.size ∙ (asking j).each;
       same = w.13.given;
-      stage = inr (inr (round-open (asking j) w.0.keys1 w.7.d (omega (arith, w.2.taken)) h.decided _ e.nodes
+      stage = inr (inr (round_open (asking j) w.0.keys1 w.7.d (omega (arith, w.2.taken)) h.decided _ e.nodes
           (deeper (asking j).stands e w.13.given) w.15.ensures (reread_none _ _ _) h.recounts w.16.taken w.18.given.1));
     }))
     (staged_6 c u1 u2 u3 u4 u5)
@@ -234,7 +234,7 @@ staged_4 c u1 u2 u3 u4 =
       four = length-set l.loop.threads _ _ ∙ (asking j).four;
       each = h.recounts.size ∙ (asking j).each;
       same = w.13.given;
-      stage = inl (noted-done (asking j) w.0.keys1 w.7.d (omega (arith, w.2.taken)) h.decided _ e.nodes (deeper (asking j).stands e w.13.given)
+      stage = inl (noted_done (asking j) w.0.keys1 w.7.d (omega (arith, w.2.taken)) h.decided _ e.nodes (deeper (asking j).stands e w.13.given)
           w.15.ensures (reread_none _ _ _) h.recounts w.16.taken (nothing_noted_lem w.7.d w.18.given.1) (unopened w.7.d w.18.given.1));
     }))
     (staged_5 c u1 u2 u3 u4)
@@ -264,7 +264,7 @@ staged_3 c u1 u2 u3 =
       each = h.recounts.size ∙ (asking j).each;
       same = refl;
       stage = inr
-          (inr (round-refused (asking j) refl (h.kept w.8.taken) 13 (omega arith) (full-on (asking j) w.0.keys1 w.7.d (omega (arith, w.2.taken)) h.decided w.8.taken refl)));
+          (inr (round_refused (asking j) refl (h.kept w.8.taken) 13 (omega arith) (full_on (asking j) w.0.keys1 w.7.d (omega (arith, w.2.taken)) h.decided w.8.taken refl)));
     }))
     (staged_4 c u1 u2 u3)
     u3
@@ -303,7 +303,7 @@ staged_1 c u1 =
       four = length-set w.2.threads _ _ ∙ four;
       each = (asking j).each;
       same = refl;
-      stage = inl (found-done (asking j) w.0.keys1 w.6.result _ w.1.taken b w.6.ensures w.7.taken w.10.ensures);
+      stage = inl (found_done (asking j) w.0.keys1 w.6.result _ w.1.taken b w.6.ensures w.7.taken w.10.ensures);
     }))
     (staged_2 c u1)
     u1
@@ -327,7 +327,7 @@ staged c =
       four = length-set (set threads (x / 16 % 4) first) _ _ ∙ (length-set threads (x / 16 % 4) first ∙ four);
       each = (asking j).each;
       same = refl;
-      stage = inl (found-twice (asking j) w.0.keys1 d _ w.1.taken b w.6.ensures first w.7.taken
+      stage = inl (found_twice (asking j) w.0.keys1 d _ w.1.taken b w.6.ensures first w.7.taken
           (route_noted d w.9.given.1 (λ fs. ap (λ (q : Notes). to_route q.place d.value (thread q fs)) kept)));
     }))
     (staged_1 c)

@@ -1,5 +1,5 @@
 -- `run::query::put_found` meets its contract. Assumes nothing.
-use Rattle.run.proofs.Cases.{found-put, wide-found-put}
+use Rattle.run.proofs.Cases.{found_put, wide_found_put}
 use borrow.Author.Rules.{rules}
 use Rattle.run.proofs.query.put_found.Statement.{statement}
 use Rattle.run.proofs.query.put_found.Tie as tie
@@ -17,7 +17,7 @@ same_length : tie.Need-same-length
 same_length c = search rules
 
 returns : tie.Need-returns
-returns c = search found-put
+returns c = search found_put
 
 put-two-requires : tie.Need-put-two-requires
 put-two-requires c κs = search rules
@@ -29,7 +29,7 @@ same-length-2 : tie.Need-same-length-2
 same-length-2 c = search rules
 
 returns-2 : tie.Need-returns-2
-returns-2 c = search wide-found-put
+returns-2 c = search wide_found_put
 
 pub put-found-spec : {M : Type 1} → statement M
 put-found-spec =

@@ -2,8 +2,8 @@
 use mathlib.Core.Path.{refl, sym}
 use native.Mathlib.Omega.{arith}
 use Rattle.run.specs.Standing.{Sizes}
-use Rattle.run.proofs.Rounds.{stays, rounds-start, rounds-help, rounds-back, rounds-refused, rounds-step}
-use Rattle.run.proofs.Threads.{opens-then, leaves-then, backs-then}
+use Rattle.run.proofs.Rounds.{stays, rounds_start, rounds_help, rounds_back, rounds_refused, rounds_step}
+use Rattle.run.proofs.Threads.{opens_then, leaves_then, backs_then}
 use Rattle.run.proofs.Turn.{back_none}
 use borrow.Author.Rules.{rules}
 use Rattle.run.proofs.query.round.Statement.{statement}
@@ -30,7 +30,7 @@ refused-requires : tie.Need-refused-requires
 refused-requires c κs = search rules
 
 returns : tie.Need-returns
-returns c = rounds-refused _ _ _ _ c.before.if1.true refl stays c.refused.ensures
+returns c = rounds_refused _ _ _ _ c.before.if1.true refl stays c.refused.ensures
 
 index-1-start : tie.Need-bounds-1-start
 index-1-start c = omega (arith, (start_sizes (c)).stacks)
@@ -63,8 +63,8 @@ same-length-4 : tie.Need-same-length-4
 same-length-4 c = search rules
 
 returns-2 : tie.Need-returns-2
-returns-2 c = rounds-start _ _ _ _ c.before.before.before.before.before.before.if2.true
-    (opens-then (start_sizes c.before.before.before.before.before.before) _ _ _ _ c.before.start.ensures) stays c.moved.ensures
+returns-2 c = rounds_start _ _ _ _ c.before.before.before.before.before.before.if2.true
+    (opens_then (start_sizes c.before.before.before.before.before.before) _ _ _ _ c.before.start.ensures) stays c.moved.ensures
 
 index-1-help : tie.Need-bounds-1-help
 index-1-help c = omega (arith, (help_sizes c.before.before).stacks)
@@ -103,14 +103,14 @@ same-length-8 : tie.Need-same-length-8
 same-length-8 c = search rules
 
 returns-3 : tie.Need-returns-3
-returns-3 c = rounds-help _ _ _ _ c.before.before.before.before.before.before.before.before.if3.true
-    (opens-then (help_sizes c.before.before.before.before.before.before.before.before) _ _ _ _ c.before.help.ensures) stays c.moved2.ensures
+returns-3 c = rounds_help _ _ _ _ c.before.before.before.before.before.before.before.before.if3.true
+    (opens_then (help_sizes c.before.before.before.before.before.before.before.before) _ _ _ _ c.before.help.ensures) stays c.moved2.ensures
 
 moved-requires-3 : tie.Need-moved-requires-3
 moved-requires-3 c κs = search rules
 
 returns-4 : tie.Need-returns-4
-returns-4 c = rounds-back _ _ _ _ c.before.before.if4.true (back_none _ _ _ c.before.if5.true) stays (sym c.before.if5.true) c.moved3.ensures
+returns-4 c = rounds_back _ _ _ _ c.before.before.if4.true (back_none _ _ _ c.before.if5.true) stays (sym c.before.if5.true) c.moved3.ensures
 
 index-1-leave : tie.Need-bounds-1-leave
 index-1-leave c = omega (arith, (leave_sizes (c)).stacks)
@@ -143,8 +143,8 @@ same-length-12 : tie.Need-same-length-12
 same-length-12 c = search rules
 
 returns-5 : tie.Need-returns-5
-returns-5 c = rounds-back _ _ _ _ c.before.before.before.before.before.before.before.if4.true
-    (backs-then (leave_sizes c.before.before.before.before.before.before) _ _ _ c.before.leave.ensures) stays refl c.moved4.ensures
+returns-5 c = rounds_back _ _ _ _ c.before.before.before.before.before.before.before.if4.true
+    (backs_then (leave_sizes c.before.before.before.before.before.before) _ _ _ c.before.leave.ensures) stays refl c.moved4.ensures
 
 index-1-turn : tie.Need-bounds-1-turn
 index-1-turn c = omega (arith, (turn_sizes c.before.before.before.before.before).stacks)
@@ -195,8 +195,8 @@ returns-6 : tie.Need-returns-6
 returns-6 c =
     let z = c.before.before.before.before.before.before.before.before.before.before.before.before.before.before in
     let e = z.before in
-    rounds-step _ _ _ _ (omega (arith, e.before.before.if1.false)) e.before.if2.false e.if3.false z.if4.false
-    (leaves-then (turn_sizes z) _ _ _ _ c.before.before.before.before.turn.ensures)
+    rounds_step _ _ _ _ (omega (arith, e.before.before.if1.false)) e.before.if2.false e.if3.false z.if4.false
+    (leaves_then (turn_sizes z) _ _ _ _ c.before.before.before.before.turn.ensures)
 
 pub round-spec : {M : Type 1} → statement M
 round-spec =

@@ -1,5 +1,5 @@
 -- `run::query::turn` meets its contract. Assumes nothing.
-use Rattle.run.proofs.Left.{turn-ranged, turn_on, turn-blocked, turn-back, turn-found, turn-nodes, turn-stores}
+use Rattle.run.proofs.Left.{turn_ranged, turn_on, turn_blocked, turn_back, turn_found, turn_nodes, turn_stores}
 use borrow.Author.Rules.{rules}
 use Rattle.run.proofs.query.turn.Statement.{statement}
 use Rattle.run.proofs.query.turn.Tie as tie
@@ -18,7 +18,7 @@ write-requires c κs =
     let r = c.before.before.before.before.before.before in
     let q = r.before.before.before in
     let s = q.before.before.before.before.before.before.before.before.before.before.before in
-    (turn-ranged _ _ _ _ _ _ _ _ _ s.args.th q.query.ensures s.requires.1.1.0 r.r.given.1, s.requires.1.1.1.1)
+    (turn_ranged _ _ _ _ _ _ _ _ _ s.args.th q.query.ensures s.requires.1.1.0 r.r.given.1, s.requires.1.1.1.1)
 
 enum-known-r-2 : tie.Need-enum-known-r-2
 enum-known-r-2 c = search rules
@@ -59,7 +59,7 @@ returns-2 c =
     let f = r.before.before in
     let q = f.before in
     let s = q.before.before.before.before.before.before.before.before.before.before.before in
-    turn-blocked _ _ _ _ _ _ _ _ _ _ q.query.ensures s.requires.1.1.0 _ f.frames-after.ensures r.r2.given.1
+    turn_blocked _ _ _ _ _ _ _ _ _ _ q.query.ensures s.requires.1.1.0 _ f.frames-after.ensures r.r2.given.1
 
 same-length-4 : tie.Need-same-length-4
 same-length-4 c = search rules
@@ -70,7 +70,7 @@ returns-3 c =
     let f = r.before.before in
     let q = f.before in
     let s = q.before.before.before.before.before.before.before.before.before.before.before in
-    turn-back _ _ _ _ _ _ _ _ _ _ q.query.ensures s.requires.1.1.0 _ f.frames-after.ensures r.r3.given.1
+    turn_back _ _ _ _ _ _ _ _ _ _ q.query.ensures s.requires.1.1.0 _ f.frames-after.ensures r.r3.given.1
 
 same-length-5 : tie.Need-same-length-5
 same-length-5 c = search rules
@@ -80,7 +80,7 @@ returns-4 c =
     let r = c.before in
     let q = r.before.before.before in
     let s = q.before.before.before.before.before.before.before.before.before.before.before in
-    turn-found _ _ _ _ _ _ _ _ _ _ q.query.ensures s.requires.1.1.0 _ _ _ _ r.r4.given.1
+    turn_found _ _ _ _ _ _ _ _ _ _ q.query.ensures s.requires.1.1.0 _ _ _ _ r.r4.given.1
 
 same-length-6 : tie.Need-same-length-6
 same-length-6 c = search rules
@@ -89,7 +89,7 @@ returns-5 : tie.Need-returns-5
 returns-5 c =
     let q = c.before.before.before in
     let s = q.before.before.before.before.before.before.before.before.before.before.before in
-    turn-nodes _ _ _ _ _ _ _ _ _ _ q.query.ensures s.requires.1.1.0 _ _ _ _ c.enum_told.given.1
+    turn_nodes _ _ _ _ _ _ _ _ _ _ q.query.ensures s.requires.1.1.0 _ _ _ _ c.enum_told.given.1
 
 same-length-7 : tie.Need-same-length-7
 same-length-7 c = search rules
@@ -98,7 +98,7 @@ returns-6 : tie.Need-returns-6
 returns-6 c =
     let q = c.before.before.before in
     let s = q.before.before.before.before.before.before.before.before.before.before.before in
-    turn-stores _ _ _ _ _ _ _ _ _ _ q.query.ensures s.requires.1.1.0 _ _ _ _ c.enum-told2.given.1
+    turn_stores _ _ _ _ _ _ _ _ _ _ q.query.ensures s.requires.1.1.0 _ _ _ _ c.enum-told2.given.1
 
 pub turn_spec : {M : Type 1} → statement M
 turn_spec =

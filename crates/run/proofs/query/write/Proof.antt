@@ -1,5 +1,5 @@
 -- `run::query::write` meets its contract. Assumes nothing.
-use Rattle.run.proofs.Left.{write-ask, write-fill, write_none}
+use Rattle.run.proofs.Left.{write_ask, write_fill, write_none}
 use borrow.Author.Rules.{rules}
 use Rattle.run.proofs.query.write.Statement.{statement}
 use Rattle.run.proofs.query.write.Tie as tie
@@ -36,7 +36,7 @@ returns c =
     let a = c.before in
     let p = a.before.before.before.before.before in
     let n = p.before.before.before in
-    write-ask _ _ _ _ _ _ _ _ _ _ _ _ _ _ n.e.given.1 p.lay.ensures a.ask.ensures c.shown-after.ensures
+    write_ask _ _ _ _ _ _ _ _ _ _ _ _ _ _ n.e.given.1 p.lay.ensures a.ask.ensures c.shown-after.ensures
 
 same-length-2 : tie.Need-same-length-2
 same-length-2 c = search rules
@@ -45,7 +45,7 @@ returns-2 : tie.Need-returns-2
 returns-2 c =
     let f = c.before.before in
     let n = f.before.before.before.before in
-    write-fill _ _ _ _ _ _ _ _ n.e2.given.1 f.fill.ensures
+    write_fill _ _ _ _ _ _ _ _ n.e2.given.1 f.fill.ensures
 
 returns-3 : tie.Need-returns-3
 returns-3 c = write_none _ _ _ _ _ _ _ c.before.before.before.requires.0 c.match.keys3

@@ -1,5 +1,5 @@
 -- `snapshot::bytes::put_link` meets its contract. Assumes nothing.
-use Rattle.snapshot.proofs.ByteCases.{link-none, link_some}
+use Rattle.snapshot.proofs.ByteCases.{link_none, link_some}
 use borrow.Author.Rules.{rules}
 use Rattle.snapshot.proofs.bytes.put_link.Statement.{statement}
 use Rattle.snapshot.proofs.bytes.put_link.Tie as tie
@@ -20,13 +20,13 @@ same_length : tie.Need-same-length
 same_length c = search rules
 
 returns : tie.Need-returns
-returns c = search (link-none, link_some)
+returns c = search (link_none, link_some)
 
 same-length-2 : tie.Need-same-length-2
 same-length-2 c = search rules
 
 returns-2 : tie.Need-returns-2
-returns-2 c = search (link-none, link_some)
+returns-2 c = search (link_none, link_some)
 
 pub put-link-spec : {M : Type 1} → statement M
 put-link-spec =

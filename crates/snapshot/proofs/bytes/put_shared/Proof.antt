@@ -1,5 +1,5 @@
 -- `snapshot::bytes::put_shared` meets its contract. Assumes nothing.
-use Rattle.snapshot.proofs.ByteCases.{shared-none, shared-some}
+use Rattle.snapshot.proofs.ByteCases.{shared_none, shared_some}
 use borrow.Author.Rules.{rules}
 use Rattle.snapshot.proofs.bytes.put_shared.Statement.{statement}
 use Rattle.snapshot.proofs.bytes.put_shared.Tie as tie
@@ -23,13 +23,13 @@ same_length : tie.Need-same-length
 same_length c = search rules
 
 returns : tie.Need-returns
-returns c = search (shared-none, shared-some)
+returns c = search (shared_none, shared_some)
 
 same-length-2 : tie.Need-same-length-2
 same-length-2 c = search rules
 
 returns-2 : tie.Need-returns-2
-returns-2 c = search (shared-none, shared-some)
+returns-2 c = search (shared_none, shared_some)
 
 pub put-shared-spec : {M : Type 1} → statement M
 put-shared-spec =

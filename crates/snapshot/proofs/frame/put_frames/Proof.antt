@@ -6,7 +6,7 @@ use borrow.Author.Rules.{rules}
 use Rattle.buffer.specs.Page.{page, put_all}
 use Rattle.frames.specs.View.{held, frames_of}
 use Rattle.snapshot.specs.Layout.{frames_bytes}
-use Rattle.snapshot.proofs.FrameParts.{frames-more, frames_done}
+use Rattle.snapshot.proofs.FrameParts.{frames_more, frames_done}
 use Rattle.snapshot.proofs.frame.put_frames.Statement.{statement}
 use Rattle.snapshot.proofs.frame.put_frames.Tie as tie
 
@@ -35,7 +35,7 @@ loop-less : tie.Need-loop-smaller invariant-loop decreases-loop
 loop-less c = search rules
 
 loop-again : tie.Need-loop-preserved invariant-loop decreases-loop
-loop-again c = (search rules, (search rules, (search rules, search frames-more)))
+loop-again c = (search rules, (search rules, (search rules, search frames_more)))
 
 same_length : tie.Need-same-length invariant-loop decreases-loop
 same_length c = search rules

@@ -6,7 +6,7 @@ use borrow.Author.Rules.{rules}
 use Rattle.buffer.specs.Page.{page, put_all}
 use Rattle.frames.specs.View.{span, pile}
 use Rattle.snapshot.specs.Layout.{padded}
-use Rattle.snapshot.proofs.FrameParts.{stack-start, stack-more, stack-done, stack-hidden}
+use Rattle.snapshot.proofs.FrameParts.{stack_start, stack_more, stack_done, stack_hidden}
 use Rattle.snapshot.proofs.frame.put_stack.Statement.{statement}
 use Rattle.snapshot.proofs.frame.put_stack.Tie as tie
 
@@ -17,7 +17,7 @@ abbrev decreases-loop : tie.decreases-loop
 decreases-loop out₀ at rows j n shown next₀ i₀ out next i = 86 - i
 
 loop-holds : tie.Need-loop-init invariant-loop decreases-loop
-loop-holds c = (search rules, (search rules, search stack-start))
+loop-holds c = (search rules, (search rules, search stack_start))
 
 entry-of-requires : tie.Need-entry-of-requires invariant-loop decreases-loop
 entry-of-requires c κs = search rules
@@ -32,13 +32,13 @@ loop-less : tie.Need-loop-smaller invariant-loop decreases-loop
 loop-less c = search rules
 
 loop-again : tie.Need-loop-preserved invariant-loop decreases-loop
-loop-again c = (search rules, (search rules, search stack-more))
+loop-again c = (search rules, (search rules, search stack_more))
 
 same_length : tie.Need-same-length invariant-loop decreases-loop
 same_length c = search rules
 
 returns : tie.Need-returns invariant-loop decreases-loop
-returns c = search stack-done
+returns c = search stack_done
 
 put-zeros-requires : tie.Need-put-zeros-requires invariant-loop decreases-loop
 put-zeros-requires c κs = search rules
@@ -47,7 +47,7 @@ same-length-2 : tie.Need-same-length-2 invariant-loop decreases-loop
 same-length-2 c = search rules
 
 returns-2 : tie.Need-returns-2 invariant-loop decreases-loop
-returns-2 c = search stack-hidden
+returns-2 c = search stack_hidden
 
 pub put-stack-spec : {M : Type 1} → statement M
 put-stack-spec =

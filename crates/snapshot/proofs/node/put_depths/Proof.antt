@@ -9,7 +9,7 @@ use Rattle.container.specs.Depths.{container}
 use Rattle.buffer.specs.Page.{page, put_all}
 use Rattle.depths.specs.Rows.{rows}
 use Rattle.snapshot.specs.Layout.{each, depth_bytes}
-use Rattle.snapshot.proofs.NodeCases.{depths-flat, depths-empty, depths-start, depths-next, depths-there, depths-done, next_past, next_le, next_there}
+use Rattle.snapshot.proofs.NodeCases.{depths_flat, depths_empty, depths_start, depths_next, depths_there, depths_done, next_past, next_le, next_there}
 use Rattle.snapshot.proofs.node.put_depths.Statement.{statement}
 use Rattle.snapshot.proofs.node.put_depths.Tie as tie
 
@@ -27,7 +27,7 @@ same_length : tie.Need-same-length invariant-loop decreases-loop
 same_length c = search rules
 
 returns : tie.Need-returns invariant-loop decreases-loop
-returns c = search depths-flat
+returns c = search depths_flat
 
 put-zeros-requires-2 : tie.Need-put-zeros-requires-2 invariant-loop decreases-loop
 put-zeros-requires-2 c κs = search rules
@@ -36,10 +36,10 @@ same-length-2 : tie.Need-same-length-2 invariant-loop decreases-loop
 same-length-2 c = search rules
 
 returns-2 : tie.Need-returns-2 invariant-loop decreases-loop
-returns-2 c = search depths-empty
+returns-2 c = search depths_empty
 
 loop-holds : tie.Need-loop-init invariant-loop decreases-loop
-loop-holds c = (search rules, (search rules, search depths-start))
+loop-holds c = (search rules, (search rules, search depths_start))
 
 upper-requires : tie.Need-upper-requires invariant-loop decreases-loop
 upper-requires c κs = search rules
@@ -95,8 +95,8 @@ loop-again c =
       omega (arith, w.if3.true),
       (
         p.put-pair.auto.0 ∙ (z.put-zeros3.auto.0 ∙ a.loop.invariant.1.0),
-        depths-there _ _ _ _ _ a.before.before.if1.false refl (next_there _ _ i.loop-test.true u.upper.ensures l.lowest.ensures w.if3.true) d.depth-at.ensures
-            (depths-next _ _ _ _ _ a.before.before.if1.false i.loop-test.true u.upper.ensures l.lowest.ensures a.loop.invariant.1.1 z.put-zeros3.ensures)
+        depths_there _ _ _ _ _ a.before.before.if1.false refl (next_there _ _ i.loop-test.true u.upper.ensures l.lowest.ensures w.if3.true) d.depth-at.ensures
+            (depths_next _ _ _ _ _ a.before.before.if1.false i.loop-test.true u.upper.ensures l.lowest.ensures a.loop.invariant.1.1 z.put-zeros3.ensures)
             p.put-pair.ensures,
       ),
     )
@@ -118,14 +118,14 @@ loop-again-2 c =
     let i = u.before in
     let a = i.before in (
       next_le _ l.lowest.ensures,
-      (z.put-zeros3.auto.0 ∙ a.loop.invariant.1.0, depths-next _ _ _ _ _ a.before.before.if1.false i.loop-test.true u.upper.ensures l.lowest.ensures a.loop.invariant.1.1 z.put-zeros3.ensures),
+      (z.put-zeros3.auto.0 ∙ a.loop.invariant.1.0, depths_next _ _ _ _ _ a.before.before.if1.false i.loop-test.true u.upper.ensures l.lowest.ensures a.loop.invariant.1.1 z.put-zeros3.ensures),
     )
 
 same-length-3 : tie.Need-same-length-3 invariant-loop decreases-loop
 same-length-3 c = search rules
 
 returns-3 : tie.Need-returns-3 invariant-loop decreases-loop
-returns-3 c = search depths-done
+returns-3 c = search depths_done
 
 pub put-depths-spec : {M : Type 1} → statement M
 put-depths-spec =

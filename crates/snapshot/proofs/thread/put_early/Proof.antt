@@ -1,5 +1,5 @@
 -- `snapshot::thread::put_early` meets its contract. Assumes nothing.
-use Rattle.snapshot.proofs.Heads.{early-put}
+use Rattle.snapshot.proofs.Heads.{early_put}
 use borrow.Author.Rules.{rules}
 use Rattle.snapshot.proofs.thread.put_early.Statement.{statement}
 use Rattle.snapshot.proofs.thread.put_early.Tie as tie
@@ -32,7 +32,7 @@ same_length : tie.Need-same-length
 same_length c = search rules
 
 returns : tie.Need-returns
-returns c = search early-put
+returns c = search early_put
 
 pub put-early-spec : {M : Type 1} → statement M
 put-early-spec =

@@ -1,5 +1,5 @@
 -- `snapshot::thread::put_flags` meets its contract. Assumes nothing.
-use Rattle.snapshot.proofs.Heads.{flags-put}
+use Rattle.snapshot.proofs.Heads.{flags_put}
 use borrow.Author.Rules.{rules}
 use Rattle.snapshot.proofs.thread.put_flags.Statement.{statement}
 use Rattle.snapshot.proofs.thread.put_flags.Tie as tie
@@ -23,7 +23,7 @@ same_length : tie.Need-same-length
 same_length c = search rules
 
 returns : tie.Need-returns
-returns c = search flags-put
+returns c = search flags_put
 
 pub put-flags-spec : {M : Type 1} → statement M
 put-flags-spec =

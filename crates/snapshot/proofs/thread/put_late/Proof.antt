@@ -1,5 +1,5 @@
 -- `snapshot::thread::put_late` meets its contract. Assumes nothing.
-use Rattle.snapshot.proofs.Heads.{late-put}
+use Rattle.snapshot.proofs.Heads.{late_put}
 use borrow.Author.Rules.{rules}
 use Rattle.snapshot.proofs.thread.put_late.Statement.{statement}
 use Rattle.snapshot.proofs.thread.put_late.Tie as tie
@@ -29,7 +29,7 @@ same_length : tie.Need-same-length
 same_length c = search rules
 
 returns : tie.Need-returns
-returns c = search late-put
+returns c = search late_put
 
 pub put-late-spec : {M : Type 1} → statement M
 put-late-spec =

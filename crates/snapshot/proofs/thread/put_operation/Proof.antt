@@ -1,5 +1,5 @@
 -- `snapshot::thread::put_operation` meets its contract. Assumes nothing.
-use Rattle.snapshot.proofs.Heads.{operation-put}
+use Rattle.snapshot.proofs.Heads.{operation_put}
 use borrow.Author.Rules.{rules}
 use Rattle.snapshot.proofs.thread.put_operation.Statement.{statement}
 use Rattle.snapshot.proofs.thread.put_operation.Tie as tie
@@ -23,7 +23,7 @@ same_length : tie.Need-same-length
 same_length c = search rules
 
 returns : tie.Need-returns
-returns c = search operation-put
+returns c = search operation_put
 
 pub put-operation-spec : {M : Type 1} → statement M
 put-operation-spec =

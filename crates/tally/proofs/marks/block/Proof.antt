@@ -4,7 +4,7 @@ use Prim.Native.Nat.{ℕ, ◌+◌, ◌*◌}
 use native.Mathlib.Omega.{arith}
 use borrow.Author.Rules.{rules}
 use Rattle.tally.specs.Marks.{mark, bits}
-use Rattle.tally.proofs.Blocks.{width_four, block-two, block-four}
+use Rattle.tally.proofs.Blocks.{width_four, block_two, block_four}
 use Rattle.tally.proofs.marks.block.Statement.{statement}
 use Rattle.tally.proofs.marks.block.Tie as tie
 
@@ -57,7 +57,7 @@ returns c =
     subst (λ (n : ℕ). c1.sixteen.result + 65536 * c2.sixteen2.result + 4294967296 * c3.sixteen3.result + 281474976710656 * c.sixteen4.result
     ≡ bits 64 (λ i. mark s.args.s.now n (s.args.at + n * i)))
     (sym t.if1.true)
-    (block-two s.args.s.now s.args.at _ _ _ _ c1.sixteen.ensures.0 c2.sixteen2.ensures.0 c3.sixteen3.ensures.0 c.sixteen4.ensures.0)
+    (block_two s.args.s.now s.args.at _ _ _ _ c1.sixteen.ensures.0 c2.sixteen2.ensures.0 c3.sixteen3.ensures.0 c.sixteen4.ensures.0)
 
 -- the width, where it is not 2
 four : (c : tie.Else1) → c.before.before.args.width ≡ 4
@@ -112,7 +112,7 @@ returns-2 c =
     subst (λ (n : ℕ). c1.sixteen-wide.result + 65536 * c2.sixteen-wide2.result + 4294967296 * c3.sixteen-wide3.result + 281474976710656 * c.sixteen-wide4.result
     ≡ bits 64 (λ i. mark s.args.s.now n (s.args.at + n * i)))
     (sym (four t))
-    (block-four s.args.s.now s.args.at _ _ _ _ c1.sixteen-wide.ensures.0 c2.sixteen-wide2.ensures.0 c3.sixteen-wide3.ensures.0 c.sixteen-wide4.ensures.0)
+    (block_four s.args.s.now s.args.at _ _ _ _ c1.sixteen-wide.ensures.0 c2.sixteen-wide2.ensures.0 c3.sixteen-wide3.ensures.0 c.sixteen-wide4.ensures.0)
 
 pub block_spec : {M : Type 1} → statement M
 block_spec =

@@ -8,7 +8,7 @@ use borrow.Author.Rules.{rules}
 use Rattle.tally.specs.Walk.{packed}
 use Rattle.tally.specs.Marks.{mark, bits}
 use Rattle.tally.proofs.Bits.{bits_low}
-use Rattle.tally.proofs.Marking.{mark_low, sixteen-is, marks_fit, pair_fits, pair-marks, placed}
+use Rattle.tally.proofs.Marking.{mark_low, sixteen_is, marks_fit, pair_fits, pair_marks, placed}
 use Rattle.tally.proofs.marks.sixteen.Statement.{statement}
 use Rattle.tally.proofs.marks.sixteen.Tie as tie
 
@@ -62,13 +62,13 @@ module _ (c : tie.After-four4) where
   even_is : (e : ℕ) → e ≡ bit_and (d1.four.result + 256 * d3.four3.result + 4557430888798830399) 4629771061636907072 / 64
       → e ≡ packed 4 (λ l. at-bit (l) + 256 * at-bit (8 + l))
   even_is e g =
-      g ∙ (pair-marks list 2 (λ l. at + 2 * l) (λ l. at + 16 + 2 * l) d1.four.result d3.four3.result d1.four.ensures d3.four3.ensures
+      g ∙ (pair_marks list 2 (λ l. at + 2 * l) (λ l. at + 16 + 2 * l) d1.four.result d3.four3.result d1.four.ensures d3.four3.ensures
       ∙ placed list 2 (λ l. at + 2 * l) (λ l. at + 16 + 2 * l) (λ l. at + 2 * l) (λ l. at + 2 * (8 + l)) (λ l. omega arith) (λ l. omega arith))
 
   odd_is : (o : ℕ) → o ≡ bit_and (d2.four2.result + 256 * c.four4.result + 4557430888798830399) 4629771061636907072 / 64
       → o ≡ packed 4 (λ l. at-bit (4 + l) + 256 * at-bit (12 + l))
   odd_is o g =
-      g ∙ (pair-marks list 2 (λ l. at + 8 + 2 * l) (λ l. at + 24 + 2 * l) d2.four2.result c.four4.result d2.four2.ensures c.four4.ensures
+      g ∙ (pair_marks list 2 (λ l. at + 8 + 2 * l) (λ l. at + 24 + 2 * l) d2.four2.result c.four4.result d2.four2.ensures c.four4.ensures
       ∙ placed list 2 (λ l. at + 8 + 2 * l) (λ l. at + 24 + 2 * l) (λ l. at + 2 * (4 + l)) (λ l. at + 2 * (12 + l)) (λ l. omega arith) (λ l. omega arith))
 
 pair-requires : tie.Need-pair-requires
@@ -103,7 +103,7 @@ module _ (c : tie.After-pair2) where
   h = m % 4294967296 + 4 * (m / 4294967296)
 
   folded-is : h % 65536 + 2 * (h / 65536) ≡ bits 16 (at-bit d)
-  folded-is = ap (λ (n : ℕ). let e = n % 4294967296 + 4 * (n / 4294967296) in e % 65536 + 2 * (e / 65536)) (ap₂ (λ (x y : ℕ). x + 16 * y) even odd) ∙ sixteen-is (at-bit d) one_bit
+  folded-is = ap (λ (n : ℕ). let e = n % 4294967296 + 4 * (n / 4294967296) in e % 65536 + 2 * (e / 65536)) (ap₂ (λ (x y : ℕ). x + 16 * y) even odd) ∙ sixteen_is (at-bit d) one_bit
 
   folded_low : bits 16 (at-bit d) < 65536
   folded_low = bits_low 16 (at-bit d) one_bit

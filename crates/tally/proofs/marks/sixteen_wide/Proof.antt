@@ -8,7 +8,7 @@ use borrow.Author.Rules.{rules}
 use Rattle.tally.specs.Walk.{packed}
 use Rattle.tally.specs.Marks.{mark, bits, crossed}
 use Rattle.tally.proofs.Bits.{bits_low}
-use Rattle.tally.proofs.Marking.{mark_low, sixteen-wide-is, marks_fit, pair_fits, pair-marks, placed}
+use Rattle.tally.proofs.Marking.{mark_low, sixteen_wide_is, marks_fit, pair_fits, pair_marks, placed}
 use Rattle.tally.proofs.marks.sixteen_wide.Statement.{statement}
 use Rattle.tally.proofs.marks.sixteen_wide.Tie as tie
 
@@ -62,13 +62,13 @@ module _ (c : tie.After-four-wide4) where
   even_is : (e : ℕ) → e ≡ bit_and (d1.four-wide.result + 256 * d3.four-wide3.result + 4557430888798830399) 4629771061636907072 / 64
       → e ≡ packed 4 (λ l. at-bit (crossed l) + 256 * at-bit (8 + crossed l))
   even_is e g =
-      g ∙ (pair-marks list 4 (λ l. at + 4 * crossed l) (λ l. at + 32 + 4 * crossed l) d1.four-wide.result d3.four-wide3.result d1.four-wide.ensures d3.four-wide3.ensures
+      g ∙ (pair_marks list 4 (λ l. at + 4 * crossed l) (λ l. at + 32 + 4 * crossed l) d1.four-wide.result d3.four-wide3.result d1.four-wide.ensures d3.four-wide3.ensures
       ∙ placed list 4 (λ l. at + 4 * crossed l) (λ l. at + 32 + 4 * crossed l) (λ l. at + 4 * crossed l) (λ l. at + 4 * (8 + crossed l)) (λ l. omega arith) (λ l. omega arith))
 
   odd_is : (o : ℕ) → o ≡ bit_and (d2.four-wide2.result + 256 * c.four-wide4.result + 4557430888798830399) 4629771061636907072 / 64
       → o ≡ packed 4 (λ l. at-bit (4 + crossed l) + 256 * at-bit (12 + crossed l))
   odd_is o g =
-      g ∙ (pair-marks list 4 (λ l. at + 16 + 4 * crossed l) (λ l. at + 48 + 4 * crossed l) d2.four-wide2.result c.four-wide4.result d2.four-wide2.ensures c.four-wide4.ensures
+      g ∙ (pair_marks list 4 (λ l. at + 16 + 4 * crossed l) (λ l. at + 48 + 4 * crossed l) d2.four-wide2.result c.four-wide4.result d2.four-wide2.ensures c.four-wide4.ensures
       ∙ placed list 4 (λ l. at + 16 + 4 * crossed l) (λ l. at + 48 + 4 * crossed l) (λ l. at + 4 * (4 + crossed l)) (λ l. at + 4 * (12 + crossed l)) (λ l. omega arith) (λ l. omega arith))
 
 pair-requires : tie.Need-pair-requires
@@ -103,7 +103,7 @@ module _ (c : tie.After-pair2) where
   h = m % 4294967296 + 2 * (m / 4294967296)
 
   folded-is : h % 65536 + 4 * (h / 65536) ≡ bits 16 (at-bit d)
-  folded-is = ap (λ (n : ℕ). let e = n % 4294967296 + 2 * (n / 4294967296) in e % 65536 + 4 * (e / 65536)) (ap₂ (λ (x y : ℕ). x + 16 * y) even odd) ∙ sixteen-wide-is (at-bit d) one_bit
+  folded-is = ap (λ (n : ℕ). let e = n % 4294967296 + 2 * (n / 4294967296) in e % 65536 + 4 * (e / 65536)) (ap₂ (λ (x y : ℕ). x + 16 * y) even odd) ∙ sixteen_wide_is (at-bit d) one_bit
 
   folded_low : bits 16 (at-bit d) < 65536
   folded_low = bits_low 16 (at-bit d) one_bit

@@ -2,7 +2,7 @@
 use mathlib.Core.Path.{◌≡◌, ◌∙◌}
 use native.Mathlib.Omega.{arith}
 use borrow.Author.Rules.{rules}
-use Rattle.tally.proofs.Apart.{eight-bytes, bytes_packed}
+use Rattle.tally.proofs.Apart.{eight_bytes, bytes_packed}
 use Rattle.tally.proofs.marks.word.Statement.{statement}
 use Rattle.tally.proofs.marks.word.Tie as tie
 
@@ -94,7 +94,7 @@ returns c =
     let (e5, l5) = c6.wide6.ensures in
     let (e6, l6) = c7.wide7.ensures in
     let (e7, l7) = c.wide8.ensures in (
-      eight-bytes
+      eight_bytes
           c1.wide.result c2.wide2.result c3.wide3.result c4.wide4.result c5.wide5.result c6.wide6.result c7.wide7.result c.wide8.result
           l0 l1 l2 l3 l4 l5 l6 l7
           ∙ (omega (arith, e0, e1, e2, e3, e4, e5, e6, e7) ∙ bytes_packed s.args.s.now s.args.at),
