@@ -1,4 +1,5 @@
 // The program: a schedule on standard input, its printed run on standard output.
+#![tactic(auto)]
 
 // Says on standard error that the input could not be read.
 fn say_unread() {

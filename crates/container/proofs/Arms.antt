@@ -6,7 +6,7 @@ use Prim.Native.Nat.{ℕ, suc, ◌+◌, ◌<◌, ◌≤◌}
 use native.Mathlib.Nat.{add-zero}
 use native.Mathlib.Omega.{arith}
 use lib.ListN.{length, get_or}
-use mir.Syntax.{Opd, copy, int, int_neg, int_big, float, opd_true, opd_false, opd_unit, ptr_const, Rv, rv_opd, op2, op1, addr_of, aggregate, repeat, Body, skip, seq, assign, block, loop, cond, switch, exit, return, call, Arms, arm, default, no_default}
+use mir.Syntax.{Opd, copy, int, int_neg, int_big, float, opd_true, opd_false, opd_unit, ptr_const, size_of, align_of, num_of, fn_addr, vtable, Rv, rv_opd, op2, op1, addr_of, aggregate, repeat, repeat_p, select, Body, skip, seq, assign, block, loop, cond, switch, exit, return, call, unreachable, call_v, lend_static, Arms, arm, default, no_default}
 
 -- ---- the numbers that stand in a body, in the order of the code
 
@@ -20,6 +20,11 @@ in_opd opd_true = []
 in_opd opd_false = []
 in_opd opd_unit = []
 in_opd (ptr_const n) = []
+in_opd (size_of t) = []
+in_opd (align_of t) = []
+in_opd (num_of t n) = []
+in_opd (fn_addr f t) = []
+in_opd (vtable t u) = []
 
 abbrev in_rv : Rv → List ℕ
 in_rv (rv_opd x) = in_opd x
@@ -28,6 +33,8 @@ in_rv (op1 o x) = []
 in_rv (addr_of p) = []
 in_rv (aggregate xs) = []
 in_rv (repeat x n) = []
+in_rv (repeat_p x n) = []
+in_rv (select x y z) = []
 
 abbrev mutual
   pub numbers : Body → List ℕ
@@ -41,6 +48,9 @@ abbrev mutual
   numbers (exit n) = []
   numbers return = []
   numbers (call f xs p) = []
+  numbers unreachable = []
+  numbers (call_v f xs p q) = []
+  numbers (lend_static f x p) = []
 
   in_arms : Arms → List ℕ
   in_arms (arm ks b arms) = numbers b ++ in_arms arms

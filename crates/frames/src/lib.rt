@@ -1,6 +1,7 @@
 // The frames of range queries, changed in place (docs/RANGE.md). Frame t * 4 of thread t is the lowest; it has four. A frame has 88 bytes for its
 // stack and 88 for its backup, 8 bytes (lower, upper, whether there is a store, the store, base, popped, key, begun) and 4 words (done, the
 // lengths of stack and backup, none). Nothing here reads nodes or stores: what a place reads of them is handed in.
+#![tactic(auto)]
 ghost use Rattle.std.specs.Prelude.{◌≡◌, ◌<◌, ◌≤◌};
 ghost use Rattle.definitions.specs.Frames.{between};
 ghost use Rattle.definitions.specs.Queries.{is_query};
