@@ -12,7 +12,7 @@ ghost use Rattle.effects.specs.Used.{used_after, base_shape, range_shape, set_of
 use definitions::{Content, Kind, Link, Node, Spot, Stage};
 
 // What a step at a place below 60 writes: an effect that makes no range base and sets no result.
-#[derive(Drop)]
+#[derive(Clone, Copy)]
 pub enum Write {
     Quiet,
     Mark {

@@ -20,7 +20,7 @@ pub mod walk; // 70, 72, 74, 81
 pub mod swap; // 62, 64 to 67, 76, 77 to 80
 
 // What a step of a range query leaves to its thread.
-#[derive(Drop)]
+#[derive(Clone, Copy)]
 pub enum Outcome {
     // it goes on to a place, with as many frames, and this is written
     Onward { place: u8, effect: Effect },

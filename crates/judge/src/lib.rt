@@ -14,7 +14,7 @@ use definitions::Judged;
 
 // The operations of a history, at most twelve of them: what each asks, its answer (1 for yes), and a mask of those that had
 // finished when it started.
-#[derive(Drop)]
+#[derive(Clone, Copy)]
 pub struct Work {
     pub count: usize,
     pub actions: [u8; 12],
@@ -182,7 +182,7 @@ fn trace(w: Work, next: &[u8; 4096]) -> [u8; 12]
 // ---- what the events say
 
 // Of each thread what it has open: its action, 0 where it is idle, its station and the operation's number.
-#[derive(Drop)]
+#[derive(Clone, Copy)]
 pub struct Slots {
     pub actions: [u8; 4],
     pub stations: [u8; 4],
@@ -190,7 +190,7 @@ pub struct Slots {
 }
 
 // What the events so far say; `done` is a mask of the operations that have finished.
-#[derive(Drop)]
+#[derive(Clone, Copy)]
 pub struct Noted {
     pub slots: Slots,
     pub done: u64,
@@ -328,7 +328,7 @@ fn note(n: Noted, t: u8, a: u8, s: u8, m: u8) -> Noted
 }
 
 // Whether each event is in place, and what they say if so.
-#[derive(Drop)]
+#[derive(Clone, Copy)]
 pub struct Readout {
     pub fine: bool,
     pub noted: Noted,

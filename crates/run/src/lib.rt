@@ -25,7 +25,7 @@ use steps::{Note, Notes, search};
 pub mod query; // a step at a place from 60 on, and the row of a query
 
 // Where a run stands. `at` is where the next row goes; `frames` has how many frames each thread has and, last, the count of the stop.
-#[derive(Drop)]
+#[derive(Clone, Copy)]
 pub struct Standing {
     pub root: u8,
     pub used: u16,

@@ -17,7 +17,7 @@ use frames::Outcome;
 use steps::Notes;
 
 // The root and the counts after what a step writes.
-#[derive(Drop)]
+#[derive(Clone, Copy)]
 pub struct Counts {
     pub root: u8,
     pub used: u16,
@@ -26,7 +26,7 @@ pub struct Counts {
 
 // What a step leaves. `what`: 0, its thread goes on; 1, it has found the set; else the number that it is refused with. A thread that goes on
 // has this place, this base and so many frames.
-#[derive(Drop)]
+#[derive(Clone, Copy)]
 pub struct Left {
     pub what: u8,
     pub root: u8,

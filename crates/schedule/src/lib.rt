@@ -9,21 +9,21 @@ ghost use Rattle.schedule.specs.Reader.{taken_from, next_of};
 ghost use Rattle.schedule.specs.Proper.{Proper};
 
 // The schedule, and the byte at which the next record starts.
-#[derive(Drop)]
+#[derive(Clone, Copy)]
 pub struct Reader<'a> {
     pub schedule: &'a [u8],
     pub at: usize,
 }
 
 // A record: its first byte, its second, and its last two as one number (0 in version 1).
-#[derive(Drop)]
+#[derive(Clone, Copy)]
 pub enum Record {
     Of(u8, u8, u16),
     End,
 }
 
 // A record, and the byte at which the one after starts; where no record is left, the byte that it was asked for.
-#[derive(Drop)]
+#[derive(Clone, Copy)]
 pub struct Taken {
     pub found: Record,
     pub at: usize,

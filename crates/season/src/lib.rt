@@ -3,14 +3,14 @@
 use definitions::Report;
 
 // What Tally hands back: Run's own answer, and beside it the tally's refusal, 19, or 0 for none.
-#[derive(Drop)]
+#[derive(Clone, Copy)]
 pub struct Tallied {
     pub report: Report,
     pub refusal: u64,
 }
 
 // An average of a tally: steps over operations.
-#[derive(Drop)]
+#[derive(Clone, Copy)]
 pub struct Average {
     pub steps: u64,
     pub operations: u64,

@@ -8,7 +8,7 @@ pub mod thread; // threads
 pub mod node; // nodes, and which are reachable
 
 // What State hands back beside the bytes.
-#[derive(Drop)]
+#[derive(Clone, Copy)]
 pub struct Stated {
     pub refusal: u64,
     pub records: u64,

@@ -18,7 +18,7 @@ pub mod join; // 19 to 38: a join until its stage is a node number
 pub mod complete; // 40 to 51: a join that is completed, by its owner or a helper
 
 // A thread: its operation, its place (0 where it is idle) and its notes. The frames of range queries lie apart.
-#[derive(Drop)]
+#[derive(Clone, Copy)]
 pub struct Notes {
     pub action: Action,
     pub station: u8,
@@ -46,7 +46,7 @@ pub struct Notes {
 }
 
 // Which note of its thread a step changes.
-#[derive(Drop)]
+#[derive(Clone, Copy)]
 pub enum Note {
     Nothing,
     Route,
@@ -70,7 +70,7 @@ pub enum Note {
 
 // What a step decides: 0, the thread goes on; 1, it finishes with the answer; 2, numbers have run out; 3, it goes back where its
 // frames lead. A thread that goes on has a new place, and its note gets the value. The effect counts where the step writes.
-#[derive(Drop)]
+#[derive(Clone, Copy)]
 pub struct Decision {
     pub what: u8,
     pub place: u8,

@@ -15,7 +15,7 @@ use season::{Average, Tallied};
 mod marks;
 
 // What a walk over the records leaves, a lane of 16 bits for each thread: 8 × own steps + action of its last operation; its starts.
-#[derive(Drop)]
+#[derive(Clone, Copy)]
 struct Walked {
     lanes: u64,
     begun: u64,
