@@ -13,7 +13,6 @@ use Rattle.definitions.specs.Schedule.{version, width, count_of, record_at, file
 use Rattle.definitions.specs.Merge.{fault}
 use Rattle.schedule.specs.Proper.{Proper, Plain}
 use Rattle.schedule.specs.Reader.{ended, two_from, four_from, taken_from}
-use Rattle.schedule.specs.declared.Record.{Record}
 use Rattle.schedule.specs.declared.Record.TheVariants.{Of, End}
 use Rattle.schedule.specs.declared.Taken.{Taken}
 

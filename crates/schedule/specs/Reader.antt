@@ -2,7 +2,6 @@
 use Rattle.std.specs.Prelude.{ℕ, ◌+◌, ◌*◌, List, eqb, ltb, length, get_or}
 use Rattle.container.specs.Choice.{ite}
 use Rattle.schedule.specs.declared.Reader.{Reader}
-use Rattle.schedule.specs.declared.Record.{Record}
 use Rattle.schedule.specs.declared.Record.TheVariants.{Of, End}
 use Rattle.schedule.specs.declared.Taken.{Taken}
 

@@ -1,6 +1,7 @@
 // The schedule file: its header, and a reader that borrows it and holds its position. `record_at` does the reader's work on a
 // plain slice; whoever wants a record calls `read`, and goes on from the position that it gives back.
 #![tactic(auto)]
+
 ghost use Rattle.std.specs.Prelude.{◌≡◌, not, ◌||◌, ◌+◌, ◌*◌, ◌≤◌, length, eqb};
 ghost use Rattle.definitions.specs.Schedule.{version, count_of, file_refusal};
 ghost use Rattle.definitions.specs.Merge.{fault};
