@@ -1,35 +1,32 @@
 -- What is counted along a run: every unset store has an owner among the four threads, and no thread has more than four frames.
 use mathlib.Core.Path.{◌≡◌, refl, sym, ◌∙◌, ap, subst}
-use mathlib.Core.Logic.{◌≢◌, ◌⊎◌, inl, inr}
-use mathlib.Core.Bool.{Bool, true, false, true≢false, false≢true}
+use mathlib.Core.Logic.{◌⊎◌, inl, inr}
+use mathlib.Core.Bool.{Bool, true, false}
 use mathlib.Core.List.{List, [], ◌∷◌}
 use Prim.Native.Nat.{ℕ, suc, ◌<◌, ◌≤◌}
 use native.Mathlib.Omega.{arith}
 use lib.ListN.{length}
 use borrow.Author.Tests.{eq-eqb, ne_eqb, eqb-true}
 use Rattle.definitions.specs.declared.Link.{Link}
-use Rattle.definitions.specs.declared.Link.TheVariants.{Nil, To}
 use Rattle.definitions.specs.declared.Shared.TheVariants.{Unset, Set}
-use Rattle.definitions.specs.declared.Spot.{Spot}
 use Rattle.definitions.specs.declared.Spot.TheVariants.{Root, Under}
-use Rattle.definitions.specs.declared.Quarter.{Quarter}
 use Rattle.definitions.specs.declared.Effect.{Effect}
 use Rattle.definitions.specs.declared.Effect.TheVariants.{Quiet, Mark, Settle, Invalid, Swing, Raise, Lower, Base, Fork, Commit, Ask, Fill}
 use Rattle.definitions.specs.Bench.{Store, Bench, sight_of}
 use Rattle.definitions.specs.Threads.{Frame, Thread, idle}
-use Rattle.definitions.specs.Places.{Place, nowhere, p3, p15, p62, swap, opening, place_of}
+use Rattle.definitions.specs.Places.{Place, nowhere, p3, p62, swap, opening, place_of}
 use Rattle.definitions.specs.Effects.{perform}
 use Rattle.definitions.specs.Records.{is_idle}
 use Rattle.definitions.specs.Steps.{is_query}
 use Rattle.definitions.specs.Claim.{moment}
 use Rattle.answers.proofs.Tools.{◌==?◌, clash}
-use Rattle.answers.proofs.Memory.{World, Hist}
+use Rattle.answers.proofs.Memory.{Hist}
 use Rattle.answers.proofs.Facts.{Replaceable}
-use Rattle.answers.proofs.FrameFacts.{Asks, free, rides, Own, PileOf, Opening, TopOf}
+use Rattle.answers.proofs.FrameFacts.{Own, PileOf, Opening, TopOf}
 use Rattle.answers.proofs.Invariant.{Inv, after, Stands, seen}
 use Rattle.answers.proofs.ReadPlaces.{know_now, here}
 use Rattle.answers.proofs.Owners.{Bears, Owner, Owned, push_fits}
-use Rattle.answers.proofs.Staying.{Shows, Sem, Single}
+use Rattle.answers.proofs.Staying.{Shows, Sem}
 
 pub record Counts (b : Bench) : Type 0 where
   pub owned : Owned b

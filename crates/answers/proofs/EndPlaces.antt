@@ -1,6 +1,6 @@
 -- 81, the swap that sets a store, and 82, the end of a frame: a query's row. It rests on Fill.antt.
 use mathlib.Core.Path.{◌≡◌, refl, sym, ◌∙◌, ap, subst}
-use mathlib.Core.Logic.{◌≢◌, ◌⊎◌, inl, inr}
+use mathlib.Core.Logic.{◌⊎◌}
 use mathlib.Core.Bool.{Bool, true, false, not, ◌&&◌, true≢false, false≢true}
 use mathlib.Core.List.{List, [], ◌∷◌}
 use Prim.Native.Nat.{ℕ, suc, ◌<◌, ◌≤◌}
@@ -12,30 +12,30 @@ use Rattle.container.specs.Choice.{upd}
 use Rattle.container.specs.Container.{has, cut}
 use Rattle.container.proofs.Laws.{has_cut}
 use Rattle.definitions.specs.declared.Link.{Link}
-use Rattle.definitions.specs.declared.Link.TheVariants.{Nil, To}
+use Rattle.definitions.specs.declared.Link.TheVariants.{To}
 use Rattle.definitions.specs.declared.Shared.{Shared}
 use Rattle.definitions.specs.declared.Shared.TheVariants.{Unset, Set}
 use Rattle.definitions.specs.declared.Action.{Action}
 use Rattle.definitions.specs.declared.Action.TheVariants.{Lookup, Insert, Remove, Split, Join, Query}
 use Rattle.definitions.specs.declared.Effect.TheVariants.{Quiet, Fill}
-use Rattle.definitions.specs.Nodes.{Nodes, shape}
+use Rattle.definitions.specs.Nodes.{Nodes}
 use Rattle.definitions.specs.Bench.{Bench, sight_of}
-use Rattle.definitions.specs.Threads.{Frame, Thread, Turn, Moves, Finds, idle}
-use Rattle.definitions.specs.Places.{Place, p1, p81, p82, place_of, at}
-use Rattle.definitions.specs.Frames.{reaches, between, store_of, in_frame, back_in}
+use Rattle.definitions.specs.Threads.{Frame, Thread}
+use Rattle.definitions.specs.Places.{p81, p82, at}
+use Rattle.definitions.specs.Frames.{reaches, between, store_of, back_in}
 use Rattle.definitions.specs.Effects.{perform}
 use Rattle.definitions.specs.Steps.{filling, leaving, read_out, is_query, step}
 use Rattle.definitions.specs.Plain.{settled}
 use Rattle.definitions.specs.Answers.{said}
-use Rattle.definitions.specs.Claim.{moment, opened, first_steps, inside, FitsRange}
-use Rattle.answers.proofs.Tools.{on, off, test, clash}
-use Rattle.answers.proofs.Memory.{World, Hist, Waits, Of, Mem}
-use Rattle.answers.proofs.FrameFacts.{Short, own_free, blocked, prev_of, Asks, Bottom, free, rides, Own, PileOf, Pile, Unless, Complete, Ready, TopOf, Top}
-use Rattle.answers.proofs.Knows.{looks, Know, owning, asks_of}
-use Rattle.answers.proofs.Invariant.{Ghost, Agrees, Inv, after, alike, NotBack, Stands, seen, pile_alike, pile_opened, kin_pile, build, away}
-use Rattle.answers.proofs.Shown.{Good, Still, Feeds, either, ends_quiet, T'}
-use Rattle.answers.proofs.ReadPlaces.{go_on, go_frames, know_now, here}
-use Rattle.answers.proofs.Returns.{Returns, returns, asks_begun}
+use Rattle.definitions.specs.Claim.{moment, opened, inside, FitsRange}
+use Rattle.answers.proofs.Tools.{clash}
+use Rattle.answers.proofs.Memory.{World, Hist}
+use Rattle.answers.proofs.FrameFacts.{Short, own_free, blocked, prev_of, Asks, Bottom, free, rides, Own, PileOf, Complete, Ready, TopOf}
+use Rattle.answers.proofs.Knows.{looks, Know}
+use Rattle.answers.proofs.Invariant.{Ghost, Inv, alike, Stands, seen, pile_alike, pile_opened, kin_pile, build, away}
+use Rattle.answers.proofs.Shown.{Good, either, ends_quiet, T'}
+use Rattle.answers.proofs.ReadPlaces.{go_frames, know_now, here}
+use Rattle.answers.proofs.Returns.{returns, asks_begun}
 use Rattle.answers.proofs.RangeSets.{between_has}
 use Rattle.answers.proofs.Fill.{timed, fill}
 use Rattle.answers.proofs.FillKnown.{fill_rely}

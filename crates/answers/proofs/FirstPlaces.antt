@@ -1,13 +1,12 @@
 -- 60, 61 and 62: a frame's search for its first base. It rests on FrameSteps.antt and Adding.antt.
 use mathlib.Core.Path.{◌≡◌, refl, sym, ◌∙◌, ap, subst}
-use mathlib.Core.Logic.{◌≢◌, ◌⊎◌, inl, inr}
+use mathlib.Core.Logic.{◌⊎◌, inl, inr}
 use mathlib.Core.Bool.{Bool, true, false, cond, true≢false, false≢true}
 use mathlib.Core.List.{List, [], ◌∷◌}
 use Prim.Native.Nat.{ℕ, suc, ◌<◌, ◌≤◌}
 use native.Mathlib.Omega.{arith}
 use lib.Dec.{eqb, leb, ltb}
 use borrow.Author.Tests.{eq-eqb, leb-true}
-use Rattle.container.specs.Container.{has}
 use Rattle.definitions.specs.declared.Link.{Link}
 use Rattle.definitions.specs.declared.Link.TheVariants.{Nil, To}
 use Rattle.definitions.specs.declared.Kind.{Kind}
@@ -16,22 +15,21 @@ use Rattle.definitions.specs.declared.Shared.{Shared}
 use Rattle.definitions.specs.declared.Shared.TheVariants.{Unset, Set}
 use Rattle.definitions.specs.declared.Node.{Node}
 use Rattle.definitions.specs.declared.Effect.TheVariants.{Quiet}
-use Rattle.definitions.specs.declared.Quarter.TheVariants.{ReadLeft}
 use Rattle.definitions.specs.Nodes.{Shapes, Nodes, child_for, check_store, check_as, check, is_replaceable, replaceable, is_route, shape}
 use Rattle.definitions.specs.Bench.{Bench, sight_of}
-use Rattle.definitions.specs.Threads.{Frame, Thread, Turn, Moves}
-use Rattle.definitions.specs.Places.{Place, p1, p15, p60, p61, p62, p82, swap, opening, place_of, at, at_frames, at_base}
-use Rattle.definitions.specs.Frames.{top_of, tail_of, store_of, pushed, in_hand, asks, adds, is_of, is_range, in_frame, found_first}
-use Rattle.definitions.specs.Steps.{goes, reached_first, riding, is_query, step}
-use Rattle.definitions.specs.Claim.{moment, opened, first_steps}
-use Rattle.answers.proofs.Tools.{on, off, test, clash}
+use Rattle.definitions.specs.Threads.{Frame, Thread, Turn}
+use Rattle.definitions.specs.Places.{Place, p60, p61, p62, at_frames}
+use Rattle.definitions.specs.Frames.{top_of, pushed, in_hand, asks, adds, is_of, is_range, in_frame, found_first}
+use Rattle.definitions.specs.Steps.{goes, reached_first, is_query, step}
+use Rattle.definitions.specs.Claim.{moment, opened}
+use Rattle.answers.proofs.Tools.{clash}
 use Rattle.answers.proofs.Memory.{World, Hist, Live, Born, lives, In, kind_of, IsBase, Waits, Of, Mem}
-use Rattle.answers.proofs.Facts.{Replaceable, Fresh, AtRoute, AtBase}
-use Rattle.answers.proofs.FrameFacts.{Blocks, first_base, Routed, Climb, prev_of, Asks, Bottom, free, rides, Own, PileOf, Pile, Unless, Downward, Opening, Ready, TopOf, Top, Member, Hung, Over, top_routed}
+use Rattle.answers.proofs.Facts.{Replaceable, Fresh}
+use Rattle.answers.proofs.FrameFacts.{Blocks, first_base, Climb, Asks, free, rides, Own, PileOf, Unless, Downward, Opening, TopOf, Member, Hung, Over, top_routed}
 use Rattle.answers.proofs.Readings.{down}
-use Rattle.answers.proofs.Knows.{looks, Know, owning, asks_of}
+use Rattle.answers.proofs.Knows.{looks, Know, asks_of}
 use Rattle.answers.proofs.Invariant.{Ghost, Agrees, Inv, alike, NotBack, Stands, seen, pile_alike}
-use Rattle.answers.proofs.Shown.{kind_route, kind_base, repl_of, Good, either, T'}
+use Rattle.answers.proofs.Shown.{kind_route, kind_base, Good, either, T'}
 use Rattle.answers.proofs.ReadPlaces.{go_on, go_frames, know_now, repl_at}
 use Rattle.answers.proofs.Returns.{pile_moved}
 use Rattle.answers.proofs.Adding.{Adds, adding_by, pile_asks, pile_takes}

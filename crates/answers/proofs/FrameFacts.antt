@@ -16,7 +16,7 @@ use Rattle.definitions.specs.Threads.{Frame, Thread}
 use Rattle.definitions.specs.Frames.{top_of, tail_of, reaches}
 use Rattle.definitions.specs.Steps.{is_query}
 use Rattle.answers.proofs.Memory.{World, Hist, Live, Born, In, kind_of, IsBase, key_of, kid, Waits, Of}
-use Rattle.answers.proofs.Facts.{Fresh, AtBase, Replaceable}
+use Rattle.answers.proofs.Facts.{Fresh, AtBase}
 
 -- routes ever linked
 abbrev pub Routed : World → ℕ → Type 0

@@ -1,7 +1,7 @@
 -- 64 to 67 and 77 to 80: the swaps of a base for a range base, of a new store and of the frame's. They rest on GraftBase.antt and GraftTales.antt.
 use mathlib.Core.Path.{◌≡◌, refl, sym, ◌∙◌, ap, subst}
-use mathlib.Core.Logic.{◌≢◌, ◌⊎◌, inl, inr}
-use mathlib.Core.Bool.{Bool, true, false, true≢false, false≢true}
+use mathlib.Core.Logic.{inl, inr}
+use mathlib.Core.Bool.{Bool, true, false, true≢false}
 use mathlib.Core.List.{List, [], ◌∷◌}
 use Prim.Native.Nat.{ℕ, suc, ◌<◌, ◌≤◌}
 use native.Mathlib.Omega.{arith}
@@ -11,9 +11,8 @@ use Rattle.container.specs.Depths.{is_in, find}
 use Rattle.container.specs.Choice.{upd}
 use Rattle.container.specs.Container.{has, union}
 use Rattle.definitions.specs.declared.Link.{Link}
-use Rattle.definitions.specs.declared.Link.TheVariants.{Nil, To}
-use Rattle.definitions.specs.declared.Kind.TheVariants.{Route, Range}
-use Rattle.definitions.specs.declared.Node.{Node}
+use Rattle.definitions.specs.declared.Link.TheVariants.{Nil}
+use Rattle.definitions.specs.declared.Kind.TheVariants.{Route}
 use Rattle.definitions.specs.declared.Effect.TheVariants.{Ask}
 use Rattle.definitions.specs.declared.Quarter.{Quarter}
 use Rattle.definitions.specs.declared.Spot.{Spot}
@@ -21,20 +20,20 @@ use Rattle.definitions.specs.declared.Spot.TheVariants.{Root, Under}
 use Rattle.definitions.specs.Nodes.{Entry, Nodes, new_range, shape}
 use Rattle.definitions.specs.Bench.{Bench, sight_of}
 use Rattle.definitions.specs.Threads.{Frame, Thread, Moves}
-use Rattle.definitions.specs.Places.{Place, p60, swap, opening, next, place_of, at}
-use Rattle.definitions.specs.Frames.{reaches, top_of, tail_of, store_of, in_hand, asks, adds, in_frame}
+use Rattle.definitions.specs.Places.{p60, swap, opening, next, at}
+use Rattle.definitions.specs.Frames.{reaches, tail_of, store_of, in_hand, asks, adds}
 use Rattle.definitions.specs.Steps.{opened_by, extended_by, is_query, step}
 use Rattle.definitions.specs.Claim.{moment}
 use Rattle.answers.proofs.Tools.{◌==?◌, clash}
-use Rattle.answers.proofs.Memory.{Tale, World, Hist, Live, Born, lives, died, alive, In, kind_of, IsBase, Waits, Of, Mem}
+use Rattle.answers.proofs.Memory.{Tale, World, Hist, Live, Born, lives, died, alive, In, IsBase, Waits, Of, Mem}
 use Rattle.answers.proofs.Facts.{Replaceable, not_waiting}
-use Rattle.answers.proofs.FrameFacts.{Short, Hung, Member, Sight, top_routed, top_member, member_routed, prev_of, Asks, Bottom, free, rides, Own, PileOf, Pile, Opening, Nexts, TopOf}
+use Rattle.answers.proofs.FrameFacts.{Short, Hung, top_routed, top_member, member_routed, prev_of, Asks, free, rides, Own, PileOf, Opening, Nexts, TopOf}
 use Rattle.answers.proofs.Swing.{shifted}
 use Rattle.answers.proofs.GraftBase.{exchanging, any_graft, to_range}
 use Rattle.answers.proofs.GraftTales.{tales_again, tales_new}
 use Rattle.answers.proofs.GraftKnown.{graft_kept, graft_rely}
 use Rattle.answers.proofs.PlaceNumbers.{place_number}
-use Rattle.answers.proofs.Knows.{looks, Know, owning, Rely}
+use Rattle.answers.proofs.Knows.{looks, Know, Rely}
 use Rattle.answers.proofs.Stays.{climbs}
 use Rattle.answers.proofs.Invariant.{Ghost, Agrees, Inv, alike, Stands, seen, away, pile_after}
 use Rattle.answers.proofs.Shown.{Good, Still, either, T'}

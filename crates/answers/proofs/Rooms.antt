@@ -16,9 +16,9 @@ use Rattle.definitions.specs.Run.{after}
 use Rattle.definitions.specs.Claim.{moments}
 use Rattle.definitions.specs.Threads.{Frame, Thread}
 use Rattle.definitions.specs.Frames.{top_of, tail_of}
-use Rattle.definitions.specs.Places.{Place, nowhere, p15, p61, p62, p70, p71, p72, p73, p74, p76, swap, opening, next, place_of}
+use Rattle.definitions.specs.Places.{Place, nowhere, p61, p62, p70, p71, p72, p73, p74, p76, swap, opening, next, place_of}
 use Rattle.answers.proofs.Memory.{World, Hist, Mem}
-use Rattle.answers.proofs.FrameFacts.{Climb, Downward, Opening, Upward, Nexts, TopOf, Top}
+use Rattle.answers.proofs.FrameFacts.{Climb, TopOf, Top}
 use Rattle.answers.proofs.Knows.{Know}
 use Rattle.answers.proofs.Owners.{push_fits}
 use Rattle.answers.proofs.ReadPlaces.{know_now}

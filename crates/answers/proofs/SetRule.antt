@@ -5,7 +5,6 @@ use mathlib.Core.Bool.{Bool, true, false, not, cond}
 use mathlib.Core.List.{List, [], ◌∷◌}
 use Prim.Native.Nat.{ℕ, zero, suc, ◌/◌, ◌%◌}
 use lib.Dec.{eqb}
-use Rattle.container.specs.Choice.{upd}
 use Rattle.container.specs.Depths.{Found, is_in}
 use Rattle.container.proofs.DepthLaws.{is_in_lem}
 use Rattle.definitions.specs.declared.Link.{Link}

@@ -1,8 +1,8 @@
 -- Every depth of every run is at most 9,999 (02, request a: "a depth, 0 to 9,999 mm"): four digits print it.
-use mathlib.Core.Path.{◌≡◌, refl, sym}
+use mathlib.Core.Path.{◌≡◌, refl}
 use mathlib.Core.Bool.{Bool, true, false}
 use mathlib.Core.List.{List}
-use Prim.Native.Nat.{ℕ, zero, suc, ◌/◌, ◌%◌, ◌+◌, ◌<◌, ◌≤◌}
+use Prim.Native.Nat.{ℕ, zero, suc, ◌/◌, ◌%◌, ◌≤◌}
 use native.Mathlib.Omega.{arith}
 use native.Mathlib.Decide.{ℕ_discrete}
 use lib.Dec.{eqb, ltb}
@@ -13,12 +13,10 @@ use Rattle.container.specs.Depths.{Container, put, take_out, merge, lower, upper
 use Rattle.definitions.specs.Nodes.{Nodes, Entry}
 use Rattle.definitions.specs.Bench.{Store, Bench, fresh, sight_of}
 use Rattle.definitions.specs.Places.{place_of}
-use Rattle.definitions.specs.Effects.{hang, content_of, perform}
-use Rattle.definitions.specs.Steps.{step}
+use Rattle.definitions.specs.Effects.{hang, perform}
 use Rattle.definitions.specs.Records.{Result, refused, carried, taken, stepped, depth_refusal, started, asked, acted, record_step}
 use Rattle.definitions.specs.Schedule.{Rec, stop_of, record_at}
-use Rattle.definitions.specs.Run.{Progress, begin, advance_by, advance, after}
-use Rattle.definitions.specs.declared.Content.{Content}
+use Rattle.definitions.specs.Run.{Progress, advance_by, advance, after}
 use Rattle.definitions.specs.declared.Content.TheVariants.{Of, With, Without}
 use Rattle.definitions.specs.declared.Spot.{Spot}
 use Rattle.definitions.specs.declared.Spot.TheVariants.{Root, Under}

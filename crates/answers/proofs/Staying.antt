@@ -4,7 +4,6 @@ use mathlib.Core.Bool.{Bool, true, false, true≢false}
 use Prim.Native.Nat.{ℕ, ◌≤◌}
 use native.Mathlib.Omega.{arith}
 use lib.ListN.{length}
-use mathlib.Core.Logic.{◌≢◌}
 use Rattle.answers.proofs.Tools.{clash}
 use Rattle.answers.proofs.FrameFacts.{TopOf}
 use Rattle.answers.proofs.Owners.{Bears, Owner}
@@ -373,7 +372,7 @@ module _ (s : Sight) (th : Thread) where
   stay_op p51 sem = fork s th _ _ _ (λ k v. v) (goes_back _ (λ k v. v))
   stay_op p60 sem = in_frame_lem th.frames _ refl (λ f fs E. first_reached f fs E s.root [])
   stay_op p61 sem = in_frame_lem th.frames _ refl (λ f fs E. first_reached f fs E _ f.stack)
-  stay_op p62 sem = in_frame_lem th.frames _ refl (λ f fs E. fork s th _ _ _ (λ S o. o, λ h. h, λ k v. absurd v) (fork s th _ _ _ (ride f fs E (subst (λ v. TopOf v (λ f. f.begun ≡ false)) E (sem.new refl)) _ _ _ 60) (λ S o. o, λ h. h, λ k v. absurd v)))
+  stay_op p62 sem = in_frame_lem th.frames _ refl (λ f fs E. fork s th _ _ _ (λ S o. o, λ h. h, λ k v. absurd v) (fork s th _ _ _ (ride f fs E (subst (λ v. TopOf v (λ f. f.begun ≡ false)) E (sem.new refl)) (s.nodes f.base).lower (s.nodes f.base).upper (s.nodes f.base).store 60) (λ S o. o, λ h. h, λ k v. absurd v)))
   stay_op (swap opening q) sem = in_frame_lem th.frames _ refl (λ f fs E. by_opening f fs E (sem.single q refl f fs E) (probe q (s.nodes f.base).parent s.nodes s.root f.base) (s.nodes f.base))
   stay_op p70 sem = in_frame_lem th.frames _ refl (λ f fs E. fork s th _ _ _ (λ S o. o, λ h. h, λ k v. absurd v) (moves f fs E (noting (s.nodes (top_of f.stack)).key f) refl (λ v. v) 72))
   stay_op p71 sem = in_frame_lem th.frames _ refl (λ f fs E. next_reached f fs E _)

@@ -15,7 +15,7 @@ use Rattle.definitions.specs.declared.Quarter.TheVariants.{ReadLeft, SwapLeft, R
 use Rattle.definitions.specs.Threads.{Frame, Thread}
 use Rattle.definitions.specs.Frames.{top_of, tail_of, reaches}
 use Rattle.definitions.specs.Steps.{is_query}
-use Rattle.definitions.specs.Places.{own, found, united, opening, next, Place, nowhere, p1, p2, p3, p4, p5, p15, p16, p19, p20, p21, p22, p23, p24, p25, p30, p31, p32, p33, p34, p35, p36, p37, p38, p40, p45, p46, p47, p48, p49, p50, p51, p60, p61, p62, p70, p71, p72, p73, p74, p76, p81, p82, swap, at}
+use Rattle.definitions.specs.Places.{own, found, united, opening, next, Place, nowhere, p1, p2, p3, p4, p5, p15, p16, p19, p20, p21, p22, p23, p24, p25, p30, p31, p32, p33, p34, p35, p36, p37, p38, p40, p45, p46, p47, p48, p49, p50, p51, p60, p61, p62, p70, p71, p72, p73, p74, p76, p81, p82, swap}
 use Rattle.answers.proofs.Memory.{World, Live, Born, lives, died, alive, In, kind_of, Waits, Of, Hist}
 use Rattle.answers.proofs.FrameFacts.{Short, Waiting, own_free, blocked, Blocks, first_base, stands, Outside, Routed, Climb, prev_of, Added, Asks, Bottom, free, rides, Own, PileOf, Pile, Unless, Downward, Opening, Upward, Turns, Nearing, Nexts, Complete, Ready, TopOf, Hung, Member, Sight, Ahead, Beside, top_routed, member_routed}
 use Rattle.answers.proofs.Facts.{Fresh, AtBase, goal, InPlace, AtSide, AtFound, Grand, none, some}
