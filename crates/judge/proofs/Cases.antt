@@ -1,19 +1,19 @@
 -- What each small function returns, one law for each way out. Assumes nothing.
 use mathlib.Core.Path.{◌≡◌, refl, sym, ◌∙◌, ap}
 use mathlib.Core.Logic.{◌≢◌}
-use mathlib.Core.Bool.{Bool, true, false, not, ◌&&◌, true≢false}
+use mathlib.Core.Bool.{Bool, true, false, not, true≢false}
 use Prim.Native.Nat.{ℕ, zero, suc, ◌+◌, ◌<◌, ◌≤◌}
 use native.Mathlib.Omega.{arith}
 use native.Mathlib.Numerals.{add-one}
-use lib.Dec.{eqb, ltb}
+use lib.Dec.{eqb}
 use lib.ListN.{get_or}
-use borrow.Author.Tests.{eq-eqb, ne_eqb, eqb-true}
+use borrow.Author.Tests.{eq-eqb, ne_eqb}
 use Rattle.container.specs.Container.{has, insert, remove}
 use Rattle.container.proofs.Laws.{insert_same, insert_other, remove_same, remove_other, has_none}
 use Rattle.definitions.specs.Judgement.{action_of, reply}
-use Rattle.judge.specs.Search.{flip, changes, turns, state_to, state, held, held_op}
+use Rattle.judge.specs.Search.{flip, changes, state_to, held}
 use Rattle.judge.specs.declared.Work.{Work}
-use Rattle.judge.proofs.Tools.{Test, on, off, test, ◌==?◌, clash}
+use Rattle.judge.proofs.Tools.{◌==?◌}
 
 -- ---- turn
 module _ (set s : ℕ) {r : ℕ} {v : Bool} where

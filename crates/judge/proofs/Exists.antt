@@ -1,26 +1,26 @@
 -- Every file has a report: with Unique.antt, the definition is a function. Assumes nothing.
-use mathlib.Core.Path.{◌≡◌, refl, sym, ◌∙◌, ap, subst}
-use mathlib.Core.Logic.{◌≢◌, ◌⊎◌, inl, inr}
-use mathlib.Core.Bool.{Bool, true, false, not, ◌&&◌, ◌||◌, true≢false, Bool-discrete}
-use mathlib.Core.List.{List, [], ◌∷◌}
+use mathlib.Core.Path.{◌≡◌, refl, sym, ◌∙◌}
+use mathlib.Core.Logic.{◌⊎◌, inl, inr}
+use mathlib.Core.Bool.{Bool, true, false, not, ◌||◌, true≢false, Bool-discrete}
+use mathlib.Core.List.{List, []}
 use Prim.Native.Nat.{ℕ, zero, suc, ◌+◌, ◌<◌, ◌≤◌, ◌^◌}
 use native.Mathlib.Omega.{arith}
 use native.Mathlib.Decide.{dec_lt}
 use lib.Dec.{eqb, ltb}
 use lib.Pow.{pow_pos}
-use borrow.Author.Tests.{eq-eqb, ne_eqb, eqb-true, ltb-true, ltb-false}
+use borrow.Author.Tests.{eq-eqb, ltb-true, ltb-false}
 use Rattle.container.specs.Choice.{ite}
 use Rattle.container.specs.Container.{has, insert}
 use Rattle.definitions.specs.Schedule.{count_of}
 use Rattle.definitions.specs.declared.Link.{Link}
 use Rattle.definitions.specs.declared.Link.TheVariants.{Nil, To}
-use Rattle.definitions.specs.History.{Event, Events, events_of, Operations, Reading, unread, begun, ended_by, noted, in_range, closes, in_place, reading, all_in_place, unfinished, reading_of, form_refusal, events_refusal, history_refusal}
-use Rattle.definitions.specs.Judgement.{action_of, reply, padded, Order, Verdict, accepts, rejects, Refused, Decided, JudgementBy, Judgement}
-use Rattle.judge.specs.Search.{state, Fitting, Before, Rest, Best, Sound, Entry, dead, alive, next_mark}
+use Rattle.definitions.specs.History.{Event, Events, events_of, Operations, Reading, begun, ended_by, noted, in_range, in_place, reading, all_in_place, unfinished, reading_of, form_refusal, events_refusal, history_refusal}
+use Rattle.definitions.specs.Judgement.{action_of, reply, padded, accepts, rejects, Decided, JudgementBy, Judgement}
+use Rattle.judge.specs.Search.{state, Fitting, Before, Sound, Entry, dead, alive}
 use Rattle.judge.specs.Standing.{Proper}
 use Rattle.definitions.specs.declared.Judged.{Judged}
-use Rattle.judge.proofs.Tools.{Test, on, off, test, ◌==?◌, clash, and_both}
-use Rattle.judge.proofs.Rest.{head_fits, head_before, tail_rest, best_cons, first_order, no_order}
+use Rattle.judge.proofs.Tools.{on, off, test, ◌==?◌, and_both}
+use Rattle.judge.proofs.Rest.{head_fits, head_before, tail_rest, first_order, no_order}
 use Rattle.judge.proofs.Table.{insert_below, insert_above, Goes, Lower, Left, choose_here, lower_none, lower_done, lower_stuck, left_none, left_done, left_some, entry_dead, entry_full}
 use Rattle.judge.proofs.Noting.{proper_begun, proper_ended}
 use Rattle.judge.proofs.Whole.{unread_proper}

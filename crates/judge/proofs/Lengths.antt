@@ -1,15 +1,15 @@
 -- A list that has each number below n once, and no other, has length n. Assumes nothing.
-use mathlib.Core.Path.{◌≡◌, refl, sym, ◌∙◌}
+use mathlib.Core.Path.{◌≡◌, refl, sym, ◌∙◌, subst}
 use mathlib.Core.Logic.{◌≢◌}
 use mathlib.Core.Bool.{Bool, true, false, cond}
 use mathlib.Core.List.{List, [], ◌∷◌}
 use Prim.Native.Nat.{ℕ, zero, suc, ◌+◌, ◌<◌, ◌≤◌}
 use native.Mathlib.Omega.{arith}
 use native.Mathlib.Decide.{dec_lt}
-use lib.Dec.{eqb, ltb}
+use lib.Dec.{eqb}
 use lib.ListN.{length}
 use borrow.Author.Tests.{eq-eqb, ne_eqb, lt-ltb, le-ltb}
-use Rattle.definitions.specs.Judgement.{times, once, Each}
+use Rattle.definitions.specs.Judgement.{times, Each}
 use Rattle.judge.proofs.Tools.{◌==?◌}
 
 total : ℕ → List ℕ → ℕ
@@ -30,7 +30,7 @@ total_cons : (n k : ℕ) (l : List ℕ) → k < n → total n (k ∷ l) ≡ suc 
 unfolding total
 total_cons zero k l h = absurd (omega arith)
 total_cons (suc n) k l h = elim (n ==? k) [
-  | yes e ↦ rw (e, eq-eqb k k refl, total_past k k l (omega arith)) (omega arith)
+  | yes e ↦ subst (λ x. total (suc x) (k ∷ l) ≡ suc (total (suc x) l)) (sym e) (rw (eq-eqb k k refl, total_past k k l (omega arith)) (omega arith))
   | no e ↦ rw (ne_eqb n k e, total_cons n k l (omega arith)) (omega arith)
 ]
 

@@ -1,28 +1,26 @@
 -- One event: whether it is in place, and what the code holds after it. Assumes nothing.
 use mathlib.Core.Path.{◌≡◌, refl, sym, ◌∙◌, ap, subst, fun_ext}
 use mathlib.Core.Logic.{◌≢◌}
-use mathlib.Core.Bool.{Bool, true, false, not, ◌&&◌, cond, true≢false}
-use mathlib.Core.List.{List}
-use Prim.Native.Nat.{ℕ, zero, suc, ◌+◌, ◌<◌, ◌≤◌}
+use mathlib.Core.Bool.{Bool, true, false, not, ◌&&◌, true≢false}
+use Prim.Native.Nat.{ℕ, suc, ◌+◌, ◌<◌, ◌≤◌}
 use native.Mathlib.Omega.{arith}
 use native.Mathlib.Numerals.{add-one}
-use native.Mathlib.Decide.{dec_lt}
 use lib.Dec.{eqb, ltb}
-use lib.ListN.{get_or, length, set, length-set}
+use lib.ListN.{get_or, set, length-set}
 use lib.Seq.{get_or-set_same, get_or-set_other}
-use borrow.Author.Tests.{eq-eqb, ne_eqb, lt-ltb, le-ltb, eqb-true, ltb-true}
+use borrow.Author.Tests.{eq-eqb, ne_eqb, lt-ltb, le-ltb, ltb-true}
 use Rattle.container.specs.Choice.{ite, upd}
 use Rattle.container.specs.Container.{has, insert}
 use Rattle.container.proofs.Laws.{insert_same, insert_other}
 use Rattle.definitions.specs.declared.Link.{Link}
 use Rattle.definitions.specs.declared.Link.TheVariants.{Nil, To}
-use Rattle.definitions.specs.History.{Event, Operation, Operations, operations, Reading, answered, begun, ended_by, noted, is_open, in_range, closes, in_place}
-use Rattle.judge.specs.Search.{held, held_op, asking}
-use Rattle.judge.specs.Standing.{event, Twelve, Four, SlotOf, SlotsOf, Proper, Stands}
+use Rattle.definitions.specs.History.{Event, Operation, Reading, answered, begun, ended_by, noted, is_open, in_range, closes, in_place}
+use Rattle.judge.specs.Search.{held_op, asking}
+use Rattle.judge.specs.Standing.{event, Twelve, SlotOf, SlotsOf, Proper, Stands}
 use Rattle.judge.specs.declared.Work.{Work}
 use Rattle.judge.specs.declared.Slots.{Slots}
 use Rattle.judge.specs.declared.Noted.{Noted}
-use Rattle.judge.proofs.Tools.{Test, on, off, test, ◌==?◌, clash, and_both}
+use Rattle.judge.proofs.Tools.{on, off, test, ◌==?◌, clash, and_both}
 
 -- ---- begin_op
 abbrev pub Begins : Work → ℕ → ℕ → ℕ → Work → Type 0

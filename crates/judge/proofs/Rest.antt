@@ -1,10 +1,10 @@
 -- The rest of an order: what can still follow once the operations of a mask are done. The plain set after them is fixed by the
 -- mask alone, since each insert or remove with yes turns its station over and nothing else does. Assumes nothing.
 use mathlib.Core.Path.{◌≡◌, refl, sym, ◌∙◌, ap, subst, fun_ext}
-use mathlib.Core.Logic.{◌⊎◌, inl, inr, ◌≢◌}
-use mathlib.Core.Bool.{Bool, true, false, not, cond, ◌&&◌, true≢false}
+use mathlib.Core.Logic.{inl, inr, ◌≢◌}
+use mathlib.Core.Bool.{Bool, true, false, not, ◌&&◌, true≢false}
 use mathlib.Core.List.{List, [], ◌∷◌}
-use Prim.Native.Nat.{ℕ, zero, suc, ◌+◌, ◌<◌, ◌≤◌}
+use Prim.Native.Nat.{ℕ, zero, suc, ◌<◌, ◌≤◌}
 use native.Mathlib.Omega.{arith}
 use native.Mathlib.Decide.{dec_lt}
 use lib.Dec.{eqb, ltb}
@@ -14,10 +14,10 @@ use Rattle.container.proofs.Laws.{insert_same, insert_other, has_none}
 use Rattle.definitions.specs.PlainSet.{settled}
 use Rattle.definitions.specs.declared.Action.{Action}
 use Rattle.definitions.specs.declared.Action.TheVariants.{Lookup, Insert, Remove, Split, Join, Query}
-use Rattle.definitions.specs.History.{Operation, Operations}
-use Rattle.definitions.specs.Judgement.{times, once, Each, Keeps, action_of, reply, Answers, Order, First, FirstOrder}
+use Rattle.definitions.specs.History.{Operations}
+use Rattle.definitions.specs.Judgement.{times, once, action_of, reply, Answers, Order, First, FirstOrder}
 use Rattle.judge.specs.Search.{flip, changes, turns, state_to, state, Fitting, Before, undone, Rest, Best, Sound}
-use Rattle.judge.proofs.Tools.{Test, on, off, test, ◌==?◌, clash, flip_swap, and_both}
+use Rattle.judge.proofs.Tools.{on, off, test, ◌==?◌, clash, flip_swap, and_both}
 
 -- ---- the plain set after the operations of a mask
 
@@ -146,7 +146,7 @@ module _ (R : Operations) (sound : Sound R) (M : ℕ) where
       where
         cons_each : (j : ℕ) → times j (i ∷ l) ≡ once (undone R M j)
         cons_each j = elim (j ==? i) [
-          | yes e ↦ rw (e, eq-eqb i i refl, is_undone i here out, rest.each i, insert_same M i cons_small) (gone (ltb i R.count))
+          | yes e ↦ subst (λ x. times x (i ∷ l) ≡ once (undone R M x)) (sym e) (rw (eq-eqb i i refl, is_undone i here out, rest.each i, insert_same M i cons_small) (gone (ltb i R.count)))
           | no e ↦ rw (ne_eqb j i e, rest.each j, insert_other M i j e)
         ]
           where

@@ -1,29 +1,25 @@
 -- The table of masks: what each way out of the code says of its entry. Assumes nothing.
 use mathlib.Core.Path.{◌≡◌, refl, sym, ◌∙◌, ap, subst}
-use mathlib.Core.Logic.{◌≢◌, ◌⊎◌, inl, inr}
-use mathlib.Core.Bool.{Bool, true, false, not, ◌||◌, true≢false}
+use mathlib.Core.Bool.{Bool, true, false, ◌||◌, true≢false}
 use mathlib.Core.List.{List, [], ◌∷◌}
-use Prim.Native.Nat.{ℕ, zero, suc, ◌+◌, ◌-◌, ◌<◌, ◌≤◌, ◌^◌, ◌*◌, ◌%◌}
+use Prim.Native.Nat.{ℕ, suc, ◌+◌, ◌<◌, ◌≤◌, ◌^◌, ◌*◌, ◌%◌}
 use native.Mathlib.Numerals.{add-one}
 use native.Mathlib.Omega.{arith}
-use native.Mathlib.Decide.{dec_lt}
-use lib.Dec.{eqb, ltb, lit<}
+use lib.Dec.{lit<}
 use lib.Pow.{pow_mono, pow_pos, pow-lt, shl_exact}
 use native.Mathlib.Nat.{one-mul}
 use lib.Bits.{or_lt}
 use lib.ListN.{get_or, length, set}
 use lib.Seq.{get_or-set_same, get_or-set_other}
-use borrow.Author.Tests.{eq-eqb, ne_eqb, lt-ltb}
+use borrow.Author.Tests.{lt-ltb}
 use Rattle.container.specs.Choice.{ite}
 use Rattle.container.specs.Container.{has, insert, remove, union}
 use Rattle.container.proofs.Laws.{has_none, insert_same, insert_other, remove_same, remove_other, remove_on, has_union, ext_all}
 use Rattle.container.proofs.Digits.{has_is, bit_le}
 use Rattle.definitions.specs.History.{Operations}
-use Rattle.definitions.specs.Judgement.{action_of, reply}
-use Rattle.judge.specs.Search.{state, Fitting, Before, Rest, Best, Sound, Down, Entry, dead, alive, next_mark, Filled, held, held_op}
-use Rattle.judge.specs.declared.Work.{Work}
-use Rattle.judge.proofs.Tools.{Test, on, off, test, ◌==?◌, clash}
-use Rattle.judge.proofs.Rest.{rest_nil, head_undone, head_fits, head_before, tail_rest, best_cons, best_tail, rest_stuck, best_one}
+use Rattle.judge.specs.Search.{Fitting, Before, Rest, Best, Sound, Down, Entry, dead, alive, Filled}
+use Rattle.judge.proofs.Tools.{◌==?◌}
+use Rattle.judge.proofs.Rest.{rest_nil, head_undone, head_fits, head_before, tail_rest, best_cons, rest_stuck}
 
 -- ---- a mask with one operation more
 

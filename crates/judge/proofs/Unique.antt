@@ -1,10 +1,10 @@
 -- The definition fixes every field of the report, for every file. Assumes nothing.
-use mathlib.Core.Path.{◌≡◌, refl, sym, ◌∙◌, ap}
-use mathlib.Core.Bool.{Bool, true, false, true≢false}
+use mathlib.Core.Path.{◌≡◌, sym, ◌∙◌, ap}
+use mathlib.Core.Bool.{Bool}
 use mathlib.Core.List.{List}
 use Prim.Native.Nat.{ℕ, zero, suc}
 use Rattle.definitions.specs.History.{Operations, history_refusal, reading_of}
-use Rattle.definitions.specs.Judgement.{padded, FirstOrder, Verdict, accepts, rejects, Refused, Decided, JudgementBy, Judgement}
+use Rattle.definitions.specs.Judgement.{padded, FirstOrder, Verdict, accepts, rejects, JudgementBy, Judgement}
 use Rattle.definitions.specs.declared.Judged.{Judged}
 use Rattle.judge.proofs.Rest.{first_both}
 

@@ -1,16 +1,15 @@
 -- The walk along the table writes the first order. Assumes nothing.
 use mathlib.Core.Path.{◌≡◌, refl, sym, ◌∙◌, ap, subst}
 use mathlib.Core.List.{List, [], ◌∷◌, ◌++◌, append_assoc, append-nil}
-use Prim.Native.Nat.{ℕ, zero, suc, ◌+◌, ◌-◌, ◌<◌, ◌≤◌, ◌^◌}
+use Prim.Native.Nat.{ℕ, suc, ◌+◌, ◌-◌, ◌<◌, ◌≤◌, ◌^◌}
 use native.Mathlib.Omega.{arith}
 use lib.ListN.{get_or, length, set, replicate, length-append}
 use lib.Seq.{set_at}
 use lib.Pow.{pow_pos}
-use Rattle.container.specs.Container.{has, insert}
+use Rattle.container.specs.Container.{insert}
 use Rattle.definitions.specs.History.{Operations}
 use Rattle.definitions.specs.Judgement.{padded}
-use Rattle.judge.specs.Search.{Rest, Best, Sound, Down, Entry, dead, alive, next_mark, Filled}
-use Rattle.judge.proofs.Tools.{clash}
+use Rattle.judge.specs.Search.{Best, Sound, Down, Entry, dead, alive, next_mark, Filled}
 use Rattle.judge.proofs.Rest.{head_undone, head_before, best_tail, best_one, to_order}
 use Rattle.judge.proofs.Lengths.{each_length}
 use Rattle.judge.proofs.Table.{insert_below, down_none, down_more}

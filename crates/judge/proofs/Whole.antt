@@ -1,9 +1,9 @@
 -- The whole file: its form, all its events, and the report. Assumes nothing.
 use mathlib.Core.Path.{◌≡◌, refl, sym, ◌∙◌, ap, subst, fun_ext}
 use mathlib.Core.Logic.{◌≢◌}
-use mathlib.Core.Bool.{Bool, true, false, not, ◌&&◌, ◌||◌, true≢false}
+use mathlib.Core.Bool.{Bool, true, false, not, ◌&&◌, true≢false}
 use mathlib.Core.List.{List, [], ◌∷◌}
-use Prim.Native.Nat.{ℕ, zero, suc, ◌+◌, ◌-◌, ◌*◌, ◌<◌, ◌≤◌, ◌^◌}
+use Prim.Native.Nat.{ℕ, zero, suc, ◌+◌, ◌-◌, ◌*◌, ◌<◌, ◌≤◌}
 use native.Mathlib.Omega.{arith}
 use native.Mathlib.Numerals.{add-one}
 use native.Mathlib.Decide.{dec_lt}
@@ -12,21 +12,19 @@ use lib.Pow.{pow_pos}
 use lib.ListN.{get_or, length, replicate, get_or-eq_default}
 use borrow.Author.Tests.{eq-eqb, ne_eqb, lt-ltb, le-ltb}
 use Rattle.container.specs.Choice.{ite}
-use Rattle.container.specs.Container.{has}
 use Rattle.container.proofs.Laws.{has_none}
 use Rattle.definitions.specs.Schedule.{count_of}
 use Rattle.definitions.specs.declared.Link.{Link}
 use Rattle.definitions.specs.declared.Link.TheVariants.{Nil, To}
-use Rattle.definitions.specs.History.{Event, Events, events_of, Operation, Operations, operations, no_operation, Reading, unread, noted, is_open, in_place, reading, all_in_place, unfinished, reading_of, form_refusal, events_refusal, history_refusal}
-use Rattle.definitions.specs.Judgement.{Order, padded, Verdict, accepts, rejects, Refused, Decided, JudgementBy, Judgement}
+use Rattle.definitions.specs.History.{Events, events_of, Operation, Operations, operations, no_operation, Reading, unread, noted, is_open, in_place, reading, all_in_place, unfinished, form_refusal, events_refusal, history_refusal}
+use Rattle.definitions.specs.Judgement.{Order, Refused, Decided, JudgementBy, Judgement}
 use Rattle.judge.specs.Search.{held, held_op, Rest, Best, Sound, Entry, dead, alive, Filled, Stations}
-use Rattle.judge.specs.Standing.{Twelve, SlotOf, SlotsOf, Proper, Stands}
+use Rattle.judge.specs.Standing.{SlotOf, SlotsOf, Proper, Stands}
 use Rattle.definitions.specs.declared.Judged.{Judged}
-use Rattle.judge.specs.declared.Work.{Work}
 use Rattle.judge.specs.declared.Slots.{Slots}
 use Rattle.judge.specs.declared.Noted.{Noted}
-use Rattle.judge.proofs.Tools.{Test, on, off, test, clash}
-use Rattle.judge.proofs.Rest.{first_order, no_order}
+use Rattle.judge.proofs.Tools.{clash}
+use Rattle.judge.proofs.Rest.{no_order}
 use Rattle.judge.proofs.Table.{down_none}
 
 -- ---- before the first event

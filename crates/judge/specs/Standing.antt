@@ -1,9 +1,9 @@
 -- How the code holds what the events so far say.
-use Rattle.std.specs.Prelude.{ℕ, zero, suc, ◌+◌, ◌<◌, ◌≤◌, ◌≡◌, Bool, true, false, ◌&&◌, List, eqb, ltb, get_or, length}
+use Rattle.std.specs.Prelude.{ℕ, ◌<◌, ◌≤◌, ◌≡◌, true, ◌&&◌, ltb, get_or, length}
 use Rattle.container.specs.Container.{has}
 use Rattle.definitions.specs.declared.Link.{Link}
 use Rattle.definitions.specs.declared.Link.TheVariants.{Nil, To}
-use Rattle.definitions.specs.History.{Event, Operation, Operations, Reading, no_operation}
+use Rattle.definitions.specs.History.{Event, Operation, Reading, no_operation}
 use Rattle.judge.specs.Search.{held_op}
 use Rattle.judge.specs.declared.Work.{Work}
 use Rattle.judge.specs.declared.Slots.{Slots}

@@ -1,5 +1,6 @@
 // Judge: whether a history of lookups, inserts and removes can be put in an order that a plain set answers alike.
 #![tactic(auto)]
+
 ghost use Rattle.std.specs.Prelude.{◌≡◌, Bool, true, false, ◌&&◌, List, ◌∷◌, ℕ, suc, ◌+◌, ◌*◌, ◌<◌, ◌≤◌, ◌^◌, eqb, ltb, length};
 ghost use Rattle.container.specs.Choice.{upd};
 ghost use Rattle.container.specs.Container.{has, insert};
