@@ -2,6 +2,7 @@
 // stack and 88 for its backup, 8 bytes (lower, upper, whether there is a store, the store, base, popped, key, begun) and 4 words (done, the
 // lengths of stack and backup, none). Nothing here reads nodes or stores: what a place reads of them is handed in.
 #![tactic(auto)]
+
 ghost use Rattle.std.specs.Prelude.{◌≡◌, ◌<◌, ◌≤◌};
 ghost use Rattle.definitions.specs.Frames.{between};
 ghost use Rattle.definitions.specs.Queries.{is_query};

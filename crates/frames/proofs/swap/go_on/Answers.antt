@@ -1,0 +1,15 @@
+-- `frames::swap::go_on` meets its contract. Assumes nothing.
+use Rattle.frames.proofs.Swaps.{swap_cases}
+use Rattle.frames.proofs.swap.go_on.Goals as goal
+
+pub returns-then-used-gt255 : goal.returns-then-used-gt255
+returns-then-used-gt255 c = search swap_cases
+
+pub returns-else-used-gt255 : goal.returns-else-used-gt255
+returns-else-used-gt255 c = search swap_cases
+
+pub returns-in-Next : goal.returns-in-Next
+returns-in-Next c = search swap_cases
+
+pub returns-in-Miss : goal.returns-in-Miss
+returns-in-Miss c = search swap_cases
