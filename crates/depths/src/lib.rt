@@ -1,5 +1,6 @@
 // The depths of the stations of each node's container, changed in place: 64 numbers a node, 16,384 in all.
 #![tactic(auto)]
+
 ghost use Rattle.std.specs.Prelude.{◌≡◌, length};
 ghost use Rattle.container.specs.Choice.{ite, upd};
 ghost use Rattle.depths.specs.Rows.{rows, changed, selected};

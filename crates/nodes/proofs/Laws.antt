@@ -18,7 +18,7 @@ use Rattle.definitions.specs.declared.Stage.TheVariants.{Completing}
 use Rattle.definitions.specs.declared.Check.{Check}
 use Rattle.definitions.specs.declared.Node.{Node}
 use Rattle.definitions.specs.declared.Shared.{Shared}
-use Rattle.definitions.specs.declared.Shared.TheVariants.{Unset, Set}
+use Rattle.definitions.specs.declared.Shared.TheVariants.{Set}
 use Rattle.definitions.specs.Nodes.{Shapes, Stores, with_kid, with_mark, with_valid, with_stage, committed, kid_of, child_for, check_stage, check_store, check_as, check}
 use Rattle.nodes.specs.Cells.{link_of, flag_of, number_of, kind_of, kind_code, stage_of, stage_code, valid_of, valid_code, table}
 use Rattle.nodes.specs.Stores.{shared_of, stores}
