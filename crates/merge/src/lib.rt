@@ -1,6 +1,7 @@
 // Merge: two schedules into one. The records that both have are written in turns into a lent buffer; what is left over comes back as
 // a part of the longer one, for the caller to append.
 #![tactic(auto)]
+
 ghost use Rattle.std.specs.Prelude.{◌≡◌, ◌+◌, ◌*◌, ◌/◌, ◌≤◌, min, eqb, length};
 ghost use Rattle.container.specs.Choice.{ite};
 ghost use Rattle.buffer.specs.Page.{page, put_all};
