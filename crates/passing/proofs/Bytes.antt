@@ -1,23 +1,22 @@
 -- A list of events written as a file and read back. Assumes nothing.
 use mathlib.Core.Path.{◌≡◌, refl, sym, ◌∙◌, ap, subst}
-use mathlib.Core.Logic.{◌≢◌}
-use mathlib.Core.Bool.{Bool, true, false, ◌&&◌}
-use mathlib.Core.List.{List, [], ◌∷◌, ◌++◌}
-use Prim.Native.Nat.{ℕ, zero, suc, ◌+◌, ◌*◌, ◌/◌, ◌%◌, ◌<◌, ◌≤◌}
+use mathlib.Core.Bool.{true, false}
+use mathlib.Core.List.{List, [], ◌∷◌}
+use Prim.Native.Nat.{ℕ, zero, suc, ◌+◌, ◌*◌, ◌<◌, ◌≤◌}
 use native.Mathlib.Omega.{arith}
-use lib.Dec.{eqb, ltb}
+use lib.Dec.{ltb}
 use lib.ListN.{get_or, length}
-use borrow.Author.Tests.{eq-eqb, ne_eqb, lt-ltb, le-ltb, ltb-true}
+use borrow.Author.Tests.{eq-eqb, ne_eqb, le-ltb, ltb-true}
 use Rattle.container.specs.Choice.{ite}
 use Rattle.definitions.specs.Schedule.{count_of}
 use Rattle.definitions.specs.declared.Link.{Link}
 use Rattle.definitions.specs.declared.Link.TheVariants.{Nil, To}
-use Rattle.definitions.specs.History.{Event, Events, events_of, Reading, unread, begun, ended_by, noted, is_open, in_place, reading, all_in_place, unfinished, reading_of, form_refusal, events_refusal, history_refusal}
+use Rattle.definitions.specs.History.{Event, Events, events_of, Reading, unread, ended_by, noted, in_place, reading, all_in_place, unfinished, reading_of, form_refusal, events_refusal, history_refusal}
 use Rattle.definitions.specs.History.{in_range}
 use Rattle.judge.proofs.Tools.{and_both}
 use Rattle.definitions.specs.Written.{start_of, starts, bytes_of, history_of}
 use Rattle.passing.proofs.Fold.{read_all}
-use Rattle.passing.proofs.Pass.{AllPlaced, noted_start}
+use Rattle.passing.proofs.Pass.{AllPlaced}
 
 -- ---- the four bytes of event k
 at : ℕ → ℕ

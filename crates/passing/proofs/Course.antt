@@ -1,29 +1,28 @@
 -- Record by record: a start, a step that goes on, a step that ends; then the induction over the list of records. Assumes nothing.
 use mathlib.Core.Path.{◌≡◌, refl, sym, ◌∙◌, ap, subst, fun_ext}
-use mathlib.Core.Logic.{◌≢◌, ◌⊎◌, inl, inr}
-use mathlib.Core.Bool.{Bool, true, false, not, ◌&&◌, true≢false}
+use mathlib.Core.Logic.{◌≢◌, inl, inr}
+use mathlib.Core.Bool.{Bool, true, false, not}
 use mathlib.Core.List.{List, [], ◌∷◌, ◌++◌}
-use Prim.Native.Nat.{ℕ, zero, suc, ◌+◌, ◌/◌, ◌%◌, ◌<◌, ◌≤◌}
+use Prim.Native.Nat.{ℕ, suc, ◌/◌, ◌%◌, ◌<◌, ◌≤◌}
 use native.Mathlib.Omega.{arith}
-use lib.Dec.{eqb, ltb}
+use lib.Dec.{eqb}
 use borrow.Author.Tests.{eq-eqb, ne_eqb, lt-ltb}
 use Rattle.container.specs.Choice.{ite, upd}
 use Rattle.definitions.specs.declared.Link.{Link}
 use Rattle.definitions.specs.declared.Link.TheVariants.{Nil, To}
 use Rattle.definitions.specs.declared.Action.{Action}
 use Rattle.definitions.specs.declared.Action.TheVariants.{Lookup, Insert, Remove, Split, Join, Query}
-use Rattle.definitions.specs.Bench.{Bench, fresh}
-use Rattle.definitions.specs.Records.{Row, no_row, row, Result, refused, carried, record_step, is_idle, action_number}
+use Rattle.definitions.specs.Bench.{Bench}
+use Rattle.definitions.specs.Records.{no_row, row, Result, refused, carried, record_step, action_number}
 use Rattle.definitions.specs.Answers.{said}
 use Rattle.definitions.specs.declared.Answer.{Answer}
 use Rattle.definitions.specs.Schedule.{Rec}
-use Rattle.definitions.specs.PlainSet.{Plain, doing, empty, settled, settled_by, finish, start, carried_out}
+use Rattle.definitions.specs.PlainSet.{Plain, doing, settled, settled_by, finish, start, carried_out}
 use Rattle.definitions.specs.Claim.{first_steps, opened, moment}
 use Rattle.definitions.specs.SetClaim.{Fits}
 use Rattle.passing.proofs.Standing.{Hist, Standing, firsts, Next, next, now_is}
-use Rattle.definitions.specs.History.{Event, Operation, Reading, begun, ended_by, noted, is_open, in_range, closes, in_place}
+use Rattle.definitions.specs.History.{Event, Reading, noted, in_place}
 use Rattle.definitions.specs.Judgement.{action_of, reply}
-use Rattle.judge.proofs.Tools.{clash}
 use Rattle.definitions.specs.Written.{finish_mark, event_of, events_by, events_from, OnlyThree, AllFinished}
 use Rattle.passing.specs.Lists.{end_by, end_from}
 use Rattle.passing.proofs.Did.{Did, did, Started, Moved, Ended}

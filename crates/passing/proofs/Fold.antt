@@ -1,16 +1,16 @@
 -- A reading goes on over a list of events: what later events leave as it is. Assumes nothing.
-use mathlib.Core.Path.{◌≡◌, refl, sym, ◌∙◌, ap, subst}
+use mathlib.Core.Path.{◌≡◌, refl, sym, ◌∙◌, ap}
 use mathlib.Core.Logic.{◌≢◌}
 use mathlib.Core.Bool.{Bool, true, false}
 use mathlib.Core.List.{List, [], ◌∷◌}
-use Prim.Native.Nat.{ℕ, zero, suc, ◌+◌, ◌<◌, ◌≤◌}
+use Prim.Native.Nat.{ℕ, ◌<◌, ◌≤◌}
 use native.Mathlib.Omega.{arith}
 use lib.Dec.{eqb}
 use borrow.Author.Tests.{eq-eqb, ne_eqb}
-use Rattle.container.specs.Choice.{ite, upd}
+use Rattle.container.specs.Choice.{ite}
 use Rattle.definitions.specs.declared.Link.{Link}
 use Rattle.definitions.specs.declared.Link.TheVariants.{Nil, To}
-use Rattle.definitions.specs.History.{Event, Operation, Operations, Reading, begun, ended_by, noted}
+use Rattle.definitions.specs.History.{Event, Operation, Reading, begun, ended_by, noted}
 use Rattle.judge.proofs.Tools.{◌==?◌, clash}
 
 abbrev pub read_all : List Event → Reading → Reading

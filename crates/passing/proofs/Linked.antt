@@ -1,21 +1,18 @@
 -- The bench's threads, the plain set's open operations and the reading's open operations are the same ones. Assumes nothing.
 use mathlib.Core.Path.{◌≡◌, refl, sym, ◌∙◌, ap, subst}
-use mathlib.Core.Logic.{◌≢◌}
 use mathlib.Core.Bool.{Bool, true, false, true≢false}
-use Prim.Native.Nat.{ℕ, zero, suc, ◌<◌, ◌≤◌}
+use Prim.Native.Nat.{ℕ, ◌<◌}
 use native.Mathlib.Omega.{arith}
 use borrow.Author.Tests.{eq-eqb, ne_eqb}
-use Rattle.container.specs.Choice.{upd}
 use Rattle.definitions.specs.declared.Link.{Link}
 use Rattle.definitions.specs.declared.Link.TheVariants.{Nil, To}
-use Rattle.definitions.specs.declared.Action.{Action}
 use Rattle.definitions.specs.Threads.{Thread}
 use Rattle.definitions.specs.Bench.{Bench, fresh}
 use Rattle.definitions.specs.Records.{is_idle, action_number}
 use Rattle.definitions.specs.PlainSet as plain
 use Rattle.definitions.specs.PlainSet.{Plain, doing, empty, finish, start}
 use Rattle.definitions.specs.History.{Event, Operation, Reading, unread, begun, ended_by}
-use Rattle.judge.proofs.Tools.{◌==?◌, clash}
+use Rattle.judge.proofs.Tools.{◌==?◌}
 use Rattle.passing.proofs.Did.{Started, Moved, Ended}
 use Rattle.passing.proofs.Tidy.{Tidy, other_op}
 

@@ -1,20 +1,18 @@
 -- The part of an order that is still to come at a moment of a run, built from the run's end back to its start. Assumes nothing.
 use mathlib.Core.Path.{◌≡◌, refl, sym, ◌∙◌, ap, subst}
-use mathlib.Core.Logic.{◌≢◌, ◌⊎◌, inl, inr, ⊎_elim}
-use mathlib.Core.Bool.{Bool, true, false, true≢false}
+use mathlib.Core.Logic.{◌≢◌}
+use mathlib.Core.Bool.{Bool, false, true≢false}
 use mathlib.Core.List.{List, [], ◌∷◌}
-use Prim.Native.Nat.{ℕ, zero, suc, ◌+◌, ◌<◌, ◌≤◌}
+use Prim.Native.Nat.{ℕ, suc, ◌<◌, ◌≤◌}
 use native.Mathlib.Omega.{arith}
-use native.Mathlib.Decide.{dec_lt}
-use lib.Dec.{eqb}
 use borrow.Author.Tests.{eq-eqb, ne_eqb}
 use Rattle.definitions.specs.declared.Link.{Link}
 use Rattle.definitions.specs.declared.Link.TheVariants.{Nil, To}
 use Rattle.definitions.specs.declared.Action.TheVariants.{Lookup}
 use Rattle.definitions.specs.PlainSet.{settled}
-use Rattle.definitions.specs.History.{Operation, Operations, Reading}
+use Rattle.definitions.specs.History.{Operations, Reading}
 use Rattle.definitions.specs.Judgement.{times, Keeps, action_of, reply, Answers}
-use Rattle.judge.proofs.Tools.{Test, on, off, test, ◌==?◌, clash}
+use Rattle.judge.proofs.Tools.{on, off, test, ◌==?◌, clash}
 use Rattle.passing.proofs.Fold.{SameAsk}
 use Rattle.passing.proofs.Tidy.{Tidy}
 
@@ -77,7 +75,7 @@ module _ (H : ℕ → ℕ → Bool) (ops : Operations) where
         ]
 
         here : (v j : ℕ) → v ≡ t → R.busy v ≡ To j → Status k T v j (f v) (i ∷ list)
-        here v j q z = let e : To j ≡ To i = sym z ∙ ap R.busy q ∙ doing in let w : j ≡ i = cc in placed (rw (w, eq-eqb i i refl, out))
+        here v j q z = let e : To j ≡ To i = sym z ∙ ap R.busy q ∙ doing in let w : j ≡ i = cc in placed (subst (λ x. times x (i ∷ list) ≡ 1) (sym w) (rw (eq-eqb i i refl, out)))
 
         lift : (v j : ℕ) → j ≢ i → Status k T v j (f v) list → Status k T v j (f v) (i ∷ list)
         lift v j q (placed a) = placed (rw (ne_eqb j i q) a)

@@ -1,36 +1,28 @@
 -- By induction over the records, from the end: each record's part of the order. Assumes nothing.
-use mathlib.Core.Path.{◌≡◌, refl, sym, ◌∙◌, ap, subst, fun_ext}
-use mathlib.Core.Logic.{◌≢◌, ◌⊎◌, inl, inr, ⊎_elim}
-use mathlib.Core.Bool.{Bool, true, false, not, ◌&&◌, true≢false}
-use mathlib.Core.List.{List, [], ◌∷◌, ◌++◌}
-use Prim.Native.Nat.{ℕ, zero, suc, ◌+◌, ◌/◌, ◌%◌, ◌<◌, ◌≤◌}
+use mathlib.Core.Path.{◌≡◌, refl, sym, ◌∙◌, ap, subst}
+use mathlib.Core.Logic.{◌≢◌}
+use mathlib.Core.Bool.{Bool, true, false, true≢false}
+use mathlib.Core.List.{List, [], ◌∷◌}
+use Prim.Native.Nat.{ℕ, suc, ◌<◌, ◌≤◌}
 use native.Mathlib.Omega.{arith}
 use native.Mathlib.Decide.{dec_lt}
-use lib.Dec.{eqb, ltb}
-use borrow.Author.Tests.{eq-eqb, ne_eqb, lt-ltb}
+use lib.Dec.{eqb}
+use borrow.Author.Tests.{eq-eqb, ne_eqb}
 use Rattle.container.specs.Choice.{ite, upd}
 use Rattle.definitions.specs.declared.Link.{Link}
 use Rattle.definitions.specs.declared.Link.TheVariants.{Nil, To}
-use Rattle.definitions.specs.declared.Action.{Action}
-use Rattle.definitions.specs.declared.Action.TheVariants.{Lookup, Insert, Remove, Split, Join}
-use Rattle.definitions.specs.Bench.{Bench, fresh}
-use Rattle.definitions.specs.Records.{Row, no_row, row, Result, refused, carried, record_step, is_idle, action_number}
-use Rattle.definitions.specs.Schedule.{Rec}
-use Rattle.definitions.specs.PlainSet as plain
-use Rattle.definitions.specs.PlainSet.{Plain, doing, empty, settled, settled_by, finish, start, carried_out}
-use Rattle.definitions.specs.Claim.{first_steps, opened, moment}
-use Rattle.definitions.specs.SetClaim.{Fits}
+use Rattle.definitions.specs.declared.Action.TheVariants.{Lookup}
+use Rattle.definitions.specs.Bench.{Bench}
+use Rattle.definitions.specs.PlainSet.{Plain, settled}
+use Rattle.definitions.specs.Claim.{opened, moment}
 use Rattle.passing.proofs.Standing.{Hist}
-use Rattle.definitions.specs.History.{Event, Operation, Operations, Reading, begun, ended_by, noted, is_open, in_range, closes, in_place}
-use Rattle.definitions.specs.Judgement.{times, Keeps, action_of, reply, Answers}
-use Rattle.judge.proofs.Tools.{Test, on, off, test, ◌==?◌, clash}
-use Rattle.definitions.specs.Written.{event_of, events_by, events_from, OnlyThree, AllFinished}
-use Rattle.passing.specs.Lists.{end_by, end_from}
-use Rattle.passing.proofs.Did.{Did, did, Started, Moved, Ended}
+use Rattle.definitions.specs.History.{Event, Operations, Reading, begun, ended_by, noted, in_place}
+use Rattle.definitions.specs.Judgement.{times, action_of, reply, Answers}
+use Rattle.judge.proofs.Tools.{◌==?◌, clash}
+use Rattle.definitions.specs.Written.{AllFinished}
 use Rattle.passing.proofs.Fold.{read_all, SameAsk, Closed, all_count, all_ask, all_closed}
-use Rattle.passing.proofs.Tidy.{Tidy, tidy_begun, tidy_ended, other_op, closed_then}
-use Rattle.passing.proofs.Linked as L
-use Rattle.passing.proofs.Linked.{Linked, Open, rested, linked_start, linked_moved, linked_ended}
+use Rattle.passing.proofs.Tidy.{Tidy, closed_then}
+use Rattle.passing.proofs.Linked.{Linked, rested}
 use Rattle.passing.proofs.Part.{Status, placed, now, past, Part, part_end, prepend, settle_all, status_back}
 
 abbrev pub AllPlaced : List Event → Reading → Type 0

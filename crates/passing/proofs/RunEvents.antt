@@ -1,11 +1,11 @@
 -- The events of a file's records, one record after another. Assumes nothing.
 use mathlib.Core.Path.{◌≡◌, refl, sym, ◌∙◌, ap}
-use mathlib.Core.List.{List, [], ◌∷◌, ◌++◌, append_assoc, append-nil}
-use Prim.Native.Nat.{ℕ, zero, suc, ◌/◌, ◌%◌}
+use mathlib.Core.List.{List, [], ◌∷◌, ◌++◌, append_assoc}
+use Prim.Native.Nat.{ℕ, suc, ◌/◌, ◌%◌}
 use lib.Dec.{eqb}
 use borrow.Author.Tests.{eq-eqb, ne_eqb}
 use Rattle.container.specs.Choice.{ite}
-use Rattle.definitions.specs.Bench.{Bench, fresh}
+use Rattle.definitions.specs.Bench.{fresh}
 use Rattle.definitions.specs.Records.{Result, refused, carried, record_step}
 use Rattle.definitions.specs.Schedule.{stop_of, Rec, record_at, records_of}
 use Rattle.definitions.specs.Run.{Progress, begin, advance_by, advance, after}

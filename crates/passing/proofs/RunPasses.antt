@@ -1,12 +1,11 @@
 -- A version 1 run that has only lookups, inserts and removes, at most 12, all finished, is accepted by Judge (02, j), from the answers
 -- rule over the plain set. Assumes nothing.
-use mathlib.Core.Path.{◌≡◌, refl, sym, ◌∙◌, ap, subst, fun_ext}
+use mathlib.Core.Path.{◌≡◌, sym, ◌∙◌, subst, fun_ext}
 use mathlib.Core.Bool.{Bool, true, false}
-use mathlib.Core.List.{List, [], ◌∷◌}
-use Prim.Native.Nat.{ℕ, zero, suc, ◌+◌, ◌*◌, ◌≤◌, ◌<◌}
+use mathlib.Core.List.{List}
+use Prim.Native.Nat.{ℕ, ◌+◌, ◌*◌, ◌≤◌, ◌<◌}
 use native.Mathlib.Omega.{arith}
 use native.Mathlib.Decide.{dec_lt}
-use lib.Dec.{ltb}
 use lib.ListN.{get_or, length}
 use borrow.Author.Tests.{lt-ltb, le-ltb}
 use Rattle.definitions.specs.declared.Link.TheVariants.{Nil}
@@ -16,11 +15,10 @@ use Rattle.definitions.specs.Schedule.{Rec, stop_of, records_of, count_of}
 use Rattle.definitions.specs.SetClaim.{moments}
 use Rattle.answers.proofs.SetRule.{set_rule}
 use Rattle.passing.proofs.Standing.{at_start, now_is}
-use Rattle.definitions.specs.History.{Event, Reading, unread, reading_of, history_refusal}
-use Rattle.definitions.specs.Judgement.{times, once, Each, Answers, Order, Verdict, accepts, rejects, Decided, JudgementBy, Judgement}
+use Rattle.definitions.specs.History.{Event, unread, reading_of, history_refusal}
+use Rattle.definitions.specs.Judgement.{Answers, Order, Verdict, accepts, rejects, Decided, JudgementBy, Judgement}
 use Rattle.definitions.specs.declared.Judged.{Judged}
-use Rattle.definitions.specs.Run.{ended}
-use Rattle.definitions.specs.Written.{events_from, OnlyThree, starts, AllFinished, run_events, history_of, written, rows_of, Passes, RunsPass}
+use Rattle.definitions.specs.Written.{events_from, AllFinished, run_events, history_of, written, RunsPass}
 use Rattle.passing.specs.Lists.{Eligible, Enough}
 use Rattle.passing.proofs.RunRows.{records_length, run_rows, run_bench, events_few}
 use Rattle.passing.proofs.Fold.{read_all}

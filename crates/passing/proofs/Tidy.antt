@@ -1,15 +1,14 @@
 -- What a reading of events in place has, beyond what the code's proof needs: open operations are apart and not finished. Assumes nothing.
 use mathlib.Core.Path.{◌≡◌, refl, sym, ◌∙◌, ap}
 use mathlib.Core.Logic.{◌≢◌, ◌⊎◌, inl, inr, ⊎_elim}
-use mathlib.Core.Bool.{Bool, true, false, true≢false}
-use Prim.Native.Nat.{ℕ, zero, suc, ◌<◌, ◌≤◌}
+use mathlib.Core.Bool.{true, false, true≢false}
+use Prim.Native.Nat.{ℕ, ◌<◌}
 use native.Mathlib.Omega.{arith}
 use borrow.Author.Tests.{eq-eqb, ne_eqb}
 use Rattle.container.specs.Choice.{upd}
-use Rattle.definitions.specs.declared.Link.{Link}
 use Rattle.definitions.specs.declared.Link.TheVariants.{Nil, To}
 use Rattle.definitions.specs.History.{Event, Reading, unread, begun, ended_by}
-use Rattle.judge.proofs.Tools.{Test, on, off, test, ◌==?◌, clash}
+use Rattle.judge.proofs.Tools.{on, off, test, ◌==?◌, clash}
 
 pub record Tidy (R : Reading) : Type 0 where
   pub low : (t i : ℕ) → R.busy t ≡ To i → i < R.all.count

@@ -1,5 +1,5 @@
 -- Words for runs over a list of records: where one ends, which ones must pass, and the room that a run's history needs.
-use Rattle.std.specs.Prelude.{ℕ, zero, suc, ◌+◌, ◌≤◌, ◌≡◌, Bool, List, [], ◌∷◌, length}
+use Rattle.std.specs.Prelude.{ℕ, ◌≤◌, ◌≡◌, Bool, List, [], ◌∷◌, length}
 use Rattle.definitions.specs.Bench.{Bench, fresh}
 use Rattle.definitions.specs.Records.{Result, refused, carried, record_step}
 use Rattle.definitions.specs.Schedule.{Rec, count_of}

@@ -1,6 +1,7 @@
 // The proof that Judge accepts the bench's own runs (proofs/RunPasses.antt), what each record does to its thread (proofs/Did.antt), and
 // the room that a run's history needs.
 #![tactic(auto)]
+
 ghost use Rattle.std.specs.Prelude.{◌≡◌, ◌+◌, ◌*◌, ◌≤◌};
 ghost use Rattle.passing.specs.Lists.{Enough};
 
