@@ -3,7 +3,7 @@
 -- It rests on the invariant (laws/proofs/Kept.antt), on what a thread notes of the stop (answers/proofs/Counted.antt) and on StepEffects.antt.
 use mathlib.Core.Path.{◌≡◌, refl, sym, ◌∙◌, subst}
 use mathlib.Core.Logic.{◌≢◌}
-use mathlib.Core.Bool.{Bool, true, false, true≢false}
+use mathlib.Core.Bool.{Bool, true, false, not, true≢false}
 use mathlib.Core.List.{List, [], ◌∷◌}
 use Prim.Native.Nat.{ℕ, zero, suc, ◌+◌, ◌/◌, ◌%◌, ◌<◌, ◌≤◌}
 use native.Mathlib.Omega.{arith}
@@ -12,7 +12,7 @@ use borrow.Author.Tests.{eq-eqb, ne_eqb, ltb-true, ltb-false, eqb-true, eqb-fals
 use Rattle.container.specs.Choice.{ite, upd}
 use Rattle.definitions.specs.declared.Kind.TheVariants.{Route}
 use Rattle.definitions.specs.declared.Action.{Action}
-use Rattle.definitions.specs.declared.Action.TheVariants.{Lookup, Insert, Remove, Split, Join, Query}
+use Rattle.definitions.specs.declared.Action.TheVariants.{Lookup, Insert, Remove, Split, Join}
 use Rattle.definitions.specs.declared.Answer.{Answer}
 use Rattle.definitions.specs.declared.Effect.{Effect}
 use Rattle.definitions.specs.declared.Effect.TheVariants.{Quiet, Raise}
@@ -21,6 +21,7 @@ use Rattle.definitions.specs.Bench.{Store, Bench, bench, fresh, sight_of}
 use Rattle.definitions.specs.Threads.{Thread, begun, idle, Turn, Moves, Finishes, Finds, Full, NoStore}
 use Rattle.definitions.specs.Places.{Place, p2, p4, place_of, reading}
 use Rattle.definitions.specs.Effects.{perform}
+use Rattle.definitions.specs.Answers.{said, shown, depth_in}
 use Rattle.definitions.specs.Steps.{at_leaf, reached, onward, one_more, followed, released, step}
 use Rattle.definitions.specs.Records.{Row, no_row, row, Result, refused, carried, taken, is_idle, stepped, started, asked, acted, record_step}
 use Rattle.definitions.specs.Schedule.{Rec, record_at, stop_of}
@@ -289,8 +290,8 @@ module _ (top : ℕ) (mark : Nodes → ℕ → ℕ) (local : Local mark) (Also :
     turn_held : (o : Turn) → Same (b.threads u) o → Each (Alike b.store) o → ((k : ℕ) → c u ≡ made k → Goes on b.store k o) → HeldBy on 0 u c (taken b u o)
     unfolding taken
     turn_held (Moves th' e) m a w = onto e th' _ a (further (perform e b.store) th' (c u) (λ j i. (m.0 ∙ (held u j i).act, w j i)))
-    turn_held (Finishes e r) m a w = onto e idle _ a (λ k i. absurd (over _ _ _ (c u) k i))
-    turn_held (Finds x) m a w = onto Quiet idle _ (λ _ _. refl) (λ k i. absurd (over _ _ _ (c u) k i))
+    turn_held (Finishes e r) m a w = onto e idle _ a (λ k i. absurd (over (shown r) (depth_in r b.store.nodes (b.threads u).station) 0 (c u) k i))
+    turn_held (Finds x) m a w = onto Quiet idle _ (λ _ _. refl) (λ k i. absurd (over (said (not (eqb x 0))) 0 x (c u) k i))
     turn_held Full m a w = tt
     turn_held NoStore m a w = tt
 

@@ -10,7 +10,7 @@ use lib.Dec.{eqb}
 use borrow.Author.Tests.{eq-eqb, ne_eqb}
 use Rattle.container.specs.Choice.{upd}
 use Rattle.container.specs.Container.{has, size, lower_half, upper_half, split_key}
-use Rattle.container.specs.Depths.{Container, container, put, take_out, merge, lower, upper}
+use Rattle.container.specs.Depths.{Container, put, take_out, merge, lower, upper}
 use Rattle.container.proofs.Laws.{has_union, insert_other, remove_other, lower_in, lower_out, upper_in, upper_out, split_key_lem, has_none}
 use Rattle.definitions.specs.declared.Link.{Link}
 use Rattle.definitions.specs.declared.Link.TheVariants.{To}

@@ -2,16 +2,16 @@
 use Prim.Native.Nat.{ℕ, zero, suc, ◌/◌, ◌<◌, ◌≤◌}
 use mathlib.Core.Path.{◌≡◌, refl, sym, ◌∙◌, ap}
 use mathlib.Core.Logic.{◌≢◌}
-use mathlib.Core.Bool.{Bool, true, false}
+use mathlib.Core.Bool.{true, false}
 use mathlib.Core.List.{List}
 use native.Mathlib.Omega.{arith}
-use lib.Dec.{eqb, ltb}
+use lib.Dec.{ltb}
 use borrow.Author.Tests.{eq-eqb, ne_eqb, ltb-true, ltb-false}
 use Rattle.container.specs.Choice.{ite}
 use Rattle.definitions.specs.Bench.{Bench}
 use Rattle.definitions.specs.Records.{refused}
 use Rattle.definitions.specs.Schedule.{Rec, record_at}
-use Rattle.definitions.specs.Run.{Progress, begin, advance_by, advance, after}
+use Rattle.definitions.specs.Run.{Progress, advance_by, advance, after}
 use Rattle.definitions.specs.Profile.{barred, profile_step, profile_advance, profile_after}
 use Rattle.answers.proofs.Tools.{on, off, test, ◌==?◌}
 use Rattle.profile.specs.Cut.{stopped_run, Cut, cut_run}

@@ -19,7 +19,7 @@ use Rattle.definitions.specs.declared.Spot.TheVariants.{Root, Under}
 use Rattle.definitions.specs.declared.Probe.{Probe}
 use Rattle.definitions.specs.Threads.{Thread, Turn}
 use Rattle.definitions.specs.Nodes.{Nodes, new_base, child_for, with_mark, committed, is_route, is_preparing, Entry, shape, over}
-use Rattle.definitions.specs.Bench.{sight_of, Store, store, Bench}
+use Rattle.definitions.specs.Bench.{sight_of, Store, Bench}
 use Rattle.definitions.specs.Places.{p25, p30, p31, p32, p33, p34, p35, p40, swap, found, at}
 use Rattle.definitions.specs.Effects.{push, hang, write}
 use Rattle.definitions.specs.Steps.{found_by, is_nil, step}
@@ -28,7 +28,7 @@ use Rattle.answers.proofs.Memory.{kid_at, World, Hist, Live, Born, lives, key_of
 use Rattle.answers.proofs.Facts.{goal}
 use Rattle.answers.proofs.Invariant.{Inv, Stands}
 use Rattle.answers.proofs.Shown.{kind_route}
-use Rattle.answers.proofs.ReadPlaces.{here, know_now}
+use Rattle.answers.proofs.ReadPlaces.{know_now}
 use Rattle.answers.proofs.PlaceNumbers.{place_number}
 use Rattle.answers.proofs.Descent.{reached_live}
 use Rattle.answers.specs.Reachable.{top}

@@ -13,7 +13,6 @@ use Rattle.definitions.specs.declared.Link.{Link}
 use Rattle.definitions.specs.declared.Link.TheVariants.{Nil}
 use Rattle.definitions.specs.declared.Action.{Action}
 use Rattle.definitions.specs.declared.Action.TheVariants.{Lookup, Insert, Remove, Split, Join, Query}
-use Rattle.definitions.specs.declared.Spot.{Spot}
 use Rattle.definitions.specs.declared.Spot.TheVariants.{Root, Under}
 use Rattle.definitions.specs.declared.Effect.{Effect}
 use Rattle.definitions.specs.declared.Effect.TheVariants.{Quiet, Mark, Settle, Invalid, Swing, Raise, Lower, Base, Fork, Commit, Ask, Fill}
@@ -21,7 +20,7 @@ use Rattle.definitions.specs.Threads.{Thread, begun, Turn, Moves, Finishes, Find
 use Rattle.definitions.specs.Nodes.{child_for, shape}
 use Rattle.definitions.specs.Bench.{sight_of, Store, Bench, bench, fresh}
 use Rattle.definitions.specs.Places.{Place, place_of, reading}
-use Rattle.definitions.specs.Effects.{hang, perform}
+use Rattle.definitions.specs.Effects.{perform}
 use Rattle.definitions.specs.Steps.{at_leaf, reached, one_more, followed, step}
 use Rattle.definitions.specs.Answers.{shown}
 use Rattle.definitions.specs.Records.{row, Result, refused, carried, taken, is_idle, stepped, started, acted, record_step}
