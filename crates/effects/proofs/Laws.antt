@@ -11,7 +11,7 @@ use Rattle.container.specs.Depths.{container, put, take_out, merge, lower, upper
 use Rattle.depths.specs.Rows.{Rows, changed, selected, full}
 use Rattle.definitions.specs.Nodes.{Shapes, Stores, entry, over, new_base, new_route, new_range, with_kid, with_mark, with_valid, with_stage, committed}
 use Rattle.definitions.specs.Bench.{store}
-use Rattle.definitions.specs.Effects.{hang, content_of, forked, perform}
+use Rattle.definitions.specs.Effects.{hang, content_of, forked}
 use Rattle.effects.specs.Writes.{effect_of}
 use Rattle.effects.specs.Used.{used_after, base_shape, range_shape, set_of, fork_shapes, Hung, depths_of, deepened, Applied}
 use Rattle.effects.specs.declared.Write.{Write}

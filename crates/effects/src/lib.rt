@@ -1,6 +1,7 @@
 // What a step writes, carried out in place: `apply` on the nodes, `deepen` on the depths of the nodes' containers. What a range query
 // writes is apart, in functions of its own, so that the other steps do not pay for it.
 #![tactic(auto)]
+
 ghost use Rattle.std.specs.Prelude.{◌≡◌, cond, ◌+◌, length};
 ghost use Rattle.container.specs.Choice.{upd};
 ghost use Rattle.nodes.specs.Cells.{table};

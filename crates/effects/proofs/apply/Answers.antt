@@ -1,0 +1,27 @@
+-- `effects::apply` meets its contract. Assumes nothing.
+use Rattle.effects.proofs.Laws.{apply_cases, apply_fork, apply_commit}
+use Rattle.effects.proofs.apply.Goals as goal
+
+pub returns-in-Quiet : goal.returns-in-Quiet
+returns-in-Quiet c = search apply_cases
+
+pub returns-in-Mark : goal.returns-in-Mark
+returns-in-Mark c = search apply_cases
+
+pub returns-in-Settle : goal.returns-in-Settle
+returns-in-Settle c = search apply_cases
+
+pub returns-in-Invalid : goal.returns-in-Invalid
+returns-in-Invalid c = search apply_cases
+
+pub returns-in-Swing : goal.returns-in-Swing
+returns-in-Swing c = search apply_cases
+
+pub returns-in-Base : goal.returns-in-Base
+returns-in-Base c = search apply_cases
+
+pub returns-in-Fork : goal.returns-in-Fork
+returns-in-Fork c = λ k j. apply_fork _ _ _ k j _ _ _ _ _ _ c.in-Fork.is c.node_at-n.ensures c.put_fork.ensures c.hang_at-in-Fork.ensures
+
+pub returns-in-Commit : goal.returns-in-Commit
+returns-in-Commit c = λ k j. apply_commit _ _ _ k j _ _ _ _ _ _ c.in-Commit.is c.node_at-m.ensures c.node_at-n-in-Commit.ensures c.united-c.ensures c.put_base-in-Commit.ensures c.commit.ensures
