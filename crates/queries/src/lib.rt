@@ -1,6 +1,7 @@
 // Places 60 to 82 of range queries (docs/RANGE.md): one step of a thread that stands there, decided and, as far as its frames go, carried out
 // where they lie. It reads the nodes and the stores, and writes neither: what it writes there is in its outcome.
 #![tactic(auto)]
+
 ghost use Rattle.std.specs.Prelude.{◌≡◌, ◌≤◌, ◌<◌};
 ghost use Rattle.definitions.specs.Places.{place_of};
 ghost use Rattle.definitions.specs.Steps.{step};
