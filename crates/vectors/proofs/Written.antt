@@ -2,8 +2,8 @@
 use Prim.Native.Nat.{ℕ, ◌+◌, ◌-◌, ◌*◌}
 use Prim.Native.Char.{code}
 use Prim.Native.String.{String, [] as over, ◌∷◌ as ◌then◌}
-use mathlib.Core.List.{List, [], ◌∷◌, ◌++◌}
-use mathlib.Core.Bool.{Bool, true, false, cond}
+use mathlib.Core.List.{List, [], ◌∷◌}
+use mathlib.Core.Bool.{cond}
 use lib.Dec.{ltb, eqb}
 
 -- the value of a hexadecimal digit, 0 to 9 or a to f

@@ -1,5 +1,6 @@
 // The vectors of tests/vectors, computed from the definitions (proofs/).
 #![tactic(auto)]
+
 ghost use Rattle.std.specs.Prelude.{◌≡◌};
 
 // How many there are.
