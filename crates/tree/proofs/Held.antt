@@ -1,15 +1,15 @@
 -- What the walks say of the tree of the definitions: the set and the stored count are its, and the depth of a station in the set is the
 -- one where it leads to. Assumes nothing.
-use mathlib.Core.Path.{◌≡◌, refl, sym, ap, ap₂, ◌∙◌}
+use mathlib.Core.Path.{◌≡◌, refl, sym, ap₂, ◌∙◌}
 use mathlib.Core.Bool.{Bool, true, false, ◌||◌, ◌&&◌, true≢false}
-use Prim.Native.Nat.{ℕ, zero, suc, ◌+◌, ◌<◌, ◌≤◌}
+use Prim.Native.Nat.{ℕ, zero, suc, ◌+◌, ◌≤◌}
 use native.Mathlib.Omega.{arith}
 use native.Mathlib.Decide.{dec_lt}
 use lib.Dec.{ltb}
 use borrow.Author.Tests.{lt-ltb, le-ltb}
 use Rattle.container.specs.Choice.{ite}
 use Rattle.container.specs.Container.{has, union, cut, below, from, size}
-use Rattle.container.specs.Depths.{Container, merge, within}
+use Rattle.container.specs.Depths.{merge, within}
 use Rattle.container.proofs.Digits.{on, off, test}
 use Rattle.container.proofs.Laws.{has_union, has_cut, below_in, below_out, from_in, from_out}
 use Rattle.definitions.specs.Nodes.{Nodes, shape, is_route}

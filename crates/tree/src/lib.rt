@@ -1,5 +1,6 @@
 // The tree's set and the stored count, by a walk down with levels left; and the depth of a station in it.
 #![tactic(auto)]
+
 ghost use Rattle.std.specs.Prelude.{◌≡◌};
 ghost use Rattle.nodes.specs.Cells.{table};
 ghost use Rattle.depths.specs.Rows.{rows, full};
