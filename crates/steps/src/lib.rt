@@ -1,5 +1,6 @@
 // The places: what one step of a thread decides. It reads the nodes and writes nothing; its effect is carried out by crate effects.
 #![tactic(auto)]
+
 ghost use Rattle.std.specs.Prelude.{◌<◌, ◌≤◌};
 ghost use Rattle.nodes.specs.Cells.{table};
 ghost use Rattle.nodes.specs.Stores.{stores};
