@@ -1,6 +1,7 @@
 // History: the run of a version 1 schedule written as a history, into a lent buffer. Run is asked for its rows; where in turn order a row stands
 // is read off the schedule: an operation's last step is its thread's last before the next start.
 #![tactic(auto)]
+
 ghost use Rattle.std.specs.Prelude.{◌≡◌, List, [], ◌∷◌, ℕ, ◌+◌, ◌-◌, ◌*◌, ◌/◌, ◌%◌, ◌<◌, ◌≤◌, length, get_or};
 ghost use Rattle.schedule.specs.Proper.{Plain};
 ghost use Rattle.buffer.specs.Page.{page, put_all};
