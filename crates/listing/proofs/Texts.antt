@@ -1,7 +1,7 @@
 -- What List's text depends on: the version of the file, and of a container its stations and, from version 2 on, their depths. Assumes nothing.
-use mathlib.Core.Path.{◌≡◌, refl, sym, ap, ap₂, ◌∙◌}
-use mathlib.Core.Bool.{true, false, true≢false}
-use mathlib.Core.List.{List, [], ◌∷◌, ◌++◌}
+use mathlib.Core.Path.{◌≡◌, refl, sym, ap₂, ◌∙◌}
+use mathlib.Core.Bool.{true, true≢false}
+use mathlib.Core.List.{List, ◌++◌}
 use Prim.Native.Nat.{ℕ, zero, suc}
 use borrow.Author.Tests.{eq-eqb, eqb-true}
 use lib.Dec.{eqb}
@@ -9,12 +9,12 @@ use Rattle.container.specs.Choice.{ite}
 use Rattle.container.specs.Container.{has, all}
 use Rattle.container.specs.Depths.{Container}
 use Rattle.container.proofs.Digits.{on, off, test}
-use Rattle.definitions.specs.Nodes.{Nodes, Shapes, is_route, shape}
+use Rattle.definitions.specs.Nodes.{Nodes, Shapes}
 use Rattle.definitions.specs.Bench.{Bench}
 use Rattle.definitions.specs.Tree.{held_below, tree_held}
 use Rattle.definitions.specs.Schedule.{version}
-use Rattle.definitions.specs.Listing.{station_text, stations_to, stations_text, route_line, base_line, subtree_text, set_line, listing}
-use Rattle.tree.specs.Below.{set_below, depth_under}
+use Rattle.definitions.specs.Listing.{stations_to, stations_text, route_line, base_line, subtree_text, set_line, listing}
+use Rattle.tree.specs.Below.{set_below}
 use Rattle.tree.proofs.Held.{held_set, held_depth}
 use Rattle.depths.specs.Rows.{Rows, full}
 use Rattle.listing.specs.Texts.{headed, shown}

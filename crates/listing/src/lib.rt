@@ -1,5 +1,6 @@
 // The listing: a line for each node, by two walks that call each other, then the set. From version 2 on a station is shown with its depth.
 #![tactic(auto)]
+
 ghost use Rattle.std.specs.Prelude.{◌≡◌, [], ◌∷◌, ◌++◌, ◌-◌, ◌<◌, ◌≤◌};
 ghost use Rattle.container.specs.Container.{all};
 ghost use Rattle.nodes.specs.Cells.{table};
