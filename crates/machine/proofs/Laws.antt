@@ -2,14 +2,14 @@
 use mathlib.Core.Path.{◌≡◌, refl, sym, ap, ◌∙◌}
 use mathlib.Core.Bool.{Bool, true, false}
 use Prim.Native.Nat.{ℕ, zero, suc, ◌/◌, ◌%◌, ◌<◌, ◌≤◌}
-use mathlib.Core.List.{List, [], ◌∷◌}
+use mathlib.Core.List.{List, []}
 use lib.ListN.{length}
-use lib.Dec.{eqb, ltb}
+use lib.Dec.{eqb}
 use borrow.Author.Tests.{eq-eqb, ne_eqb, lt-ltb, le-ltb}
 use Rattle.container.specs.Choice.{ite}
-use Rattle.definitions.specs.Nodes.{Shapes, Stores}
-use Rattle.definitions.specs.Threads.{Frame, Thread, new_frame, begun, asking}
-use Rattle.definitions.specs.Places.{to_frames, to_grandparent}
+use Rattle.definitions.specs.Nodes.{Shapes}
+use Rattle.definitions.specs.Threads.{Thread, begun}
+use Rattle.definitions.specs.Places.{to_grandparent}
 use Rattle.definitions.specs.Records.{depth_refusal}
 use Rattle.definitions.specs.declared.Action.{Action}
 use Rattle.definitions.specs.declared.Action.TheVariants.{Join, Query}

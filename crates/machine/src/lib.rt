@@ -1,5 +1,6 @@
 // One record of a schedule: what it asks of its thread, a start, and a step that has been decided.
 #![tactic(auto)]
+
 ghost use Rattle.std.specs.Prelude.{◌≡◌, []};
 ghost use Rattle.nodes.specs.Cells.{table};
 ghost use Rattle.depths.specs.Rows.{rows};
