@@ -16,7 +16,7 @@ use Rattle.buffer.specs.Page.{Page, put, put_all}
 use Rattle.buffer.proofs.Laws.{joined, ended}
 use Rattle.snapshot.specs.Layout.{zeros, flag, noted, has_route, has_base, has_parent, has_side, has_found, has_neighbour, has_main, has_grandparent, has_other, thread_head}
 use Rattle.snapshot.specs.Parts.{number_of, read_of, side_of, own_of, operation, flags, early, late}
-use Rattle.snapshot.proofs.Pages.{begun, three, four, four_then}
+use Rattle.snapshot.proofs.Pages.{begun, four, four_then}
 
 -- ---- numbers
 

@@ -10,7 +10,7 @@ use borrow.Author.Tests.{ne_eqb}
 use lib.Dec.{eqb}
 use Rattle.container.specs.Choice.{ite}
 use Rattle.container.specs.Container.{has, from, least}
-use Rattle.container.specs.Depths.{Container, container, blank, find, depth_of}
+use Rattle.container.specs.Depths.{container, blank, find}
 use Rattle.container.proofs.Laws.{from_in, from_out, least_le, least_has, least_none}
 use Rattle.container.proofs.DepthLaws.{find_none}
 use Rattle.buffer.specs.Page.{Page, put, put_all}
