@@ -48,7 +48,7 @@ module _ {file : List ℕ} {k x y e : ℕ} {n : Shapes} {l : List ℕ} {s : Stor
       let w : wants q ≡ 2 = wants_query q z in
       let low : e % 256 ≡ e = omega (arith, query_ends (last_action file) x y e (seen threads x end).place w) in
       let one : frames_of h' (x / 16 % 4) 1 ≡ new_frame y e Nil ∷ [] = rw low at o.frames in
-      carried_on q (set counts (x / 16 % 4) 1) (thread v (frames_of h' (x / 16 % 4) 1)) no_row (table_with q v 1 o.others) (count_kept q counts 1)
+      carried_on q (set counts (x / 16 % 4) 1) (thread v (frames_of h' (x / 16 % 4) 1)) no_row (table_with q h' v 1 o.others) (count_kept q counts 1)
       (asked_on q w ∙ rw (one, query_begun (last_action file) x y e (seen threads x end).place w f)) q.stands.depths (omega arith) refl
 
   -- a step at 1, 2, 4 or 5 is none of a query
@@ -85,7 +85,7 @@ module _ {file : List ℕ} {k x y e : ℕ} {n : Shapes} {l : List ℕ} {s : Stor
         (stand r.root r.used r.shown 0 (k + 1) finished at) first buffer (after file (k + 1))
     unfolding put_all
     left_on u {v} m o f = rw set-set
-        (carried_on q (set counts (x / 16 % 4) r.frames) (thread v (frames_of h' (x / 16 % 4) r.frames)) no_row (table_with q v r.frames g.others)
+        (carried_on q (set counts (x / 16 % 4) r.frames) (thread v (frames_of h' (x / 16 % 4) r.frames)) no_row (table_with q h' v r.frames g.others)
         (count_kept q counts r.frames) (left_by o ∙ rw (f (frames_of h' (x / 16 % 4) r.frames))) (deep_on m) (omega arith) refl)
 
     -- it has found a set
@@ -93,7 +93,7 @@ module _ {file : List ℕ} {k x y e : ℕ} {n : Shapes} {l : List ℕ} {s : Stor
         → m ≡ version file → page buffer' at' ≡ put_all (page buffer at) (found_row m (x / 16 % 4) (seen threads x end) r.set)
         → Stands n' l' s' (stop (stop_of file) (get_or (set counts (x / 16 % 4) 0) 4 0)) (threads_of (set threads (x / 16 % 4) v) (set counts (x / 16 % 4) 0) h')
         (stand r.root r.used r.shown 0 (k + 1) finished' at') first buffer' (after file (k + 1))
-    left_found {v} m i o f j vs ro = carried_on q (set counts (x / 16 % 4) 0) (thread v []) (row (said (not (eqb r.set 0))) 0 r.set) (table_with q v 0 g.others)
+    left_found {v} m i o f j vs ro = carried_on q (set counts (x / 16 % 4) 0) (thread v []) (row (said (not (eqb r.set 0))) 0 r.set) (table_with q h' v 0 g.others)
         (count_kept q counts 0) (left_by o ∙ rw f) (deep_on i) j
         (ro ∙ ap (put_all (page buffer at)) (found_as file m (x / 16 % 4) (seen threads x end) (own_frames q) r.set vs))
 

@@ -222,13 +222,13 @@ module _ {file : List ℕ} {k x y e : ℕ} {n : Shapes} {l : List ℕ} {s : Stor
   queries z = query_action (last_action file) x y e (seen threads x end).place (wants_query z)
 
   -- the table with the notes v for its thread, and c frames, or as many as before
-  pub table_with : {h' : ℕ → Frame} (v : Notes) (c : ℕ) → ((u j : ℕ) → j ≤ 4 → (u ≡ x / 16 % 4 → ⊥) → frames_of h' u j ≡ frames_of h u j)
+  pub table_with : (h' : ℕ → Frame) (v : Notes) (c : ℕ) → ((u j : ℕ) → j ≤ 4 → (u ≡ x / 16 % 4 → ⊥) → frames_of h' u j ≡ frames_of h u j)
       → threads_of (set threads (x / 16 % 4) v) (set counts (x / 16 % 4) c) h' ≡ upd (threads_of threads counts h) (x / 16 % 4) (thread v (frames_of h' (x / 16 % 4) c))
-  table_with {h'} v c o = put threads counts h h' (x / 16 % 4) v (omega (arith, q.four)) (omega arith) each_few o c (omega (arith, q.each))
+  table_with h' v c o = put threads counts h h' (x / 16 % 4) v (omega (arith, q.four)) (omega arith) each_few o c (omega (arith, q.each))
 
-  pub table_noted : {h' : ℕ → Frame} (v : Notes) → ((u j : ℕ) → j ≤ 4 → (u ≡ x / 16 % 4 → ⊥) → frames_of h' u j ≡ frames_of h u j)
+  pub table_noted : (h' : ℕ → Frame) (v : Notes) → ((u j : ℕ) → j ≤ 4 → (u ≡ x / 16 % 4 → ⊥) → frames_of h' u j ≡ frames_of h u j)
       → threads_of (set threads (x / 16 % 4) v) counts h' ≡ upd (threads_of threads counts h) (x / 16 % 4) (thread v (frames_of h' (x / 16 % 4) (get_or counts (x / 16 % 4) 0)))
-  table_noted {h'} v o = put_notes_lem threads counts h h' (x / 16 % 4) v (omega (arith, q.four)) (omega arith) each_few o
+  table_noted h' v o = put_notes_lem threads counts h h' (x / 16 % 4) v (omega (arith, q.four)) (omega arith) each_few o
 
   -- a start that is no query's
   pub start_on : {v : Notes} → a ≡ 1 → thread v [] ≡ starting (x % 16) y e
@@ -237,7 +237,7 @@ module _ {file : List ℕ} {k x y e : ℕ} {n : Shapes} {l : List ℕ} {s : Stor
   unfolding put_all
   start_on {v} z f =
       let begins : thread v [] ≡ begun (action_of (x % 16)) y e 1 = f ∙ start_begun (last_action file) x y e (seen threads x end).place (wants_start z) in
-      carried_on (set counts (x / 16 % 4) 0) (thread v []) no_row (table_with v 0 (λ _ _ _ _. refl)) (count_kept counts 0) (asked_on (wants_start z) ∙ rw begins) q.stands.depths (omega arith) refl
+      carried_on (set counts (x / 16 % 4) 0) (thread v []) no_row (table_with h v 0 (λ _ _ _ _. refl)) (count_kept counts 0) (asked_on (wants_start z) ∙ rw begins) q.stands.depths (omega arith) refl
 
   -- a refusal
   refused_by_lem : (m : ℕ) → 2 < m → (b : Bench) (t c : ℕ) → answered m b t c y e ≡ refused m
@@ -298,14 +298,14 @@ module _ {file : List ℕ} {k x y e : ℕ} {n : Shapes} {l : List ℕ} {s : Stor
           ∙ count_stored (seen threads x end).place effect (full n q.stands.deep) root used s shown (stop_of file) (get_or counts 4 0) _ (λ m. i.quiet m o) refl)
 
       -- the table with the notes v for its thread, and m frames, or as many as before
-      again_with : {h' : ℕ → Frame} (v : Notes) (m : ℕ) → ((u j : ℕ) → j ≤ 4 → (u ≡ x / 16 % 4 → ⊥) → frames_of h' u j ≡ frames_of h u j)
+      again_with : (h' : ℕ → Frame) (v : Notes) (m : ℕ) → ((u j : ℕ) → j ≤ 4 → (u ≡ x / 16 % 4 → ⊥) → frames_of h' u j ≡ frames_of h u j)
           → threads_of (set threads' (x / 16 % 4) v) (set counts' (x / 16 % 4) m) h' ≡ upd (threads_of threads counts h) (x / 16 % 4) (thread v (frames_of h' (x / 16 % 4) m))
-      again_with {h'} v m o = ap (λ (t : List Notes). threads_of t (set counts' (x / 16 % 4) m) h') (b.puts v)
-          ∙ (same_counts (set threads (x / 16 % 4) v) (set counts (x / 16 % 4) m) (set counts' (x / 16 % 4) m) h' (recount_set c (x / 16 % 4) m (omega (arith, q.each))) ∙ table_with v m o)
+      again_with h' v m o = ap (λ (t : List Notes). threads_of t (set counts' (x / 16 % 4) m) h') (b.puts v)
+          ∙ (same_counts (set threads (x / 16 % 4) v) (set counts (x / 16 % 4) m) (set counts' (x / 16 % 4) m) h' (recount_set c (x / 16 % 4) m (omega (arith, q.each))) ∙ table_with h' v m o)
 
-      again_noted : {h' : ℕ → Frame} (v : Notes) → ((u j : ℕ) → j ≤ 4 → (u ≡ x / 16 % 4 → ⊥) → frames_of h' u j ≡ frames_of h u j)
+      again_noted : (h' : ℕ → Frame) (v : Notes) → ((u j : ℕ) → j ≤ 4 → (u ≡ x / 16 % 4 → ⊥) → frames_of h' u j ≡ frames_of h u j)
           → threads_of (set threads' (x / 16 % 4) v) counts' h' ≡ upd (threads_of threads counts h) (x / 16 % 4) (thread v (frames_of h' (x / 16 % 4) (get_or counts (x / 16 % 4) 0)))
-      again_noted {h'} v o = ap (λ (t : List Notes). threads_of t counts' h') (b.puts v) ∙ (same_counts (set threads (x / 16 % 4) v) counts counts' h' c.each ∙ table_noted v o)
+      again_noted h' v o = ap (λ (t : List Notes). threads_of t counts' h') (b.puts v) ∙ (same_counts (set threads (x / 16 % 4) v) counts counts' h' c.each ∙ table_noted h' v o)
 
       still_framed : get_or counts' (x / 16 % 4) 0 ≡ get_or counts (x / 16 % 4) 0
       still_framed = c.each (x / 16 % 4) (omega arith)
@@ -318,7 +318,7 @@ module _ {file : List ℕ} {k x y e : ℕ} {n : Shapes} {l : List ℕ} {s : Stor
       pub noted_on : {v : Notes} → d.what ≡ 0 → Noted (seen threads' x end) v d.note d.place d.value → frames_after d.note top own_frames ≡ own_frames
           → Stands n' l' s (stop (stop_of file) (get_or counts' 4 0)) (threads_of (set threads' (x / 16 % 4) v) counts' h) (stand root' used' shown 0 (k + 1) finished at) first buffer (after file (k + 1))
       unfolding put_all
-      noted_on {v} o f j = carried_on counts' (thread v own_frames) no_row (again_noted v (λ _ _ _ _. refl)) c.count
+      noted_on {v} o f j = carried_on counts' (thread v own_frames) no_row (again_noted h v (λ _ _ _ _. refl)) c.count
           (steps_on (goes_on_lem here (x / 16 % 4) (seen threads x end) r own_frames d own i o (noted_of d.note d.place d.value f) ∙ rw (← stored_on (λ m. omega arith), j))) g (omega arith) refl
 
       -- in two stores: the place, then the note
@@ -348,7 +348,7 @@ module _ {file : List ℕ} {k x y e : ℕ} {n : Shapes} {l : List ℕ} {s : Stor
           let here-base : (seen threads' x end).base ≡ (seen threads x end).base = ap (λ (m : Notes). m.base) b.own in
           let most : Opens h h' t (get_or counts t 0) (helping (n' (seen threads x end).base)) = rw (still_framed, here-base) at p in
           let more : frames_of h' t (get_or counts' t 0 + 1) ≡ frames_after d.note top own_frames = rw (f, still_framed, add-one) (most.frames ∙ ap (λ (m : Frame). m ∷ own_frames) (base_still o f)) in
-          carried_on (set counts' t (get_or counts' t 0 + 1)) _ no_row (again_with v (get_or counts' t 0 + 1) p.others) (count_kept counts' _ ∙ c.count)
+          carried_on (set counts' t (get_or counts' t 0 + 1)) _ no_row (again_with h' v (get_or counts' t 0 + 1) p.others) (count_kept counts' _ ∙ c.count)
           (steps_on (goes_on_lem here t (seen threads x end) r own_frames d own i o (noted_of d.note d.place d.value j) ∙ rw (← stored_on (λ m. omega arith), ← more))) g (omega arith) refl
 
       -- back, where its frames lead
@@ -358,7 +358,7 @@ module _ {file : List ℕ} {k x y e : ℕ} {n : Shapes} {l : List ℕ} {s : Stor
       unfolding put_all
       back_on {v} {h'} {p} o f m =
           let to : Backs h h' (x / 16 % 4) (get_or counts (x / 16 % 4) 0) p = rw still_framed at m in
-          carried_on counts' (thread v (frames_of h' (x / 16 % 4) (get_or counts (x / 16 % 4) 0))) no_row (again_noted v m.others) c.count
+          carried_on counts' (thread v (frames_of h' (x / 16 % 4) (get_or counts (x / 16 % 4) 0))) no_row (again_noted h' v m.others) c.count
           (steps_on (goes_back here (x / 16 % 4) (seen threads x end) r own_frames d own i o (noted_of Nothing p 0 f)
           (to.turn effect (thread (reread r (seen threads x end)) own_frames)) ∙ rw (← stored_on (λ m. omega arith)))) g (omega arith) refl
 
@@ -374,7 +374,7 @@ module _ {file : List ℕ} {k x y e : ℕ} {n : Shapes} {l : List ℕ} {s : Stor
           λ z. ap (λ (r : Rows). depth_by d.answer r (seen threads x end).station) (g (len z))
           ∙ depth_still (sight n root used s shown (stop (stop_of file) (get_or counts 4 0))) (seen threads x end) low r d i own_frames n deep (seen threads x end).station o in
           carried_on (set counts' (x / 16 % 4) 0) (thread v []) (row (shownAs d.answer) (depth_in d.answer (full n deep) (seen threads x end).station) 0)
-          (again_with v 0 (λ _ _ _ _. refl)) (count_kept counts' 0 ∙ c.count)
+          (again_with h v 0 (λ _ _ _ _. refl)) (count_kept counts' 0 ∙ c.count)
           (steps_on (finishes here (x / 16 % 4) (seen threads x end) r own_frames d own i o ∙ rw (← stored_on (λ m. omega arith), f))) g j
           (ro ∙ (ap (λ (t : Notes). put_all (page buffer at) (row_of m (x / 16 % 4) t d.answer (depth_by d.answer (rows l') t.station))) b.own
           ∙ ap (put_all (page buffer at)) (row_as file m (x / 16 % 4) (seen threads x end) own_frames d.answer _ _ vs found)))
