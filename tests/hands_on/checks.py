@@ -1,8 +1,10 @@
 """What the tests of the schedule tool share: counting, paths, calling the tool, what is expected of a turn."""
 
+import hashlib
 import os
 import subprocess
 import sys
+import tempfile
 import time
 from pathlib import Path
 
@@ -11,6 +13,8 @@ TOOL = ROOT / "tools" / "schedule"
 EXAMPLES = ROOT / "examples"
 VECTORS = ROOT / "tests" / "vectors"
 OUT = ROOT / "target" / "hands_on"
+# `rt ci` refuses a checkout that holds links, repositories or other .rt files: tests make such things here, one folder a checkout.
+APART = Path(tempfile.gettempdir()) / f"nuxalder-{hashlib.sha256(str(ROOT).encode()).hexdigest()[:12]}"
 
 sys.path.insert(0, str(ROOT / "tools" / "lib"))
 

@@ -23,7 +23,7 @@ HELPERS = OUT.parent / "tools" / "turns-"
 
 def named(checks, made):
     checks.group("builds: the one that is named answers")
-    checks.that("target/bin/bench is there", bench.PROGRAM.is_file() or os.environ.get("HANDS_ON_WITHOUT_PROGRAM"))
+    checks.that("crates/bench/out/bench is there", bench.PROGRAM.is_file() or os.environ.get("HANDS_ON_WITHOUT_PROGRAM"))
     checks.equal("none named: the proved library, and nothing said", tool("run", PRINTED_RUN), (0, RIGHT, ""))
     for name, right in (("wrong.a", WRONG), ("wrong.so", WRONG), ("good.a", RIGHT), ("good.so", RIGHT), ("plain.so", RIGHT)):
         path = made[name]

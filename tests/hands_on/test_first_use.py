@@ -13,22 +13,23 @@ import time
 
 import first_use
 import library
-from checks import EXAMPLES, OUT, ROOT, running
+from checks import APART, EXAMPLES, ROOT, running
 
-HOME = OUT / "first_use"
+HOME = APART / "first_use"
 REPOSITORY = HOME / "repository"
 ORDERS = HOME / "orders"
 PRINTED = (EXAMPLES / "printed-run.printed").read_bytes()
 KIT = library.wanted_kit()
 CRATES = first_use.plan(ROOT, library.CRATE)
 ARCHIVE = REPOSITORY / library.OWN.relative_to(ROOT)
+MADE = REPOSITORY / "crates" / library.CRATE / "out" / f"lib{library.CRATE}.a"  # by rt
 RUN = ["tools/schedule", "run", "examples/printed-run.txt"]
 
 
 def order(pause="0", fail="-", version=KIT):
     for name, text in (("pause", pause), ("fail", fail), ("version", version)):
         (ORDERS / name).write_text(f"{text}\n")
-    for name in ("calls", "failed", "hold"):
+    for name in ("calls", "hold"):
         (ORDERS / name).unlink(missing_ok=True)
 
 
@@ -143,7 +144,7 @@ def elsewhere(checks):
     lines = err.splitlines()
     told = [re.sub(r", \d+ s so far", "", line) for line in lines[1:-1]]
     count = len(CRATES)
-    right = [f"schedule: crate {number} of {count} proved, {name}" for number, name in enumerate(CRATES[:-1], 1)]
+    right = [f"schedule: crate {number} of {count} proved, {name}" for number, name in enumerate(CRATES, 1)]
     checks.equal("a line a crate", (status, out, told), (0, PRINTED, right))
     checks.that("no control characters", "\r" not in err and "\x1b" not in err, err)
     order(version="another kit")
@@ -175,8 +176,8 @@ def interrupts(checks):
     order()
     (ORDERS / "hold").touch()
     killed = start("killed")
-    wait_for(ARCHIVE.exists)
-    half = ARCHIVE.exists() and ARCHIVE.stat().st_size == 0
+    wait_for(lambda: MADE.exists() and MADE.stat().st_size == 0)
+    half = MADE.exists() and MADE.stat().st_size == 0
     killed.send_signal(signal.SIGTERM)
     killed.wait()
     err = (HOME / "killed.err").read_bytes()

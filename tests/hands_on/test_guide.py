@@ -3,7 +3,7 @@
 import re
 import subprocess
 
-from checks import OUT, ROOT
+from checks import APART, ROOT
 
 GUIDE = ROOT / "docs" / "SCHEDULES.md"
 
@@ -18,7 +18,7 @@ def blocks():
 
 def all_of(checks):
     checks.group("guide: its commands")
-    folder = OUT / "guide"
+    folder = APART / "guide"
     folder.mkdir(parents=True, exist_ok=True)
     for name in ("tools", "examples", "tests"):
         if not (folder / name).exists():

@@ -8,7 +8,7 @@ import story
 import telling
 import text_form
 from browser import BrowserError, Page
-from checks import EXAMPLES, OUT, REASONS, VECTORS, Expected, cut, file_of, least, tool
+from checks import APART, EXAMPLES, OUT, REASONS, VECTORS, Expected, cut, file_of, least, tool
 
 # Both are many times what they take (docs/SCHEDULES.md): the machine may do other work too.
 OPEN_MILLISECONDS_MOST = 30_000  # 4,096 records
@@ -645,7 +645,7 @@ def looks(checks, page):
 def all_of(checks):
     (OUT / "page").mkdir(parents=True, exist_ok=True)
     try:
-        with Page(OUT / "browser") as page:
+        with Page(APART / "browser") as page:
             for test in (stepped, some_turns, reasons, depths, ranges, moved, controls, by_keys, large, deep, vectors, refused_files, looks):
                 test(checks, page)
     except BrowserError as error:

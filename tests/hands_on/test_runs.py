@@ -66,7 +66,7 @@ TRACED += ["printed-run", "killed-join", "reasons", "late-lookup", "helped-join"
 
 def runs(checks):
     checks.group("gallery: printed runs")
-    checks.that("target/bin/bench is there", bench.PROGRAM.is_file() or os.environ.get("HANDS_ON_WITHOUT_PROGRAM"))
+    checks.that("crates/bench/out/bench is there", bench.PROGRAM.is_file() or os.environ.get("HANDS_ON_WITHOUT_PROGRAM"))
     names = {path.stem for path in examples()}
     checks.equal("each schedule has its printed run", {path.stem for path in EXAMPLES.glob("*.printed")}, names)
     checks.that("the gallery is whole", set(FIGURES) | set(BYTES) | set(TRACED) <= names, names)

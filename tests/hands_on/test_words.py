@@ -6,7 +6,7 @@ import shutil
 import subprocess
 
 import text_form
-from checks import OUT, ROOT
+from checks import APART, ROOT
 from test_guide import blocks
 
 PLACES = ROOT / "docs" / "PLACES.md"
@@ -83,7 +83,7 @@ def ignored(checks):
         written |= set(re.findall(r"(?:-o|--html|--svg) ([\w.-]+\.\w+)", (ROOT / name).read_text()))
     written |= {"mine.txt", "target/x", "tools/lib/__pycache__/x.pyc"}
     checks.that("the guides write files", len(written) >= 5, written)
-    folder = OUT / "ignored"
+    folder = APART / "ignored"
     shutil.rmtree(folder, ignore_errors=True)
     folder.mkdir(parents=True)
     shutil.copy(ROOT / ".gitignore", folder / ".gitignore")

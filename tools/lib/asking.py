@@ -8,6 +8,7 @@ import hashlib
 import os
 import re
 import shlex
+import shutil
 import subprocess
 from pathlib import Path
 
@@ -41,15 +42,14 @@ def _soname(path):
 
 
 def _link_words(path, folder):
-    """What the compiler gets for the library; a shared one is found again at run time wherever it lies."""
+    """What the compiler gets for the library; a shared one is found again at run time wherever it lies, as a copy: `rt ci` refuses a
+    checkout with links."""
     words = [str(path)]
     if library.kind(path) == "shared":
         soname = _soname(path)
         if soname:
             folder.mkdir(parents=True, exist_ok=True)
-            link = folder / soname
-            link.unlink(missing_ok=True)
-            link.symlink_to(path)
+            shutil.copyfile(path, folder / soname)
             words += [f"-Wl,-rpath,{folder}"]
     return [*words, *LINKED, *shlex.split(os.environ.get("LDLIBS", ""))]
 

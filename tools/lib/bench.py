@@ -14,7 +14,7 @@ from faults import BenchError
 from text_form import ACTIONS, DEEP, DEPTH_MOST, STATIONS, STOP, VERSION, version_of
 
 ROOT = library_module.ROOT
-PROGRAM = Path(os.environ.get("NUXALDER_BENCH") or ROOT / "target" / "bin" / "bench")
+PROGRAM = Path(os.environ.get("NUXALDER_BENCH") or ROOT / "crates" / "bench" / "out" / "bench")
 FILE_MOST = 1 << 18
 
 # What each refusal of a file or a record says, as include/nuxalder.h has it.

@@ -32,23 +32,22 @@ def dependencies(root):
     for line in (root / "crates.txt").read_text().splitlines():
         name, colon, words = line.partition("#")[0].partition(":")
         if colon:
-            found[name.strip()] = words.split()
+            found[name.split()[0]] = words.split()  # "staticlib" may stand after the name
     return {name: [word for word in words if word in found] for name, words in found.items()}
 
 
 def plan(root, crate):
-    """The crates that are proved for `crate`, itself last, in the order in which rt takes them."""
-    needs = dependencies(root)
-    level = {}
+    """The crates that are proved for `crate`, itself last, in the order in which rt takes them: each after those that it needs."""
+    needs, found = dependencies(root), []
 
     def visit(name):
-        if name not in level:
+        if name not in found:
             for other in needs[name]:
                 visit(other)
-            level[name] = 1 + max((level[other] for other in needs[name]), default=-1)
+            found.append(name)
 
     visit(crate)
-    return sorted(level, key=level.get)
+    return found
 
 
 def newer_source(root, crate, library):
@@ -67,7 +66,7 @@ class Progress:
     """What is said while the crates are proved."""
 
     def __init__(self, crates, stream):
-        self.crates, self.left, self.stream = crates, list(crates), stream
+        self.crates, self.stream = crates, stream
         self.done, self.since, self.live = 0, time.time(), stream.isatty()
         self.tick()
 
@@ -82,17 +81,23 @@ class Progress:
         """The line on a terminal, drawn again; it is cut to the terminal's width so that it stays one line."""
         if not self.live:
             return
-        count, name = len(self.crates), (self.left or self.crates[-1:])[0]
-        text = f"crate {min(self.done + 1, count)} of {count}, {name}, {self.seconds()} s so far, usually about {USUAL_SECONDS} s"
+        count = len(self.crates)
+        number = min(self.done + 1, count)
+        text = f"crate {number} of {count}, {self.crates[number - 1]}, {self.seconds()} s so far, usually about {USUAL_SECONDS} s"
         columns = 80
         with contextlib.suppress(OSError):
             columns = os.get_terminal_size(self.stream.fileno()).columns or 80
         self.say(f"\r{text[: columns - 1]}\x1b[K", end="")
 
+    def begun(self, name):
+        """Those before it are proved, now or by an earlier use."""
+        if name in self.crates:
+            self.done = self.crates.index(name)
+        self.tick()
+
     def proved(self, name):
-        self.done += 1
-        if name in self.left:
-            self.left.remove(name)
+        if name in self.crates:
+            self.done = self.crates.index(name) + 1
         if not self.live:
             self.say(f"schedule: crate {self.done} of {len(self.crates)} proved, {name}, {self.seconds()} s so far")
         self.tick()
@@ -119,7 +124,7 @@ def _ended_by_signals():
 
 def _follow(process, log, progress):
     """Copies what rt says to the log until it ends, and counts the crates proved."""
-    rest = b""
+    rest, name = b"", b""
     while True:
         ready, _, _ = select.select([process.stdout], [], [], TICK_SECONDS)
         if ready:
@@ -130,9 +135,12 @@ def _follow(process, log, progress):
             log.flush()
             *lines, rest = (rest + data).split(b"\n")
             for line in lines:
-                found = re.match(rb"rt: (\w+) proved", line)
-                if found:
-                    progress.proved(found[1].decode())
+                begun = re.match(rb"rt: chose --jobs \d+ for (\w+)", line)
+                if begun:
+                    name = begun[1]
+                    progress.begun(name.decode())
+                elif line.startswith(b"logic=proved "):
+                    progress.proved(name.decode())
         progress.tick()
 
 
@@ -151,7 +159,7 @@ def is_whole(root, library):
 
 
 def build(root, crate, library, rt, why, wanted_kit):
-    """Proves and builds the library by `rt staticlib`. Only a whole one is left where it is looked for."""
+    """Proves and builds the library by tools/archive. Only a whole one is left where it is looked for."""
     stream = sys.stderr
     folder = root / "target"
     folder.mkdir(exist_ok=True)
@@ -179,7 +187,7 @@ def _build(root, crate, library, rt, why, wanted_kit, log, stream):
     with open(log, "wb") as written, _ended_by_signals():
         progress = Progress(plan(root, crate), stream)
         words = {"cwd": root, "stdin": subprocess.DEVNULL, "stdout": subprocess.PIPE, "stderr": subprocess.STDOUT}
-        process = start([rt, "staticlib", crate], **words)
+        process = start([root / "tools" / "archive"], **words)
         try:
             status = _follow(process, written, progress)
         except KeyboardInterrupt:
@@ -196,7 +204,8 @@ def _build(root, crate, library, rt, why, wanted_kit, log, stream):
             process.stdout.close()
             signal.signal(signal.SIGINT, before)
     if status != 0 or not library.is_file():
-        failed = re.findall(r"^rt: (\w+) NOT PROVED", log.read_text(errors="replace"), re.M)
-        what = f"{failed[0]} is not proved" if failed else f"`rt staticlib {crate}` ended with status {status}"
+        said = log.read_text(errors="replace")
+        failed = re.findall(r"^rt: the library (\w+) did not build", said, re.M) or [crate] * ("logic=not-proved" in said)
+        what = f"{failed[0]} is not proved" if failed else f"tools/archive ended with status {status}"
         raise BenchError(f"schedule: the library was not built: {what}. The log's last lines, of {log}:\n{_tail(log)}")
     print(f"schedule: proved and built in {progress.seconds()} s", file=stream, flush=True)

@@ -9,7 +9,7 @@ import first_use
 from faults import BenchError
 
 ROOT = Path(__file__).resolve().parents[2]
-CRATE = "nuxalder"
+CRATE = "nuxalder_c"
 OWN = ROOT / "target" / "staticlib" / "libnuxalder.a"
 WANTED_KIT = ROOT / "rt-version"
 
@@ -92,6 +92,6 @@ def own():
             f"schedule: there is no library {OWN} yet, and no `rt` to prove and build it.\n"
             "`rt` is the command of the Rattle kit, the language, proof checker and compiler that this repository is\n"
             f"written for. It wants the kit whose `rt version` prints\n    {wanted_kit()}\n"
-            f"With it on the PATH, try again, or run `rt staticlib {CRATE}` in {ROOT}."
+            f"With it on the PATH, try again, or run tools/archive in {ROOT}."
         )
     return OWN
