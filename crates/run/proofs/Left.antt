@@ -1,11 +1,9 @@
 -- What a step at a place from 60 on writes and leaves: the cases of its code, each with the code's own facts as premises. Assumes nothing.
 use mathlib.Core.Path.{◌≡◌, refl, sym, ap, ◌∙◌}
 use mathlib.Core.Bool.{Bool, false, cond, not}
-use mathlib.Core.List.{List, [], ◌∷◌}
+use mathlib.Core.List.{List}
 use Prim.Native.Nat.{ℕ, ◌+◌, ◌-◌, ◌≤◌}
 use native.Mathlib.Omega.{arith}
-use types.Run.{OneOf}
-use denote.Enum.Declared.{tag_of}
 use lib.Dec.{eqb}
 use lib.ListN.{length}
 use Rattle.container.specs.Choice.{upd}
@@ -32,13 +30,11 @@ use Rattle.definitions.specs.declared.Link.TheVariants.{To}
 use Rattle.definitions.specs.declared.Spot.{Spot}
 use Rattle.definitions.specs.declared.Shared.TheVariants.{Set}
 use Rattle.definitions.specs.declared.Stop.{Stop}
-use Rattle.definitions.specs.contracts.Effect as effect
 use Rattle.steps.specs.declared.Notes.{Notes}
 use Rattle.steps.specs.Decision.{thread}
 use Rattle.run.specs.Query.{Ranged, Laid, Wrote, Leaves}
 use Rattle.run.specs.declared.query.Counts.{Counts}
 use Rattle.run.specs.declared.query.Left.{Left}
-use Rattle.run.proofs.Numbers.{one_below}
 use Rattle.run.proofs.Ranging.{ranged}
 
 -- ---- what is written
@@ -64,19 +60,20 @@ module _ (t : Shapes) (l : List ℕ) (k : Stores) (o u j : ℕ) {e : Effect} whe
   write_fill i c q h = record { enacted = record { nodes = record { stored = λ d z. rw (q, h) }; depths = record { rows = λ _. rw q } }; used = rw q; shown = rw q }
 
 -- nothing: the effect is neither of the two
-pub write_none : (t : Shapes) (l : List ℕ) (k : Stores) (o u j : ℕ) (e : Effect) → Ranged e → OneOf (0 ∷ 1 ∷ 2 ∷ 3 ∷ 4 ∷ 5 ∷ 6 ∷ 7 ∷ 8 ∷ 9 ∷ []) (tag_of effect.the_type e) → Wrote t l k o u j e t l k (counts o u j)
-write_none t l k o u j Quiet r m = record { enacted = record { nodes = record { stored = λ d z. refl }; depths = record { rows = λ _. refl } }; used = refl; shown = refl }
-write_none t l k o u j (Mark _ _) r m = absurd r
-write_none t l k o u j (Settle _ _) r m = absurd r
-write_none t l k o u j (Invalid _) r m = absurd r
-write_none t l k o u j (Swing _ _) r m = absurd r
-write_none t l k o u j Raise r m = absurd r
-write_none t l k o u j Lower r m = absurd r
-write_none t l k o u j (Base _ _ _ _ _ _) r m = absurd r
-write_none t l k o u j (Fork _ _ _ _ _ _) r m = absurd r
-write_none t l k o u j (Commit _ _ _ _ _ _) r m = absurd r
-write_none t l k o u j (Ask _ _ _ _ _ _ _ _) r m = absurd (omega (arith, one_below 10 10 (0 ∷ 1 ∷ 2 ∷ 3 ∷ 4 ∷ 5 ∷ 6 ∷ 7 ∷ 8 ∷ 9 ∷ []) refl m))
-write_none t l k o u j (Fill _ _) r m = absurd (omega (arith, one_below 10 11 (0 ∷ 1 ∷ 2 ∷ 3 ∷ 4 ∷ 5 ∷ 6 ∷ 7 ∷ 8 ∷ 9 ∷ []) refl m))
+pub write_none : (t : Shapes) (l : List ℕ) (k : Stores) (o u j : ℕ) (e : Effect) → Ranged e
+    → ((v : Spot) (x : ℕ) (p : Link) (z a b i : ℕ) (new : Bool) → e ≡ Ask v x p z a b i new → ⊥) → ((i c : ℕ) → e ≡ Fill i c → ⊥) → Wrote t l k o u j e t l k (counts o u j)
+write_none t l k o u j Quiet r m n = record { enacted = record { nodes = record { stored = λ d z. refl }; depths = record { rows = λ _. refl } }; used = refl; shown = refl }
+write_none t l k o u j (Mark _ _) r m n = absurd r
+write_none t l k o u j (Settle _ _) r m n = absurd r
+write_none t l k o u j (Invalid _) r m n = absurd r
+write_none t l k o u j (Swing _ _) r m n = absurd r
+write_none t l k o u j Raise r m n = absurd r
+write_none t l k o u j Lower r m n = absurd r
+write_none t l k o u j (Base _ _ _ _ _ _) r m n = absurd r
+write_none t l k o u j (Fork _ _ _ _ _ _) r m n = absurd r
+write_none t l k o u j (Commit _ _ _ _ _ _) r m n = absurd r
+write_none t l k o u j (Ask v x p z a b i new) r m n = absurd (m v x p z a b i new refl)
+write_none t l k o u j (Fill i c) r m n = absurd (n i c refl)
 
 -- ---- a frame with the ends and the store that are read
 pub help_opens : (h h' : ℕ → Frame) (t d : ℕ) {l u k l' u' k' : ℕ} → l ≡ l' → u ≡ u' → k ≡ k' → Opens h h' t d (new_frame l u (To k)) → Opens h h' t d (new_frame l' u' (To k'))

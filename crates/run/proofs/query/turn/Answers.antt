@@ -3,52 +3,22 @@ use Rattle.run.proofs.Left.{turn_ranged, turn_on, turn_blocked, turn_back, turn_
 use Rattle.run.proofs.query.turn.Goals as goal
 
 pub write-n-requires : goal.write-n-requires
-write-n-requires c =
-    let r = c in
-    let q = r.before.before.before in
-    let s = q.before.before.before.before.before.before.before.before.before.before.before in
-    (turn_ranged _ _ _ _ _ _ _ _ _ s.args.th q.query.ensures s.requires.1.1.0 r.r.given.1, s.requires.1.1.1.1)
+write-n-requires c = (turn_ranged _ _ _ _ _ _ _ _ _ c.args.th c.query-r.ensures c.requires.1.1.0 c.in-Onward.is, c.requires.1.1.1.1)
 
 pub returns-in-Onward : goal.returns-in-Onward
-returns-in-Onward c =
-    let w = c in
-    let r = w.before.before.before.before.before.before.before in
-    let f = r.before.before in
-    let q = f.before in
-    let s = q.before.before.before.before.before.before.before.before.before.before.before in
-    turn_on _ _ _ _ _ _ _ _ _ _ q.query.ensures s.requires.1.1.0 _ r.r.given.1 f.frames-after.ensures w.write.ensures
+returns-in-Onward c = turn_on _ _ _ _ _ _ _ _ _ _ c.query-r.ensures c.requires.1.1.0 _ c.in-Onward.is c.frames_after-frames.ensures c.write-n.ensures
 
 pub returns-in-Blocked : goal.returns-in-Blocked
-returns-in-Blocked c =
-    let r = c in
-    let f = r.before.before in
-    let q = f.before in
-    let s = q.before.before.before.before.before.before.before.before.before.before.before in
-    turn_blocked _ _ _ _ _ _ _ _ _ _ q.query.ensures s.requires.1.1.0 _ f.frames-after.ensures r.r2.given.1
+returns-in-Blocked c = turn_blocked _ _ _ _ _ _ _ _ _ _ c.query-r.ensures c.requires.1.1.0 _ c.frames_after-frames.ensures c.in-Blocked.is
 
 pub returns-in-Back : goal.returns-in-Back
-returns-in-Back c =
-    let r = c in
-    let f = r.before.before in
-    let q = f.before in
-    let s = q.before.before.before.before.before.before.before.before.before.before.before in
-    turn_back _ _ _ _ _ _ _ _ _ _ q.query.ensures s.requires.1.1.0 _ f.frames-after.ensures r.r3.given.1
+returns-in-Back c = turn_back _ _ _ _ _ _ _ _ _ _ c.query-r.ensures c.requires.1.1.0 _ c.frames_after-frames.ensures c.in-Back.is
 
 pub returns-in-Found : goal.returns-in-Found
-returns-in-Found c =
-    let r = c in
-    let q = r.before.before.before in
-    let s = q.before.before.before.before.before.before.before.before.before.before.before in
-    turn_found _ _ _ _ _ _ _ _ _ _ q.query.ensures s.requires.1.1.0 _ _ _ _ r.r4.given.1
+returns-in-Found c = turn_found _ _ _ _ _ _ _ _ _ _ c.query-r.ensures c.requires.1.1.0 _ _ _ _ c.in-Found.is
 
 pub returns-in-NodesOut : goal.returns-in-NodesOut
-returns-in-NodesOut c =
-    let q = c in
-    let s = q.before.before.before.before.before.before.before.before.before.before.before in
-    turn_nodes _ _ _ _ _ _ _ _ _ _ q.query.ensures s.requires.1.1.0 _ _ _ _ c.enum_told-1.given.1
+returns-in-NodesOut c = turn_nodes _ _ _ _ _ _ _ _ _ _ c.query-r.ensures c.requires.1.1.0 _ _ _ _ c.in-NodesOut.is
 
 pub returns-in-StoresOut : goal.returns-in-StoresOut
-returns-in-StoresOut c =
-    let q = c in
-    let s = q.before.before.before.before.before.before.before.before.before.before.before in
-    turn_stores _ _ _ _ _ _ _ _ _ _ q.query.ensures s.requires.1.1.0 _ _ _ _ c.in-StoresOut.is
+returns-in-StoresOut c = turn_stores _ _ _ _ _ _ _ _ _ _ c.query-r.ensures c.requires.1.1.0 _ _ _ _ c.in-StoresOut.is
