@@ -1,5 +1,6 @@
 // Request f: a tally over a season's schedules. What is tallied is in specs/, tables of it in proofs/; there is no other code.
 #![tactic(auto)]
+
 use definitions::Report;
 
 // What Tally hands back: Run's own answer, and beside it the tally's refusal, 19, or 0 for none.
