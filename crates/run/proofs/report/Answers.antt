@@ -9,9 +9,5 @@ carry_out-p-requires c = let p = c.requires in (p.0, (blank, (none_set _, (p.1.0
 
 pub returns : goal.returns
 returns c =
-    let s = c in
-    let b = s.before.before.before in
-    let g = b.before.before.before.before.before.before.before.before.before.before.before.before.before in
-    let t = g.before.before.before.before.before.before.before.before.before.before.before.before.before.before.before in
-    let h = g.carry-out.ensures.0 in
-    (ended_report _ _ refl h b.set_below.ensures s.stored-below.ensures, ended_buffer _ _ refl h t.requires.1.1.1)
+    let h = c.carry_out-p.ensures.0 in
+    (ended_report _ _ refl h c.set_below-set.ensures c.stored_below-stored.ensures, ended_buffer _ _ refl h c.requires.1.1.1)
