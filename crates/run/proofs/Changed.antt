@@ -1,6 +1,6 @@
 -- What a step at a place below 60 changes in the loop's tables besides its note: the routes read by its thread, and the count of the stop. Assumes
 -- nothing.
-use mathlib.Core.Path.{◌≡◌, refl, ap, ◌∙◌, subst}
+use mathlib.Core.Path.{◌≡◌, refl, ap, subst}
 use mathlib.Core.Bool.{Bool, true, false}
 use mathlib.Core.List.{List}
 use Prim.Native.Nat.{ℕ, ◌+◌, ◌-◌, ◌<◌}

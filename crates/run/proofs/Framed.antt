@@ -12,7 +12,7 @@ use Rattle.container.specs.Choice.{ite, upd}
 use Rattle.definitions.specs.declared.Action.{Action}
 use Rattle.definitions.specs.declared.Action.TheVariants.{Lookup, Insert, Remove, Split, Join, Query}
 use Rattle.definitions.specs.Threads.{Thread, begun, asking, Turn, Moves, Finishes, Finds, Full, NoStore}
-use Rattle.definitions.specs.Bench.{sight_of, Bench, bench}
+use Rattle.definitions.specs.Bench.{sight_of, Bench}
 use Rattle.definitions.specs.Places.{p1, p2, p4, p5, place_of}
 use Rattle.definitions.specs.Steps.{is_query}
 use Rattle.definitions.specs.Records.{Result, refused, carried, taken, stepped, started, asked, acted, record_step}

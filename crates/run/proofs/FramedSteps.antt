@@ -26,7 +26,6 @@ use Rattle.definitions.specs.Steps.{at_leaf, reached, onward, one_more, followed
 use Rattle.definitions.specs.Steps.{help_by, blocked_as, blocked, beside, grand_marking, cut_at, cut_on, cut_right}
 use Rattle.definitions.specs.Steps.{freeing, reached_first, reached_next, opened_by, extended_by, pop_on, met_by, filling, leaving, read_out, is_query, step}
 use Rattle.definitions.specs.Frames.{tail_of, store_of, in_frame, next_from, adding, found_first, back_in, back}
-use Rattle.steps.specs.Decision.{thread}
 
 abbrev pub Some : List Frame → Type 0
 Some [] = ⊥

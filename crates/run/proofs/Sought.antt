@@ -1,7 +1,7 @@
 -- 1 and 2, and 4 and 5 but for the count, of a thread that is no query's: nothing is written, no frame is opened, and the search goes on or finishes. Assumes nothing.
 use mathlib.Core.Path.{◌≡◌, refl, sym, ap, subst}
 use mathlib.Core.Bool.{Bool, true, false}
-use mathlib.Core.List.{List, [], ◌∷◌}
+use mathlib.Core.List.{List, []}
 use mathlib.Core.Logic.{◌⊎◌, inl, inr, ⊎_elim}
 use Prim.Native.Nat.{ℕ, zero, suc, ◌<◌}
 use native.Mathlib.Omega.{arith}
@@ -20,7 +20,7 @@ use Rattle.steps.specs.declared.Notes.{Notes}
 use Rattle.steps.specs.declared.Note.{Note}
 use Rattle.steps.specs.declared.Note.TheVariants.{Opened}
 use Rattle.steps.specs.declared.Decision.{Decision}
-use Rattle.steps.specs.Decision.{thread, noted, written, turn_by, turn_of, top_after, Decides, finding, counting}
+use Rattle.steps.specs.Decision.{thread, noted, written, turn_by, top_after, Decides, finding, counting}
 
 -- it goes on, though not to 1, with the frames fs, or finishes
 abbrev Searches : List Frame → Turn → Type 0

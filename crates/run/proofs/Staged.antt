@@ -1,13 +1,13 @@
 -- Where the ways of a record meet in the loop: nothing is left to do, or a row is, or what has to do with frames (`query::round`); and what the
 -- loop holds once that is done. Rests on crate answers by the laws of one record more.
-use mathlib.Core.Path.{◌≡◌, refl, sym, ap, ◌∙◌, subst}
+use mathlib.Core.Path.{◌≡◌, refl, sym, ap, ◌∙◌}
 use mathlib.Core.Bool.{Bool}
 use mathlib.Core.List.{List, [], ◌∷◌}
-use mathlib.Core.Logic.{◌⊎◌, inl, inr, ⊎_elim}
+use mathlib.Core.Logic.{◌⊎◌, ⊎_elim}
 use Prim.Native.Nat.{ℕ, zero, suc, ◌+◌, ◌/◌, ◌%◌, ◌≤◌, ◌<◌}
 use native.Mathlib.Omega.{arith}
 use borrow.Author.Tests.{eq-eqb}
-use lib.ListN.{length, get_or, set, length-set}
+use lib.ListN.{length, get_or, set}
 use lib.Seq.{set-set, get_or-set_same}
 use Rattle.container.specs.Choice.{ite}
 use Rattle.answers.specs.Reachable.{Unasked}
@@ -16,10 +16,9 @@ use Rattle.depths.specs.Rows.{rows}
 use Rattle.effects.specs.Used.{used_after, deepened, Applied}
 use Rattle.nodes.specs.Cells.{table}
 use Rattle.frames.specs.View.{frames_of}
-use Rattle.frames.specs.Turns.{Backs}
 use Rattle.frames.specs.Outcomes.{Opens, Room}
 use Rattle.steps.specs.declared.Notes.{Notes}
-use Rattle.steps.specs.declared.Note.TheVariants.{Nothing, Opened}
+use Rattle.steps.specs.declared.Note.TheVariants.{Opened}
 use Rattle.steps.specs.declared.Decision.{Decision}
 use Rattle.steps.specs.Decision.{thread, written, Decides, finding}
 use Rattle.machine.specs.Asked.{starting}

@@ -3,7 +3,6 @@
 use mathlib.Core.Path.{◌≡◌, refl, sym, ap, ◌∙◌, subst}
 use mathlib.Core.Bool.{Bool, true, false}
 use mathlib.Core.List.{List, [], ◌∷◌}
-use mathlib.Core.Logic.{◌⊎◌, inl, inr}
 use Prim.Native.Nat.{ℕ, zero, suc, ◌+◌, ◌/◌, ◌%◌, ◌≤◌, ◌<◌}
 use native.Mathlib.Numerals.{add-one}
 use native.Mathlib.Omega.{arith}
@@ -42,7 +41,6 @@ use Rattle.definitions.specs.Records.{Row, no_row, row, Result, refused, carried
 use Rattle.definitions.specs.Versions.{version, last_action, stop_of}
 use Rattle.definitions.specs.Schedule.{Rec, record_at}
 use Rattle.definitions.specs.Run.{Progress, row_bytes, row_count, advance_by, advance, after}
-use Rattle.definitions.specs.declared.Action.{Action}
 use Rattle.definitions.specs.declared.Effect.{Effect}
 use Rattle.definitions.specs.declared.Effect.TheVariants.{Quiet}
 use Rattle.effects.specs.declared.Write.{Write}

@@ -1,5 +1,6 @@
 // Run: a schedule carried out on a fresh bench, with its rows written into a lent buffer.
 #![tactic(auto)]
+
 ghost use Rattle.std.specs.Prelude.{◌≡◌, false, [], ◌∷◌, ◌+◌, ◌*◌, ◌/◌, ◌%◌, ◌≤◌, ◌<◌, eqb, length, get_or};
 ghost use Rattle.container.specs.Choice.{ite};
 ghost use Rattle.nodes.specs.Cells.{table};
