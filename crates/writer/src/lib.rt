@@ -1,5 +1,6 @@
 // The profile run: Run's rows and numbers over the records before the first one that is barred.
 #![tactic(auto)]
+
 ghost use Rattle.std.specs.Prelude.{◌≡◌, ◌&&◌, ◌+◌, ◌*◌, ◌/◌, ◌%◌, ◌≤◌, eqb, leb, length, take};
 ghost use Rattle.container.specs.Choice.{ite};
 ghost use Rattle.definitions.specs.Schedule.{count_of};

@@ -1,0 +1,9 @@
+-- `writer::stopped` meets its contract. Assumes nothing.
+use Rattle.writer.proofs.Cases.{halted, unhalted}
+use Rattle.writer.proofs.stopped.Goals as goal
+
+pub returns-then-r-eq0 : goal.returns-then-r-eq0
+returns-then-r-eq0 c = halted _ c.if-r-eq0.true
+
+pub returns : goal.returns
+returns c = unhalted _ c.if-r-eq0.false
