@@ -1,14 +1,14 @@
 -- The cases of what the schedule says, of the header and of a file's refusal, each with the code's own facts as premises. Assumes nothing.
 use mathlib.Core.Path.{◌≡◌, refl, sym, ap, ◌∙◌}
-use mathlib.Core.Bool.{Bool, true, false}
+use mathlib.Core.Bool.{false}
 use mathlib.Core.List.{List, [], ◌∷◌}
-use Prim.Native.Nat.{ℕ, zero, suc, ◌+◌, ◌-◌, ◌*◌, ◌/◌, ◌%◌, ◌≤◌, ◌<◌}
+use Prim.Native.Nat.{ℕ, suc, ◌+◌, ◌-◌, ◌*◌, ◌/◌, ◌%◌, ◌≤◌, ◌<◌}
 use native.Mathlib.Omega.{arith}
 use native.Mathlib.Numerals.{add-one}
 use lib.Dec.{eqb}
 use borrow.Author.Tests.{eq-eqb, ne_eqb}
 use Rattle.container.specs.Choice.{ite}
-use Rattle.buffer.specs.Page.{Page, page, put, put_all}
+use Rattle.buffer.specs.Page.{Page, put, put_all}
 use Rattle.definitions.specs.Schedule.{count_of}
 use Rattle.definitions.specs.Merge.{first_byte, fault}
 use Rattle.definitions.specs.Written.{written_refusal}

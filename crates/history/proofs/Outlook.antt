@@ -2,10 +2,10 @@
 -- row to come. So a step ends its operation exactly if the thread's next record is no step and the next row is the thread's.
 -- Assumes nothing.
 use mathlib.Core.Path.{◌≡◌, refl, sym, ◌∙◌, ap, subst}
-use mathlib.Core.Logic.{◌≢◌, ◌⊎◌, inl, inr}
-use mathlib.Core.Bool.{Bool, true, false, true≢false}
-use mathlib.Core.List.{List, [], ◌∷◌, ◌++◌}
-use Prim.Native.Nat.{ℕ, zero, suc, ◌+◌, ◌-◌, ◌*◌, ◌/◌, ◌%◌, ◌<◌, ◌≤◌}
+use mathlib.Core.Logic.{◌≢◌, inl, inr}
+use mathlib.Core.Bool.{true, false, true≢false}
+use mathlib.Core.List.{List}
+use Prim.Native.Nat.{ℕ, zero, suc, ◌+◌, ◌*◌, ◌/◌, ◌%◌, ◌<◌, ◌≤◌}
 use native.Mathlib.Omega.{arith}
 use native.Mathlib.Decide.{ℕ_discrete}
 use lib.Dec.{eqb}
@@ -16,12 +16,11 @@ use Rattle.definitions.specs.declared.Action.{Action}
 use Rattle.definitions.specs.declared.Action.TheVariants.{Lookup, Insert, Remove, Split, Join, Query}
 use Rattle.definitions.specs.declared.Answer.{Answer}
 use Rattle.definitions.specs.Threads.{Thread}
-use Rattle.definitions.specs.Bench.{Bench}
-use Rattle.definitions.specs.Records.{Row, no_row, row, Result, refused, carried, record_step, action_number, is_idle}
+use Rattle.definitions.specs.Records.{Row, no_row, row, carried, action_number, is_idle}
 use Rattle.definitions.specs.Schedule.{version}
 use Rattle.definitions.specs.Merge.{first_byte, second_byte}
 use Rattle.definitions.specs.Run.{Progress, advance_by, after}
-use Rattle.passing.proofs.Did.{Did, did, Started, Moved, Ended}
+use Rattle.passing.proofs.Did.{Did, did}
 use Rattle.history.specs.Ahead.{ahead}
 use Rattle.history.proofs.Turned.{Turned, done_most, turned_at, finished_then, row_at}
 

@@ -2,20 +2,19 @@
 -- Assumes nothing.
 use mathlib.Core.Path.{◌≡◌, refl, sym, ◌∙◌, ap, subst}
 use mathlib.Core.Logic.{◌≢◌}
-use mathlib.Core.Bool.{Bool, true, false}
 use mathlib.Core.List.{List, [], ◌∷◌, ◌++◌, append_assoc, append-nil}
 use Prim.Native.Nat.{ℕ, zero, suc, ◌+◌, ◌-◌, ◌*◌, ◌/◌, ◌%◌, ◌<◌, ◌≤◌}
 use native.Mathlib.Omega.{arith}
 use native.Mathlib.Decide.{ℕ_discrete, dec_lt}
 use borrow.Author.Tests.{eq-eqb}
-use lib.ListN.{length, get_or, length-append, get_or-append}
+use lib.ListN.{length, get_or, length-append}
 use lib.Seq.{get_or-append-add}
 use Rattle.container.specs.Choice.{ite}
 use Rattle.definitions.specs.declared.Answer.{Answer}
 use Rattle.definitions.specs.Answers.{answer_number}
 use Rattle.definitions.specs.Threads.{Thread}
 use Rattle.definitions.specs.Bench.{Bench}
-use Rattle.definitions.specs.Records.{Row, no_row, row, Result, refused, carried, record_step, action_number}
+use Rattle.definitions.specs.Records.{Row, row, Result, refused, carried, record_step, action_number}
 use Rattle.definitions.specs.Schedule.{Rec, version, record_at}
 use Rattle.definitions.specs.Merge.{first_byte, second_byte}
 use Rattle.definitions.specs.Run.{Progress, row_bytes, advance_by, advance, after}

@@ -4,7 +4,7 @@ use Rattle.std.specs.Prelude.{ℕ, zero, suc, ◌+◌, ◌*◌, ◌/◌, ◌%◌
 use Rattle.container.specs.Choice.{ite}
 use Rattle.definitions.specs.Schedule.{count_of}
 use Rattle.definitions.specs.Merge.{first_byte}
-use Rattle.definitions.specs.Run.{after, ended}
+use Rattle.definitions.specs.Run.{ended}
 
 -- 1 for the first byte of a start, 0 for a step's
 unfoldable pub start_number : ℕ → ℕ

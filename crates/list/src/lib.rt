@@ -1,5 +1,6 @@
 // List: the tree where a schedule's run ended, as text in a lent buffer.
 #![tactic(auto)]
+
 ghost use Rattle.std.specs.Prelude.{◌≡◌, ◌≤◌, eqb, length};
 ghost use Rattle.container.specs.Choice.{ite};
 ghost use Rattle.schedule.specs.Proper.{Proper};

@@ -1,9 +1,9 @@
 -- The whole printed run: what Run and List hand back for a file that is not refused, that it lies in their buffers, and that every number
 -- of it is below 10,000; and the one line for a file that is refused. Assumes nothing.
-use mathlib.Core.Path.{◌≡◌, refl, sym, ◌∙◌}
+use mathlib.Core.Path.{◌≡◌, refl, ◌∙◌}
 use mathlib.Core.Bool.{Bool, true, false}
 use mathlib.Core.List.{List, ◌++◌}
-use Prim.Native.Nat.{ℕ, ◌+◌, ◌*◌, ◌%◌, ◌≤◌}
+use Prim.Native.Nat.{ℕ, ◌*◌, ◌%◌, ◌≤◌}
 use native.Mathlib.Omega.{arith}
 use native.Mathlib.Nat.{mul_comm}
 use borrow.Author.Tests.{eq-eqb, ne_eqb, le-ltb}
@@ -12,7 +12,7 @@ use lib.ListN.{length, take, drop, length-append}
 use lib.Seq.{take-append_seam}
 use Rattle.container.specs.Choice.{ite}
 use Rattle.definitions.specs.Tree.{stored}
-use Rattle.definitions.specs.Schedule.{version, by, count_of, file_refusal}
+use Rattle.definitions.specs.Schedule.{version, count_of, file_refusal}
 use Rattle.definitions.specs.Run.{row_width, ended, report_of, overlay, run_refusal, run_report, run_buffer}
 use Rattle.definitions.specs.Listing.{listing, listed_at, list_refusal, list_report, list_buffer}
 use Rattle.definitions.specs.Printed.{first_line, row_lines, last_line, printed_at, printed}

@@ -15,8 +15,8 @@ use Rattle.definitions.specs.Tree.{stored}
 use Rattle.definitions.specs.Schedule.{version, count_of, file_refusal}
 use Rattle.definitions.specs.Run.{Progress, row_width, ended, overlay}
 use Rattle.definitions.specs.Answers.{rendered, answer_of, answer_word}
-use Rattle.definitions.specs.Listing.{space, newline, digit, decimal, listing}
-use Rattle.definitions.specs.Printed.{records_word, of_word, refusal_word, stored_word, used_word, action_word, first_line, depth_text, row_line, row_lines, last_line, printed_at, printed}
+use Rattle.definitions.specs.Listing.{digit, decimal}
+use Rattle.definitions.specs.Printed.{action_word, first_line, depth_text, row_line, row_lines, last_line, printed_at, printed}
 use Rattle.definitions.specs.declared.Answer.{Answer}
 use Rattle.definitions.specs.declared.Answer.TheVariants.{No, Yes, At, Lacking, Blocked, Lost, NeighbourBlocked, StoodDown, Stopped}
 use Rattle.run.proofs.Rows.{finished_half}

@@ -1,5 +1,6 @@
 // The printed run: Run's report and rows and List's text, as lines. From version 2 on a row is 14 bytes, and a lookup's yes has its depth.
 #![tactic(auto)]
+
 ghost use Rattle.std.specs.Prelude.{◌≡◌, [], ◌∷◌, ◌++◌, ◌+◌, ◌*◌, ◌%◌, ◌≤◌, length, take, drop};
 ghost use Rattle.buffer.specs.Page.{page, put_all};
 ghost use Rattle.definitions.specs.Run.{row_width, overlay};
