@@ -1,5 +1,6 @@
 // State: the whole bench after the first records of a schedule, as bytes in a lent buffer (docs/STATE.md).
 #![tactic(auto)]
+
 ghost use Rattle.std.specs.Prelude.{◌≡◌, [], ◌∷◌, ℕ, ◌+◌, ◌*◌, ◌<◌, ◌≤◌, eqb, length, get_or};
 ghost use Rattle.container.specs.Choice.{ite};
 ghost use Rattle.buffer.specs.Page.{page, put_all};
