@@ -1,5 +1,5 @@
 -- In the run of a file that asks for no query none is ever under way: no thread stands at 60 or above or has a frame, no node is a range base, no
--- store is shown and none is set (`unasked`); so it is in version 1 (`version-1`). The code lends such a run no memory for queries. It rests on
+-- store is shown and none is set (`unasked`); so it is in version 1 (`version_1`). The code lends such a run no memory for queries. It rests on
 -- QuerylessSteps.antt.
 use mathlib.Core.Path.{◌≡◌, refl, ◌∙◌, ap}
 use mathlib.Core.Logic.{◌≢◌}

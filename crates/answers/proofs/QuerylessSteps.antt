@@ -1,5 +1,5 @@
 -- A step of a thread that neither asks nor helps a query, where no node is a range base: the thread stays so, and no range base is made
--- (`level-at`). What is claimed of a whole run stands here too (`Queryless`). Assumes nothing.
+-- (`level_at`). What is claimed of a whole run stands here too (`Queryless`). Assumes nothing.
 use mathlib.Core.Path.{◌≡◌, refl, sym, ◌∙◌, subst}
 use mathlib.Core.Logic.{◌≢◌}
 use mathlib.Core.Bool.{Bool, true, false}

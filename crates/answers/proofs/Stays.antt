@@ -1,4 +1,4 @@
--- What a thread knows outlives what another thread's effect leaves (`Rely`): at each place (`stays`), and of its pile of frames (`pile-stays`).
+-- What a thread knows outlives what another thread's effect leaves (`Rely`): at each place (`stays`), and of its pile of frames (`pile_stays`).
 use mathlib.Core.Path.{◌≡◌, refl, sym, ◌∙◌, ap, subst}
 use mathlib.Core.Logic.{◌≢◌, inl, inr}
 use mathlib.Core.Bool.{Bool, true, false}

@@ -101,6 +101,6 @@ length_frames : (h : ℕ → Frame) (t d : ℕ) → length (frames_of h t d) ≡
 length_frames h t zero = refl
 length_frames h t (suc d) = ap suc (length_frames h t d)
 
--- as reach-frames says
+-- as reach_frames says
 pub few_frames : (h : ℕ → Frame) (t d : ℕ) (fs : List Frame) → fs ≡ frames_of h t d → length fs ≤ 4 → d ≤ 4
 few_frames h t d fs e l = let k : length fs ≡ d = ap (λ (y : List Frame). length y) e ∙ length_frames h t d in omega arith

@@ -1,4 +1,4 @@
-// The stack of a frame. That it has room for a push is known of every run (answers, `reach-push`; queries, `query-fits`).
+// The stack of a frame. That it has room for a push is known of every run (answers, `reach_push`; queries, `query_fits`).
 ghost use Rattle.std.specs.Prelude.{◌≡◌, ◌-◌, ◌<◌, ◌≤◌, []};
 ghost use Rattle.container.specs.Choice.{upd};
 ghost use Rattle.definitions.specs.Frames.{pushed, in_hand, popping, with_stack, top_of, tail_of};

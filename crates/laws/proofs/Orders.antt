@@ -1,5 +1,5 @@
 -- Lists of jobs on different stations, run one after another, end the same in any order: what the tree holds in the end and each job's answer
--- are told from what it held at first (`all-run`), and that does not change when two neighbours are swapped. It rests on Alone.antt.
+-- are told from what it held at first (`all_run`), and that does not change when two neighbours are swapped. It rests on Alone.antt.
 use mathlib.Core.Path.{◌≡◌, refl, sym, ◌∙◌, ap, subst}
 use mathlib.Core.Logic.{◌≢◌}
 use mathlib.Core.Bool.{Bool, true, false, cond}

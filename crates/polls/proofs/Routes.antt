@@ -1,6 +1,6 @@
--- A run makes at most 63 routes (`few-routes`): a live route has a key of its own, which was ever in; a dead one has a closed main of its own; and what
+-- A run makes at most 63 routes (`few_routes`): a live route has a key of its own, which was ever in; a dead one has a closed main of its own; and what
 -- they cost is in Worth.antt. It rests on the invariant's ranges and marks, and on its `linked`: every route was in the tree. So a lookup has its row by its
--- 64th step: at every step but the first and the last it reads a route with more routes below its number (`lookups-end-sooner`).
+-- 64th step: at every step but the first and the last it reads a route with more routes below its number (`lookups_end_sooner`).
 use mathlib.Core.Path.{◌≡◌, refl, sym, ◌∙◌, ap, subst}
 use mathlib.Core.Logic.{◌≢◌, inl, inr}
 use mathlib.Core.Bool.{Bool, true, false, not, ◌&&◌, true≢false, false≢true}

@@ -1,4 +1,4 @@
--- The one_writer profile, over every list of records (definitions/specs/Profile.antt, `OneWriter`): only thread 0 writes, the others look up and
+-- The one-writer profile, over every list of records (definitions/specs/Profile.antt, `OneWriter`): only thread 0 writes, the others look up and
 -- leave the store as it is.
 use mathlib.Core.Path.{◌≡◌, refl, sym, ◌∙◌, ap, subst}
 use mathlib.Core.Logic.{◌≢◌}

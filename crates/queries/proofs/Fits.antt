@@ -1,5 +1,5 @@
--- What every run gives the code at the places 60 to 82: fixed memory is never too small for it. Rests on crate answers: `reach-frames`,
--- `reach-entries`.
+-- What every run gives the code at the places 60 to 82: fixed memory is never too small for it. Rests on crate answers: `reach_frames`,
+-- `reach_entries`.
 use mathlib.Core.Path.{◌≡◌, subst}
 use mathlib.Core.List.{List, [], ◌∷◌}
 use Prim.Native.Nat.{ℕ, ◌≤◌}

@@ -1,4 +1,4 @@
--- A query's thread has a frame at every moment of every run (`query-framed`), so that none is at 1, 2, 4 or 5 (`no-query`). Rests on crate
+-- A query's thread has a frame at every moment of every run (`query_framed`), so that none is at 1, 2, 4 or 5 (`no_query`). Rests on crate
 -- answers: a thread at one of these has no frame (`Know`).
 use mathlib.Core.Path.{◌≡◌, refl, sym, ap, ◌∙◌, subst}
 use mathlib.Core.Bool.{Bool, true, false}

@@ -1,4 +1,4 @@
--- A step of a query's thread that has a frame leaves it one (`step-leaves`). Assumes nothing.
+-- A step of a query's thread that has a frame leaves it one (`step_leaves`). Assumes nothing.
 use mathlib.Core.Path.{◌≡◌, sym, ap, ◌∙◌}
 use mathlib.Core.Bool.{Bool, true, false, true≢false}
 use mathlib.Core.List.{List, [], ◌∷◌}

@@ -1,5 +1,5 @@
 -- One record more, of a query: its start, and a step at a place from 60 on; what the loop holds after it. Rests on crate answers, by
--- `query-fits`: a frame's stack has room.
+-- `query_fits`: a frame's stack has room.
 use mathlib.Core.Path.{◌≡◌, refl, sym, ap, ◌∙◌, subst}
 use mathlib.Core.Bool.{not}
 use mathlib.Core.List.{List, [], ◌∷◌}

@@ -1,5 +1,5 @@
 -- One record more: what the loop holds after it, by what the record asks of its thread; and the end of the records. Rests on crate answers:
--- `reach-frames`, a thread has at most four frames; `reach-count`, `reach-take`, the count of the stop is at most 4 and never below 0.
+-- `reach_frames`, a thread has at most four frames; `reach_count`, `reach_take`, the count of the stop is at most 4 and never below 0.
 use mathlib.Core.Path.{◌≡◌, refl, sym, ap, ◌∙◌, subst}
 use mathlib.Core.Bool.{Bool, true, false}
 use mathlib.Core.List.{List, [], ◌∷◌}

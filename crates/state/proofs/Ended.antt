@@ -1,5 +1,5 @@
 -- What has been written of a run that has ended is its state, and the buffer holds it. Rests on crate answers: at most 256 numbers and 64 stores
--- (`reach-used`, `reach-shown`), at most four frames a thread (`reach-frames`).
+-- (`reach_used`, `reach_shown`), at most four frames a thread (`reach_frames`).
 use mathlib.Core.Path.{◌≡◌, refl, sym, ap, ◌∙◌, fun_ext}
 use mathlib.Core.Bool.{Bool, true, false}
 use mathlib.Core.List.{List, [], ◌∷◌, ◌++◌}

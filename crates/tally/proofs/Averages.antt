@@ -1,5 +1,5 @@
 -- Euclid's number divides both and is the greatest that does; an average's two numbers have no common divisor, and their ratio is steps
--- over operations (`average-rule`). Assumes nothing.
+-- over operations (`average_rule`). Assumes nothing.
 use mathlib.Core.Path.{◌≡◌, refl, sym, ap, ◌∙◌}
 use mathlib.Core.Logic.{◌≢◌}
 use mathlib.Core.Bool.{Bool, true, false}

@@ -1,4 +1,4 @@
--- Every refusal of Run is below 17 and none is 6 (`refusals-rule`), so each is counted at its place. Assumes nothing.
+-- Every refusal of Run is below 17 and none is 6 (`refusals_rule`), so each is counted at its place. Assumes nothing.
 use mathlib.Core.Path.{◌≡◌, refl, sym, ap, ◌∙◌}
 use mathlib.Core.Logic.{◌≢◌}
 use mathlib.Core.Bool.{Bool, true, false}

@@ -1,5 +1,5 @@
--- The tally of many files, begun empty, is the sum of the single tallies of those not refused with 19 (`season-rule`); and where none is,
--- any other order of the files refuses none and gives the same tally (`order-rule`). Assumes nothing.
+-- The tally of many files, begun empty, is the sum of the single tallies of those not refused with 19 (`season_rule`); and where none is,
+-- any other order of the files refuses none and gives the same tally (`order_rule`). Assumes nothing.
 use mathlib.Core.Path.{◌≡◌, refl, sym, ap, ◌∙◌}
 use mathlib.Core.Bool.{Bool, true, false, ◌&&◌}
 use mathlib.Core.List.{List, [], ◌∷◌}

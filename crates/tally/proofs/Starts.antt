@@ -1,4 +1,4 @@
--- Every accepted start has an answer or is unfinished at the end: `starts-rule`. Of each action a run has as many starts as answers and busy
+-- Every accepted start has an answer or is unfinished at the end: `starts_rule`. Of each action a run has as many starts as answers and busy
 -- threads together, at every moment. It rests on `did` of crate passing: a step that adds no row leaves its thread busy, with its action.
 use mathlib.Core.Path.{◌≡◌, refl, sym, ap, ◌∙◌}
 use mathlib.Core.Logic.{◌≢◌, ◌⊎◌, inl, inr}

@@ -1,4 +1,4 @@
--- A place that is no action's and no refusal's gets nothing from any file: `unused-rule`. Assumes nothing.
+-- A place that is no action's and no refusal's gets nothing from any file: `unused_rule`. Assumes nothing.
 use mathlib.Core.Path.{◌≡◌, refl, sym, ap, ap₂, ◌∙◌}
 use mathlib.Core.Logic.{◌≢◌, ◌⊎◌, inl, inr}
 use mathlib.Core.Bool.{Bool, true, false}
