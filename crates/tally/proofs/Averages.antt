@@ -9,7 +9,6 @@ use native.Mathlib.Nat.{mod-lt, mul_comm, mul_assoc, dvd_refl, dvd-zero, dvd-mod
 use borrow.Author.Tests.{eqb-true, eqb-false, eq-eqb, ne_eqb}
 use lib.Dec.{eqb}
 use Rattle.container.specs.Choice.{ite}
-use Rattle.season.specs.declared.Average.{Average}
 use Rattle.season.specs.Season.{euclid, gcd, ratio, average, Lowest, SameRatio, AverageRule}
 
 -- ---- Euclid

@@ -1,23 +1,19 @@
 -- One file added to a tally: what the code's parts come to, where the counts are added as they come and where they are added at the end.
 -- Assumes nothing.
-use mathlib.Core.Path.{◌≡◌, refl, sym, ap, ap₂, ◌∙◌, fun_ext}
-use mathlib.Core.Logic.{◌≢◌}
+use mathlib.Core.Path.{◌≡◌, refl, sym, ap, ◌∙◌, fun_ext}
 use mathlib.Core.Bool.{Bool, true, false}
 use mathlib.Core.List.{List}
-use Prim.Native.Nat.{ℕ, zero, suc, ◌+◌, ◌-◌, ◌*◌, ◌/◌, ◌≤◌, ◌<◌}
+use Prim.Native.Nat.{ℕ, zero, suc, ◌+◌, ◌-◌, ◌*◌, ◌≤◌, ◌<◌}
 use native.Mathlib.Omega.{arith}
-use native.Mathlib.Decide.{ℕ_discrete}
-use borrow.Author.Tests.{eq-eqb, ne_eqb}
 use lib.Dec.{eqb}
 use lib.ListN.{length, get_or, replicate}
 use Rattle.container.specs.Choice.{ite}
 use Rattle.definitions.specs.Versions.{version, width, row_width}
 use Rattle.definitions.specs.Run.{run_report, run_buffer}
 use Rattle.definitions.specs.declared.Report.{Report}
-use Rattle.season.specs.declared.Tallied.{Tallied}
-use Rattle.season.specs.Tally.{Tally, empty, just, sum, refused_once, records_tally, file_tally, within, fits, added, add_refusal, numbers, laid, tally_report, tally_numbers}
+use Rattle.season.specs.Tally.{Tally, empty, just, sum, refused_once, records_tally, file_tally, fits, added, add_refusal, numbers, tally_report, tally_numbers}
 use Rattle.tally.specs.Walk.{packed, lanes, begun, walked, answered, finished, closing, Room, Low, Spare, Words, Told}
-use Rattle.tally.proofs.Sums.{sum_at, join_sum, sum_assoc, sum_none, none_sum}
+use Rattle.tally.proofs.Sums.{sum_assoc, sum_none, none_sum}
 use Rattle.tally.proofs.Laid.{laid_list}
 use Rattle.tally.proofs.Walks.{sum_most, just_most, walked_most, answered_most}
 use Rattle.tally.proofs.Whole.{row_wide, Sound, records_short, sound}

@@ -1,14 +1,13 @@
 -- A tally as its 65 numbers lie in memory: what is read back is the tally, and adding to the list is adding to the tally. Assumes nothing.
 use mathlib.Core.Path.{◌≡◌, refl, sym, ap, ap₂, ◌∙◌}
 use mathlib.Core.Bool.{Bool, true, false, ◌&&◌}
-use mathlib.Core.List.{List, []}
-use Prim.Native.Nat.{ℕ, zero, suc, ◌+◌, ◌<◌, ◌≤◌, ◌^◌}
+use mathlib.Core.List.{List}
+use Prim.Native.Nat.{ℕ, zero, suc, ◌+◌, ◌<◌, ◌^◌}
 use native.Mathlib.Omega.{arith}
-use lib.Dec.{eqb, ltb}
-use lib.ListN.{length, get_or, get_or-eq_default}
+use lib.Dec.{ltb}
+use lib.ListN.{length, get_or}
 use lib.Seq.{ext_get_or}
 use Rattle.container.specs.Choice.{ite}
-use Rattle.season.specs.declared.Tallied.{Tallied}
 use Rattle.season.specs.Tally.{Tally, join, sum, file_tally, within, fits, added, add_refusal, numbers, listed, laid, tally_report, tally_numbers}
 
 listed_length : (n i : ℕ) (t : Tally) → length (listed n i t) ≡ n

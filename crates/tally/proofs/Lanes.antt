@@ -2,18 +2,15 @@
 -- Assumes nothing.
 use mathlib.Core.Path.{◌≡◌, refl, sym, ap, ap₂, ◌∙◌}
 use mathlib.Core.Logic.{◌≢◌}
-use mathlib.Core.Bool.{Bool, true, false}
-use Prim.Native.Nat.{ℕ, zero, suc, ◌+◌, ◌-◌, ◌*◌, ◌/◌, ◌%◌, ◌^◌, ◌≤◌, ◌<◌}
+use Prim.Native.Nat.{ℕ, zero, suc, ◌+◌, ◌*◌, ◌/◌, ◌%◌, ◌^◌, ◌≤◌, ◌<◌}
 use native.Mathlib.Omega.{arith}
 use native.Mathlib.Decide.{ℕ_discrete}
 use borrow.Author.Tests.{eq-eqb, ne_eqb}
-use lib.Dec.{eqb}
 use Rattle.container.specs.Choice.{ite, upd}
-use Rattle.season.specs.Tally.{Tally, empty, just, sum, taken}
+use Rattle.season.specs.Tally.{Tally, empty, sum, taken}
 use Rattle.tally.specs.Walk.{packed, closed, closing}
 use Rattle.tally.proofs.Sums.{sum_none, just_none}
 use Rattle.tally.proofs.Threads.{four}
-use Rattle.tally.proofs.Walks.{upd_same, upd_other}
 
 pub unit_is : (t : ℕ) → t < 4 → (1 * 2 ^ (16 * t)) % 2 ^ 64 ≡ 65536 ^ t
 unit_is zero h = refl

@@ -1,7 +1,6 @@
 -- What the loops of the pass hold, and one turn more of each: the records, the rows, the last operations. Assumes nothing.
 use mathlib.Core.Path.{◌≡◌, refl, sym, ap, ap₂, ◌∙◌}
 use mathlib.Core.Logic.{◌≢◌}
-use mathlib.Core.Bool.{Bool, true, false}
 use mathlib.Core.List.{List}
 use Prim.Native.Nat.{ℕ, zero, suc, ◌+◌, ◌-◌, ◌*◌, ◌/◌, ◌%◌, ◌^◌, ◌≤◌, ◌<◌}
 use native.Mathlib.Omega.{arith}
@@ -9,10 +8,9 @@ use native.Mathlib.Numerals.{add-one}
 use native.Mathlib.Decide.{ℕ_discrete}
 use native.Mathlib.Nat.{mul-suc, mul-le-mul_left, mod-eq_of_lt}
 use borrow.Author.Tests.{eq-eqb, ne_eqb}
-use lib.Dec.{eqb}
-use lib.ListN.{length, get_or}
+use lib.ListN.{get_or}
 use Rattle.container.specs.Choice.{ite, upd}
-use Rattle.season.specs.Tally.{starts, unfinished, place, Tally, just, sum, taken, numbers}
+use Rattle.season.specs.Tally.{Tally, just, sum, taken, numbers}
 use Rattle.tally.specs.Walk.{packed, first_byte, thread_of, lanes, begun, walked, answer_place, answered, finished, closed, closing, Room, lane_in, Ready, Turned, Held}
 use Rattle.tally.proofs.Sums.{sum_assoc, sum_none}
 use Rattle.tally.proofs.Walks.{lanes_step, lanes_start, begun_step, begun_start, walked_step, walked_start, sum_most, taken_most, just_most, lanes_most, begun_most, walked_most, answered_most, finished_most}

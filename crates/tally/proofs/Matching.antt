@@ -2,15 +2,15 @@
 -- idle has its last operation's steps still in its lane, and a busy thread's operation has no row yet. It rests on `did` of crate passing:
 -- a step that adds no row leaves its thread busy, with its action.
 use mathlib.Core.Path.{◌≡◌, refl, sym, ap, ap₂, ◌∙◌}
-use mathlib.Core.Logic.{◌≢◌, ◌⊎◌, inl, inr}
+use mathlib.Core.Logic.{◌≢◌, inl, inr}
 use mathlib.Core.Bool.{Bool, true, false, true≢false}
-use mathlib.Core.List.{List, [], ◌∷◌, ◌++◌, append-nil}
+use mathlib.Core.List.{List, [], ◌++◌, append-nil}
 use Prim.Native.Nat.{ℕ, zero, suc, ◌+◌, ◌*◌, ◌/◌, ◌%◌, ◌≤◌, ◌<◌}
 use native.Mathlib.Omega.{arith}
 use native.Mathlib.Decide.{ℕ_discrete}
 use borrow.Author.Tests.{eq-eqb, ne_eqb}
 use lib.Dec.{eqb}
-use lib.ListN.{length, get_or}
+use lib.ListN.{length}
 use Rattle.container.specs.Choice.{ite, upd}
 use Rattle.definitions.specs.Threads.{Thread, idle}
 use Rattle.definitions.specs.Bench.{Bench}
@@ -18,7 +18,7 @@ use Rattle.definitions.specs.Answers.{answer_number}
 use Rattle.definitions.specs.Records.{Row, no_row, row, Result, refused, carried, is_idle, record_step, action_number}
 use Rattle.definitions.specs.Versions.{version, stop_of, width, row_width}
 use Rattle.definitions.specs.Schedule.{Rec, record_at}
-use Rattle.definitions.specs.Run.{Progress, begin, wider_row, row_bytes, row_count, advance_by, advance, after}
+use Rattle.definitions.specs.Run.{Progress, begin, row_bytes, advance_by, after}
 use Rattle.definitions.specs.declared.Action.{Action}
 use Rattle.definitions.specs.declared.Action.TheVariants.{Lookup, Insert, Remove, Split, Join, Query}
 use Rattle.definitions.specs.declared.Answer.{Answer}
@@ -29,7 +29,7 @@ use Rattle.run.proofs.Rows.{rows_length}
 use Rattle.season.specs.Tally.{starts, place, Tally, empty, just, sum, Ledger, ledger_of, column, taken, entered, entered_by, enter, ledger}
 use Rattle.tally.specs.Walk.{first_byte, thread_of, lanes, begun, walked, answer_place, answered, finished}
 use Rattle.tally.proofs.Sums.{sum_comm, sum_assoc, sum_none, none_sum, sum_swap, just_none}
-use Rattle.tally.proofs.Threads.{four, others, four_split, others_same, four_same}
+use Rattle.tally.proofs.Threads.{four, others, four_split, others_same}
 use Rattle.tally.proofs.RowsRead.{answered_more, finished_more}
 use Rattle.tally.proofs.Walks.{upd_same, upd_other, lanes_step, lanes_start, begun_step, begun_start, walked_step, walked_start}
 

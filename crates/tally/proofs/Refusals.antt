@@ -1,25 +1,20 @@
 -- Every refusal of Run is below 17 and none is 6 (`refusals_rule`), so each is counted at its place. Assumes nothing.
-use mathlib.Core.Path.{◌≡◌, refl, sym, ap, ◌∙◌}
 use mathlib.Core.Logic.{◌≢◌}
 use mathlib.Core.Bool.{Bool, true, false}
 use mathlib.Core.List.{List}
-use Prim.Native.Nat.{ℕ, zero, suc, ◌+◌, ◌*◌, ◌/◌, ◌%◌, ◌<◌}
+use Prim.Native.Nat.{ℕ, zero, suc, ◌/◌, ◌%◌, ◌<◌}
 use native.Mathlib.Omega.{arith}
 use native.Mathlib.Decide.{ℕ_discrete}
-use lib.Dec.{eqb, ltb}
-use lib.ListN.{length}
 use Rattle.container.specs.Choice.{ite}
 use Rattle.definitions.specs.Threads.{Turn, Moves, Finishes, Finds, Full, NoStore}
 use Rattle.definitions.specs.Bench.{Bench, sight_of}
 use Rattle.definitions.specs.Places.{place_of}
 use Rattle.definitions.specs.Steps.{step}
-use Rattle.definitions.specs.Records.{Result, refused, carried, taken, is_idle, stepped, depth_refusal, started, asked, acted, record_step}
-use Rattle.definitions.specs.Versions.{known, width, row_room}
+use Rattle.definitions.specs.Records.{Result, refused, carried, taken, stepped, depth_refusal, started, asked, acted, record_step}
 use Rattle.definitions.specs.Schedule.{Rec, record_at, count_of, file_refusal}
-use Rattle.definitions.specs.Run.{Progress, report_of, refused_report, advance_by, after, ended, run_refusal, run_report}
+use Rattle.definitions.specs.Run.{Progress, advance_by, after, run_refusal, run_report}
 use Rattle.definitions.specs.declared.Action.{Action}
 use Rattle.definitions.specs.declared.Action.TheVariants.{Lookup, Insert, Remove, Split, Join, Query}
-use Rattle.definitions.specs.declared.Report.{Report}
 use Rattle.passing.proofs.RunRows.{advance_on, advance_off}
 use Rattle.season.specs.Season.{RefusalsRule}
 use Rattle.tally.proofs.Whole.{report_on, report_off}

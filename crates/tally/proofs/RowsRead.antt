@@ -1,13 +1,13 @@
 -- What the rows say depends on their bytes alone, and a row that is appended is read after the others. Assumes nothing.
-use mathlib.Core.Path.{◌≡◌, refl, sym, ap, ap₂, ◌∙◌}
-use mathlib.Core.List.{List, [], ◌∷◌, ◌++◌}
+use mathlib.Core.Path.{◌≡◌, refl, ap, ap₂, ◌∙◌}
+use mathlib.Core.List.{List, ◌∷◌, ◌++◌}
 use Prim.Native.Nat.{ℕ, zero, suc, ◌+◌, ◌*◌, ◌%◌, ◌≤◌, ◌<◌}
 use native.Mathlib.Omega.{arith}
 use native.Mathlib.Nat.{mul-suc}
 use lib.ListN.{length, get_or, get_or-append}
 use lib.Seq.{get_or-append-add}
 use Rattle.container.specs.Choice.{upd}
-use Rattle.season.specs.Tally.{Tally, just, sum}
+use Rattle.season.specs.Tally.{just, sum}
 use Rattle.tally.specs.Walk.{answer_place, answered, finished}
 
 module _ (l k : List ℕ) (w : ℕ) (wide : 4 ≤ w) where

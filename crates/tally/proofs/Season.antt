@@ -3,14 +3,14 @@
 use mathlib.Core.Path.{◌≡◌, refl, sym, ap, ◌∙◌}
 use mathlib.Core.Bool.{Bool, true, false, ◌&&◌}
 use mathlib.Core.List.{List, [], ◌∷◌}
-use Prim.Native.Nat.{ℕ, zero, suc, ◌+◌, ◌≤◌, ◌<◌, ◌^◌}
+use Prim.Native.Nat.{ℕ, zero, suc, ◌^◌}
 use native.Mathlib.Omega.{arith}
 use borrow.Author.Tests.{ltb-true, lt-ltb}
 use lib.Dec.{eqb, ltb}
 use Rattle.container.specs.Choice.{ite}
 use Rattle.season.specs.Tally.{Tally, empty, sum, within, fits, added, add_refusal, laid, tally_numbers}
 use Rattle.season.specs.Season.{Lent, single, refusal_at, season, kept, total, blank, SeasonRule, NoneRefused, Reordered, same, keep, swap, then, OrderRule}
-use Rattle.tally.proofs.Sums.{sum_at, join_least, sum_comm, sum_assoc, sum_none, none_sum, sum_swap}
+use Rattle.tally.proofs.Sums.{sum_at, join_least, sum_assoc, sum_none, none_sum, sum_swap}
 use Rattle.tally.proofs.Laid.{tally_back, report_back}
 
 pub both : (a b : Bool) → (a && b) ≡ true → (a ≡ true) × (b ≡ true)

@@ -1,29 +1,27 @@
 -- Every accepted start has an answer or is unfinished at the end: `starts_rule`. Of each action a run has as many starts as answers and busy
 -- threads together, at every moment. It rests on `did` of crate passing: a step that adds no row leaves its thread busy, with its action.
 use mathlib.Core.Path.{◌≡◌, refl, sym, ap, ◌∙◌}
-use mathlib.Core.Logic.{◌≢◌, ◌⊎◌, inl, inr}
+use mathlib.Core.Logic.{◌≢◌, inl, inr}
 use mathlib.Core.Bool.{Bool, true, false}
 use mathlib.Core.List.{List, [], ◌∷◌}
 use Prim.Native.Nat.{ℕ, zero, suc, ◌+◌, ◌/◌, ◌%◌, ◌<◌}
 use native.Mathlib.Omega.{arith}
 use native.Mathlib.Decide.{ℕ_discrete}
-use borrow.Author.Tests.{eq-eqb, ne_eqb}
 use lib.Dec.{eqb}
 use Rattle.container.specs.Choice.{ite, upd}
 use Rattle.definitions.specs.Threads.{Thread, idle}
 use Rattle.definitions.specs.Bench.{Bench}
 use Rattle.definitions.specs.Answers.{is_yes}
-use Rattle.definitions.specs.Records.{Row, no_row, row, Result, refused, carried, is_idle, record_step, action_number}
+use Rattle.definitions.specs.Records.{no_row, row, Result, refused, carried, is_idle, record_step, action_number}
 use Rattle.definitions.specs.Schedule.{Rec, record_at, count_of}
 use Rattle.definitions.specs.Versions.{stop_of}
 use Rattle.definitions.specs.Run.{Progress, begin, advance_by, after, ended, run_refusal, run_report}
 use Rattle.definitions.specs.declared.Answer.{Answer}
 use Rattle.passing.proofs.Did.{Did, did, Started, Moved, Ended}
 use Rattle.passing.proofs.RunRows.{advance_on, advance_off}
-use Rattle.season.specs.Tally.{Field, starts, unfinished, place, Tally, empty, just, sum, Ledger, ledger_of, column, taken, entered, entered_by, ledger, busy_with, left_busy, refused_once, records_tally, file_tally}
+use Rattle.season.specs.Tally.{Field, starts, unfinished, place, Tally, empty, just, sum, Ledger, ledger_of, column, taken, entered_by, ledger, busy_with, left_busy, refused_once, records_tally, file_tally}
 use Rattle.season.specs.Season.{Lent, single, total, StartsRule}
 use Rattle.tally.proofs.Sums.{sum_at, join_sum, just_same, just_other}
-use Rattle.tally.proofs.Walks.{taken_most}
 use Rattle.tally.proofs.Matching.{number_some, number_small, entered_start, enter_on, enter_off}
 use Rattle.tally.proofs.Whole.{records_on, records_off}
 

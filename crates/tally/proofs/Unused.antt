@@ -1,6 +1,6 @@
 -- A place that is no action's and no refusal's gets nothing from any file: `unused_rule`. Assumes nothing.
-use mathlib.Core.Path.{◌≡◌, refl, sym, ap, ap₂, ◌∙◌}
-use mathlib.Core.Logic.{◌≢◌, ◌⊎◌, inl, inr}
+use mathlib.Core.Path.{◌≡◌, refl, ap, ◌∙◌}
+use mathlib.Core.Logic.{◌≢◌, inl, inr}
 use mathlib.Core.Bool.{Bool, true, false}
 use mathlib.Core.List.{List}
 use Prim.Native.Nat.{ℕ, zero, suc, ◌+◌, ◌/◌, ◌%◌, ◌<◌}
@@ -10,12 +10,12 @@ use lib.Dec.{eqb}
 use Rattle.container.specs.Choice.{ite}
 use Rattle.definitions.specs.Threads.{Thread}
 use Rattle.definitions.specs.Bench.{Bench}
-use Rattle.definitions.specs.Records.{Row, no_row, row, Result, refused, carried, is_idle, record_step, action_number}
-use Rattle.definitions.specs.Schedule.{Rec, record_at, count_of}
-use Rattle.definitions.specs.Run.{Progress, after, ended, run_refusal, run_report}
+use Rattle.definitions.specs.Records.{no_row, row, Result, refused, carried, is_idle, record_step, action_number}
+use Rattle.definitions.specs.Schedule.{record_at, count_of}
+use Rattle.definitions.specs.Run.{after, ended, run_refusal, run_report}
 use Rattle.definitions.specs.declared.Action.{Action}
 use Rattle.passing.proofs.Did.{Did, did}
-use Rattle.season.specs.Tally.{Field, starts, unfinished, steps, largest, place, refusal_place, Tally, empty, just, sum, Ledger, column, taken, entered_by, ledger, busy_with, left_busy, refused_once, records_tally, file_tally}
+use Rattle.season.specs.Tally.{Field, starts, unfinished, steps, largest, place, Tally, empty, just, sum, Ledger, column, taken, entered_by, ledger, busy_with, left_busy, refused_once, records_tally, file_tally}
 use Rattle.season.specs.Season.{UnusedRule}
 use Rattle.tally.proofs.Sums.{sum_at, join_zero, just_other}
 use Rattle.tally.proofs.Matching.{number_some, number_small, entered_start, enter_on, enter_off}

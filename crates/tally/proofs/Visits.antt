@@ -15,7 +15,7 @@ use lib.Count.{count_trailing_zeros}
 use lib.ListN.{length, get_or}
 use Rattle.container.specs.Choice.{ite}
 use Rattle.season.specs.Tally.{Tally, empty, just, sum, taken, numbers}
-use Rattle.tally.specs.Walk.{packed, first_byte, thread_of, lanes, lane_in, Ready, Turned, Visited, Held, Reached, Onward, Low}
+use Rattle.tally.specs.Walk.{first_byte, thread_of, lanes, lane_in, Ready, Turned, Visited, Held, Reached, Onward, Low}
 use Rattle.tally.specs.Marks.{Width, mark, bits, step_after, step_word}
 use Rattle.tally.proofs.Bits.{bits_same, Found, found, none_set}
 use Rattle.tally.proofs.Marking.{mark_low}

@@ -1,17 +1,15 @@
 -- One record more in the walk over the records: its lanes, its starts and its counts, by whether it is a step; and how large they can be.
 -- Assumes nothing.
-use mathlib.Core.Path.{◌≡◌, refl, sym, ap, ◌∙◌}
+use mathlib.Core.Path.{◌≡◌, refl}
 use mathlib.Core.Logic.{◌≢◌}
-use mathlib.Core.Bool.{Bool, true, false}
 use mathlib.Core.List.{List}
-use Prim.Native.Nat.{ℕ, zero, suc, ◌+◌, ◌*◌, ◌/◌, ◌%◌, ◌≤◌, ◌<◌}
+use Prim.Native.Nat.{ℕ, zero, suc, ◌+◌, ◌*◌, ◌/◌, ◌%◌, ◌≤◌}
 use native.Mathlib.Omega.{arith}
 use native.Mathlib.Decide.{ℕ_discrete}
 use borrow.Author.Tests.{eq-eqb, ne_eqb}
-use lib.Dec.{eqb}
 use lib.ListN.{get_or}
 use Rattle.container.specs.Choice.{ite, upd}
-use Rattle.season.specs.Tally.{starts, place, Tally, empty, just, sum, taken}
+use Rattle.season.specs.Tally.{starts, place, Tally, just, sum, taken}
 use Rattle.tally.specs.Walk.{first_byte, thread_of, lanes, begun, walked, answer_place, answered, finished}
 use Rattle.tally.proofs.Sums.{sum_at, join_most, just_same, just_other}
 

@@ -7,20 +7,19 @@ use Prim.Native.Nat.{ℕ, ◌+◌, ◌-◌, ◌*◌, ◌/◌, ◌%◌, ◌≤◌
 use native.Mathlib.Omega.{arith}
 use native.Mathlib.Decide.{ℕ_discrete}
 use native.Mathlib.Nat.{mul-zero, mul-le-mul_left}
-use borrow.Author.Tests.{eqb-true, eq-eqb, ne_eqb, lt-ltb}
+use borrow.Author.Tests.{eqb-true, eq-eqb, ne_eqb}
 use lib.Dec.{eqb, ltb}
 use lib.ListN.{length, get_or, drop, length-append, get_or-append}
 use Rattle.container.specs.Choice.{ite}
 use Rattle.definitions.specs.Threads.{Thread}
-use Rattle.definitions.specs.Bench.{Bench}
 use Rattle.definitions.specs.Records.{is_idle, action_number}
 use Rattle.definitions.specs.Versions.{version, width, row_width, row_room}
 use Rattle.definitions.specs.Schedule.{count_of, file_refusal}
-use Rattle.definitions.specs.Run.{after, ended, report_of, refused_report, overlay, run_refusal, run_report, run_buffer}
+use Rattle.definitions.specs.Run.{ended, report_of, refused_report, overlay, run_refusal, run_report, run_buffer}
 use Rattle.definitions.specs.declared.Report.{Report}
 use Rattle.schedule.specs.Proper.{Proper}
 use Rattle.schedule.proofs.Laws.{proper, short}
-use Rattle.run.proofs.Rows.{rows_length, rows_fit, done_few, finished_few}
+use Rattle.run.proofs.Rows.{rows_length, done_few, finished_few}
 use Rattle.season.specs.Tally.{unfinished, place, Tally, empty, just, sum, taken, ledger, busy_with, left_busy, records_tally}
 use Rattle.tally.specs.Walk.{packed, lanes, begun, walked, answered, finished, closed, closing, Low, Told}
 use Rattle.tally.proofs.Sums.{sum_assoc, sum_none, none_sum}

@@ -3,7 +3,6 @@
 use Rattle.std.specs.Prelude.{ℕ, zero, suc, ◌+◌, ◌-◌, ◌*◌, ◌/◌, ◌%◌, ◌^◌, ◌<◌, ◌≤◌, ◌≡◌, List, eqb, length, get_or}
 use Rattle.container.specs.Choice.{ite, upd}
 use Rattle.definitions.specs.Run.{run_report, run_buffer}
-use Rattle.definitions.specs.declared.Report.{Report}
 use Rattle.season.specs.Tally.{starts, unfinished, place, Tally, empty, just, sum, taken, numbers}
 use Rattle.tally.specs.Marks.{Width, mark, bits}
 

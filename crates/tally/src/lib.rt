@@ -2,6 +2,7 @@
 // are read off the schedule: all steps of a thread between two of its starts are the first one's. A count is added where it stands, unless
 // some number of the tally is so large that it might pass 32 bits: then the file is counted apart, and added where nothing passes.
 #![tactic(auto)]
+
 ghost use Rattle.std.specs.Prelude.{◌≡◌, true, ℕ, ◌+◌, ◌-◌, ◌*◌, ◌/◌, ◌%◌, ◌^◌, ◌<◌, ◌≤◌, length, get_or, eqb};
 ghost use Rattle.definitions.specs.Run.{run_buffer};
 ghost use Rattle.season.specs.Tally.{join, numbers, just, sum, taken, refused_once, fits, file_tally, tally_report, tally_numbers};
