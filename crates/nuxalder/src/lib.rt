@@ -1,5 +1,6 @@
 // Run, the one-writer run, List, State, Merge, History, Judge and Tally for a C host; include/nuxalder.h says what each number means.
 #![tactic(auto)]
+
 ghost use Rattle.std.specs.Prelude.{◌≡◌, length};
 ghost use Rattle.definitions.specs.Run.{run_report, run_buffer};
 ghost use Rattle.definitions.specs.Profile.{profile_report, profile_buffer};
