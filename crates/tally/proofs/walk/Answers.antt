@@ -11,4 +11,4 @@ wide j = elim j.if-width-ne2.branch [ then-width-ne2+else-width-ne4 e ↦ inr (o
 
 pub walk_marked-requires : goal.walk_marked-requires
 walk_marked-requires c =
-    (omega (arith, c.if-done-lt385.false), (wide (goal.at.walk_marked-requires c).Joined-width-ne2, c.requires.1))
+    (omega arith, (wide (goal.at.walk_marked-requires c).Joined-width-ne2, c.requires.1))
