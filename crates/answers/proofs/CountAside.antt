@@ -1,5 +1,6 @@
 -- What a thread's notes say of the count of the stop (definitions/specs/Count.antt, `Noted`), and the steps that leave the count: all but
 -- those at 1, 2, 4 and 5. It rests on the places alone: no fact of the memory is needed.
+use Rattle.std.specs.Prelude.{Option, Some, None}
 use mathlib.Core.Path.{◌≡◌, refl, ◌∙◌}
 use mathlib.Core.Logic.{◌≢◌}
 use mathlib.Core.Bool.{Bool, true, false, not, cond, ◌||◌, ◌&&◌, false≢true}
@@ -8,8 +9,6 @@ use Prim.Native.Nat.{ℕ, suc, ◌-◌, ◌<◌}
 use lib.Dec.{eqb, ltb}
 use borrow.Author.Tests.{eqb-false}
 use Rattle.container.specs.Choice.{ite}
-use Rattle.definitions.specs.declared.Link.{Link}
-use Rattle.definitions.specs.declared.Link.TheVariants.{Nil, To}
 use Rattle.definitions.specs.declared.Check.{Check}
 use Rattle.definitions.specs.declared.Node.{Node}
 use Rattle.definitions.specs.declared.Action.{Action}
@@ -20,8 +19,6 @@ use Rattle.definitions.specs.declared.Spot.TheVariants.{Root, Under}
 use Rattle.definitions.specs.declared.Probe.{Probe}
 use Rattle.definitions.specs.declared.Probe.TheVariants.{Hit, Next, Miss}
 use Rattle.definitions.specs.Threads.{Frame, Thread, Turn, Moves, Finishes, Finds, Full, NoStore}
-use Rattle.definitions.specs.declared.Shared.{Shared}
-use Rattle.definitions.specs.declared.Shared.TheVariants.{Unset, Set}
 use Rattle.definitions.specs.declared.Effect.{Effect}
 use Rattle.definitions.specs.declared.Effect.TheVariants.{Quiet, Mark, Settle, Invalid, Swing, Raise, Lower, Base, Fork, Commit, Ask, Fill}
 use Rattle.definitions.specs.Bench.{Store, Sight}
@@ -139,10 +136,10 @@ module _ (s : Sight) (th : Thread) where
   lose Join = refl
   lose Query = tt
 
-  link : (sw : Bool) (l : Link) → Aside sw (join_under sw l th)
-  link sw Nil = refl
-  link false (To p) = (refl, refl)
-  link true (To p) = (refl, refl)
+  link : (sw : Bool) (l : Option ℕ) → Aside sw (join_under sw l th)
+  link sw None = refl
+  link false (Some p) = (refl, refl)
+  link true (Some p) = (refl, refl)
 
   clear : (a : Action) → Aside sw₀ (cleared_as a s.stop.on (s.nodes th.base) th)
   clear Lookup = refl
@@ -213,37 +210,37 @@ module _ (s : Sight) (th : Thread) where
   block Join c = refl
   block Query c = tt
 
-  grand : (l : Link) → Aside sw₀ (grand_marking l s.nodes th)
-  grand Nil = (refl, refl)
-  grand (To g) = fork sw₀ _ _ _ (refl, refl) (refl, refl)
+  grand : (l : Option ℕ) → Aside sw₀ (grand_marking l s.nodes th)
+  grand None = (refl, refl)
+  grand (Some g) = fork sw₀ _ _ _ (refl, refl) (refl, refl)
 
-  backs_out : (l : Link) → apart sw₀ (number (back_out l)) ≡ true
-  backs_out Nil = refl
-  backs_out (To g) = refl
+  backs_out : (l : Option ℕ) → apart sw₀ (number (back_out l)) ≡ true
+  backs_out None = refl
+  backs_out (Some g) = refl
 
-  unmarks : (l : Link) → silent (unmark l) ≡ true
-  unmarks Nil = refl
-  unmarks (To r) = refl
+  unmarks : (l : Option ℕ) → silent (unmark l) ≡ true
+  unmarks None = refl
+  unmarks (Some r) = refl
 
-  invalids : (l : Link) → silent (invalid l) ≡ true
-  invalids Nil = refl
-  invalids (To r) = refl
+  invalids : (l : Option ℕ) → silent (invalid l) ≡ true
+  invalids None = refl
+  invalids (Some r) = refl
 
-  at_46 : (l : Link) (m : Node) → Aside sw₀ (cut_at l m s.nodes s.root th)
-  at_46 Nil m = fork sw₀ _ _ _ (refl, refl) (refl, refl)
-  at_46 (To g) m = fork sw₀ _ _ _ (refl, refl) (refl, refl)
+  at_46 : (l : Option ℕ) (m : Node) → Aside sw₀ (cut_at l m s.nodes s.root th)
+  at_46 None m = fork sw₀ _ _ _ (refl, refl) (refl, refl)
+  at_46 (Some g) m = fork sw₀ _ _ _ (refl, refl) (refl, refl)
 
-  at_47 : (d : Bool) (l : Link) (m : Node) → Aside sw₀ (cut_on d l m s.nodes th)
-  at_47 d Nil m = (refl, refl)
-  at_47 d (To g) m = fork sw₀ _ _ _ (refl, refl) (refl, refl)
+  at_47 : (d : Bool) (l : Option ℕ) (m : Node) → Aside sw₀ (cut_on d l m s.nodes th)
+  at_47 d None m = (refl, refl)
+  at_47 d (Some g) m = fork sw₀ _ _ _ (refl, refl) (refl, refl)
 
-  at_48 : (l : Link) (m : Node) → Aside sw₀ (cut_right l m s.nodes th)
-  at_48 Nil m = (refl, refl)
-  at_48 (To g) m = fork sw₀ _ _ _ (refl, refl) (refl, refl)
+  at_48 : (l : Option ℕ) (m : Node) → Aside sw₀ (cut_right l m s.nodes th)
+  at_48 None m = (refl, refl)
+  at_48 (Some g) m = fork sw₀ _ _ _ (refl, refl) (refl, refl)
 
-  at_50 : (l : Link) → Aside sw₀ (freeing l s.nodes th)
-  at_50 Nil = (refl, refl)
-  at_50 (To g) = fork sw₀ _ _ _ (refl, refl) (refl, refl)
+  at_50 : (l : Option ℕ) → Aside sw₀ (freeing l s.nodes th)
+  at_50 None = (refl, refl)
+  at_50 (Some g) = fork sw₀ _ _ _ (refl, refl) (refl, refl)
 
   -- ---- a query's places
 
@@ -251,9 +248,9 @@ module _ (s : Sight) (th : Thread) where
   unfolding adding
   added e c f fs p = fork sw₀ _ _ _ (refl, p) (nexted f.stack e _ fs p)
 
-  first_found : (l : Link) (n : Node) (f : Frame) (fs : List Frame) → Aside sw₀ (found_first l n f fs th)
-  first_found Nil n f fs = (refl, refl)
-  first_found (To k) n f fs = fork sw₀ _ _ _ (added _ _ _ fs refl) (refl, refl)
+  first_found : (l : Option ℕ) (n : Node) (f : Frame) (fs : List Frame) → Aside sw₀ (found_first l n f fs th)
+  first_found None n f fs = (refl, refl)
+  first_found (Some k) n f fs = fork sw₀ _ _ _ (added _ _ _ fs refl) (refl, refl)
 
   first_reached : (x : ℕ) (l : List ℕ) (f : Frame) (fs : List Frame) → Aside sw₀ (reached_first s.nodes x l f fs th)
   unfolding reached_first
@@ -267,18 +264,18 @@ module _ (s : Sight) (th : Thread) where
   popped [] f fs = (refl, refl)
   popped (x ∷ l) f fs = (refl, refl)
 
-  met : (v : Shared) (n : Node) (f : Frame) (fs : List Frame) → Aside sw₀ (met_by v n f fs th)
-  met (Set c) n f fs = (refl, refl)
-  met Unset n f fs = fork sw₀ _ _ _ (added _ _ _ fs refl) (refl, refl)
+  met : (v : Option ℕ) (n : Node) (f : Frame) (fs : List Frame) → Aside sw₀ (met_by v n f fs th)
+  met (Some c) n f fs = (refl, refl)
+  met None n f fs = fork sw₀ _ _ _ (added _ _ _ fs refl) (refl, refl)
 
-  fills : (v : Shared) (f : Frame) → Aside sw₀ (filling v f th)
-  fills Unset f = (refl, refl)
-  fills (Set c) f = (refl, refl)
+  fills : (v : Option ℕ) (f : Frame) → Aside sw₀ (filling v f th)
+  fills None f = (refl, refl)
+  fills (Some c) f = (refl, refl)
 
-  read_out_lem : (v : Shared) (fs : List Frame) → Aside sw₀ (read_out v fs th)
-  read_out_lem Unset fs = tt
-  read_out_lem (Set r) [] = fork sw₀ _ _ _ tt (refl, refl)
-  read_out_lem (Set r) (f ∷ fs) = backed (f ∷ fs) _ refl
+  read_out_lem : (v : Option ℕ) (fs : List Frame) → Aside sw₀ (read_out v fs th)
+  read_out_lem None fs = tt
+  read_out_lem (Some r) [] = fork sw₀ _ _ _ tt (refl, refl)
+  read_out_lem (Some r) (f ∷ fs) = backed (f ∷ fs) _ refl
 
   by_opening : (o : Probe) (n : Node) (f : Frame) (fs : List Frame) → Aside sw₀ (opened_by o n s f fs th)
   by_opening (Hit v) n f fs = fork sw₀ _ _ _ (fork sw₀ _ _ _ (added _ _ _ fs refl) tt) tt

@@ -1,4 +1,5 @@
 -- What is counted along a run: every unset store has an owner among the four threads, and no thread has more than four frames.
+use Rattle.std.specs.Prelude.{Option, Some, None}
 use mathlib.Core.Path.{◌≡◌, refl, sym, ◌∙◌, ap, subst}
 use mathlib.Core.Logic.{◌⊎◌, inl, inr}
 use mathlib.Core.Bool.{Bool, true, false}
@@ -7,8 +8,6 @@ use Prim.Native.Nat.{ℕ, suc, ◌<◌, ◌≤◌}
 use native.Mathlib.Omega.{arith}
 use lib.ListN.{length}
 use borrow.Author.Tests.{eq-eqb, ne_eqb, eqb-true}
-use Rattle.definitions.specs.declared.Link.{Link}
-use Rattle.definitions.specs.declared.Shared.TheVariants.{Unset, Set}
 use Rattle.definitions.specs.declared.Spot.TheVariants.{Root, Under}
 use Rattle.definitions.specs.declared.Effect.{Effect}
 use Rattle.definitions.specs.declared.Effect.TheVariants.{Quiet, Mark, Settle, Invalid, Swing, Raise, Lower, Base, Fork, Commit, Ask, Fill}
@@ -34,9 +33,9 @@ pub record Counts (b : Bench) : Type 0 where
 
 -- an unset store after an effect was one before, or the effect shows it
 abbrev Was : Effect → Store → ℕ → Type 0
-Was e s S = ((S < s.shown) × (s.stores S ≡ Unset)) ⊎ ((k : ℕ) × Shows e k × (S < suc k) × (s.stores S ≡ Unset))
+Was e s S = ((S < s.shown) × (s.stores S ≡ None)) ⊎ ((k : ℕ) × Shows e k × (S < suc k) × (s.stores S ≡ None))
 
-was_before : (e : Effect) (s : Store) (S : ℕ) → S < (perform e s).shown → (perform e s).stores S ≡ Unset → Was e s S
+was_before : (e : Effect) (s : Store) (S : ℕ) → S < (perform e s).shown → (perform e s).stores S ≡ None → Was e s S
 was_before Quiet s S h q = inl (h, q)
 was_before (Mark r l) s S h q = inl (h, q)
 was_before (Settle m v) s S h q = inl (h, q)
@@ -55,11 +54,11 @@ was_before (Ask (Under g d) x p c l u k true) s S h q = inr (k, refl, h, q)
 was_before (Ask Root x p c l u k false) s S h q = inl (h, q)
 was_before (Ask (Under g d) x p c l u k false) s S h q = inl (h, q)
 was_before (Fill k c) s S h q = elim (S ==? k) [
-  | yes z ↦ absurd (clash (let v : (perform (Fill k c) s).stores S ≡ Set c = rw (eq-eqb S k z) in cc))
+  | yes z ↦ absurd (clash (let v : (perform (Fill k c) s).stores S ≡ Some c = rw (eq-eqb S k z) in cc))
   | no z ↦ inl (h, rw (ne_eqb S k z) at q)
 ]
 
-module _ {b : Bench} {hist : Hist} {now : ℕ} {first : ℕ → Link} (inv : Inv b hist now first) (counts : Counts b) (t : ℕ) (small : t < 4) where
+module _ {b : Bench} {hist : Hist} {now : ℕ} {first : ℕ → Option ℕ} (inv : Inv b hist now first) (counts : Counts b) (t : ℕ) (small : t < 4) where
   abbrev th : Thread
   th = b.threads t
 
@@ -86,7 +85,7 @@ module _ {b : Bench} {hist : Hist} {now : ℕ} {first : ℕ → Link} (inv : Inv
   }
 
   -- a thread that ends owns no unset store
-  pub ends_count : (e : Effect) → ((k : ℕ) → Shows e k → ⊥) → ((S : ℕ) → Owner th S → b.store.stores S ≡ Unset → ⊥) → Counts (after b t (perform e b.store) idle)
+  pub ends_count : (e : Effect) → ((k : ℕ) → Shows e k → ⊥) → ((S : ℕ) → Owner th S → b.store.stores S ≡ None → ⊥) → Counts (after b t (perform e b.store) idle)
   ends_count e n none = record {
     owned = λ S h q. elim (was_before e b.store S h q) [
       | inl (h', q') ↦ (let (o, ho, v) = counts.owned S h' q' in elim (o ==? t) [ yes y ↦ absurd (none S (subst (λ u. Owner (b.threads u) S) y v) q') | no y ↦ (o, ho, rw (ne_eqb o t y) v) ])

@@ -1,4 +1,5 @@
 -- 81, the swap that sets a store, and 82, the end of a frame: a query's row. It rests on Fill.antt.
+use Rattle.std.specs.Prelude.{Option, Some, None}
 use mathlib.Core.Path.{◌≡◌, refl, sym, ◌∙◌, ap, subst}
 use mathlib.Core.Logic.{◌⊎◌}
 use mathlib.Core.Bool.{Bool, true, false, not, ◌&&◌, true≢false, false≢true}
@@ -11,10 +12,6 @@ use Rattle.container.specs.Depths.{is_in}
 use Rattle.container.specs.Choice.{upd}
 use Rattle.container.specs.Container.{has, cut}
 use Rattle.container.proofs.Laws.{has_cut}
-use Rattle.definitions.specs.declared.Link.{Link}
-use Rattle.definitions.specs.declared.Link.TheVariants.{To}
-use Rattle.definitions.specs.declared.Shared.{Shared}
-use Rattle.definitions.specs.declared.Shared.TheVariants.{Unset, Set}
 use Rattle.definitions.specs.declared.Action.{Action}
 use Rattle.definitions.specs.declared.Action.TheVariants.{Lookup, Insert, Remove, Split, Join, Query}
 use Rattle.definitions.specs.declared.Effect.TheVariants.{Quiet, Fill}
@@ -70,7 +67,7 @@ query_is Split e = absurd (false≢true e)
 query_is Join e = absurd (false≢true e)
 query_is Query e = refl
 
-module _ {b : Bench} {hist : Hist} {now : ℕ} {first : ℕ → Link} (inv : Inv b hist now first) (t : ℕ) where
+module _ {b : Bench} {hist : Hist} {now : ℕ} {first : ℕ → Option ℕ} (inv : Inv b hist now first) (t : ℕ) where
   abbrev th : Thread
   th = b.threads t
 
@@ -88,13 +85,13 @@ module _ {b : Bench} {hist : Hist} {now : ℕ} {first : ℕ → Link} (inv : Inv
       nl : looks th.action ≡ false
       nl = (know_now inv t p81 e).1
 
-      go : (f : Frame) (fs : List Frame) → th.frames ≡ f ∷ fs → (v : Shared) → b.store.stores (store_of f.store) ≡ v → Good inv t (filling v f th)
-      go f fs E (Set c) q = go_frames inv t p81 _ e refl (λ z _. clash (cc)) refl (λ n g a m k pl₀. let pl = pile_f inv t f fs E (W' n g) pl₀ in let co = top_f inv t f fs E (λ f. Complete (W' n g) f) k.0 in
+      go : (f : Frame) (fs : List Frame) → th.frames ≡ f ∷ fs → (v : Option ℕ) → b.store.stores (store_of f.store) ≡ v → Good inv t (filling v f th)
+      go f fs E (Some c) q = go_frames inv t p81 _ e refl (λ z _. clash (cc)) refl (λ n g a m k pl₀. let pl = pile_f inv t f fs E (W' n g) pl₀ in let co = top_f inv t f fs E (λ f. Complete (W' n g) f) k.0 in
           let (S, as₀) = asks_begun (W' n g) hist (T' inv t) th f fs pl co.begun in (
             (f_top inv t f fs E (λ f. Ready (W' n g) f) (S, c, as₀.store, sym (ap (λ v. b.store.stores (store_of v)) as₀.store) ∙ q), nl),
             pile_alike (W' n g) hist (T' inv t) th (at p82 th) th.frames refl refl refl pl₀,
           ))
-      go f fs E Unset q = λ qu. build inv t (perform (Fill (store_of f.store) f.done) b.store) (at p82 th) (λ _. Unit {0}) (inv.stations t) (λ z _. clash (cc)) (away inv t (at p82 th) refl) (λ _ _ _. tt) (λ n a. (
+      go f fs E None q = λ qu. build inv t (perform (Fill (store_of f.store) f.done) b.store) (at p82 th) (λ _. Unit {0}) (inv.stations t) (λ z _. clash (cc)) (away inv t (at p82 th) refl) (λ _ _ _. tt) (λ n a. (
         n,
         a,
         λ g m k₀ pl₀.
@@ -110,7 +107,7 @@ module _ {b : Bench} {hist : Hist} {now : ℕ} {first : ℕ → Link} (inv : Inv
               mem = fill m S f.done qu ask.low q right;
               rely = re;
               linked = λ x i j. absurd (omega arith);
-              know = (subst (λ v. TopOf v (λ h. (Z c : ℕ) × (h.store ≡ To Z) × (upd b.store.stores (store_of f.store) (Set f.done) Z ≡ Set c))) (sym E) (S, f.done, ask.store, rw (eq-eqb S S refl)), nl);
+              know = (subst (λ v. TopOf v (λ h. (Z c : ℕ) × (h.store ≡ Some Z) × (upd b.store.stores (store_of f.store) (Some f.done) Z ≡ Some c))) (sym E) (S, f.done, ask.store, rw (eq-eqb S S refl)), nl);
               pile = kin_pile inv t _ _ (λ _. Unit {0}) (at p82 th) (alike refl refl refl refl) re refl pl₀;
             },
       ))
@@ -142,7 +139,7 @@ module _ {b : Bench} {hist : Hist} {now : ℕ} {first : ℕ → Link} (inv : Inv
           (λ n g a m k pl₀. rt.knows (W' n g) hist (T' inv t) nl (under (W' n g) (T' inv t) f fs (pile_f inv t f fs E (W' n g) pl₀)) (waited (W' n g) (T' inv t) f fs (pile_f inv t f fs E (W' n g) pl₀))))
 
       -- a query's row
-      row : (f : Frame) → th.frames ≡ f ∷ [] → (c : ℕ) → b.store.stores (store_of f.store) ≡ Set c → is_query th.action ≡ true
+      row : (f : Frame) → th.frames ≡ f ∷ [] → (c : ℕ) → b.store.stores (store_of f.store) ≡ Some c → is_query th.action ≡ true
           → FitsRange th.station th.extra hist (T' inv t) now (said (not (eqb (cut c (between th.station th.extra)) 0))) (cut c (between th.station th.extra))
       row f E c q iq = let h = here inv t in let w = W b.store.nodes h.ghost in
           let pl : PileOf w hist (T' inv t) th (f ∷ []) = subst (λ v. PileOf w hist v th (f ∷ [])) (sym same_first) (pile_opened w hist (first t) now th (f ∷ []) (subst (λ v. PileOf w hist (moment (first t)) th v) E (h.piles t))) in
@@ -157,7 +154,7 @@ module _ {b : Bench} {hist : Hist} {now : ℕ} {first : ℕ → Link} (inv : Inv
           fin : Bottom (W b.store.nodes (here inv t).ghost) hist (T' inv t) th f
               → FitsRange th.station th.extra hist (T' inv t) now (said (not (eqb (cut c (between th.station th.extra)) 0))) (cut c (between th.station th.extra))
           fin (free i _ _ _ _ _ _) = absurd (clash (let v = ready.2 in cc))
-          fin (rides S a i j _ tm) = let q' : b.store.stores S ≡ Set c = ap (λ v. b.store.stores (store_of v)) (sym a.store) ∙ q in let o = (here inv t).mem.tales.found S c q' in (
+          fin (rides S a i j _ tm) = let q' : b.store.stores S ≡ Some c = ap (λ v. b.store.stores (store_of v)) (sym a.store) ∙ q in let o = (here inv t).mem.tales.found S c q' in (
             ((here inv t).ghost.tale S).time,
             tm c q',
             omega (arith, o.0),
@@ -165,10 +162,10 @@ module _ {b : Bench} {hist : Hist} {now : ℕ} {first : ℕ → Link} (inv : Inv
             refl,
           )
 
-      leaves : (fs : List Frame) (f : Frame) → th.frames ≡ f ∷ fs → (c : ℕ) → b.store.stores (store_of f.store) ≡ Set c → Good inv t (leaving fs c th)
+      leaves : (fs : List Frame) (f : Frame) → th.frames ≡ f ∷ fs → (c : ℕ) → b.store.stores (store_of f.store) ≡ Some c → Good inv t (leaving fs c th)
       leaves [] f E c q = either inv t _ _ _ (λ iq fe. (ends_quiet inv t (still_of th.action (query_is _ iq) th.station th.extra fe), query_is _ iq, row f E c q iq)) (λ _. leave f [] E)
       leaves (g ∷ fs) f E c q = leave f (g ∷ fs) E
 
-      go : (f : Frame) (fs : List Frame) → th.frames ≡ f ∷ fs → (v : Shared) → b.store.stores (store_of f.store) ≡ v → Good inv t (read_out v fs th)
-      go f fs E Unset q = tt
-      go f fs E (Set c) q = leaves fs f E c q
+      go : (f : Frame) (fs : List Frame) → th.frames ≡ f ∷ fs → (v : Option ℕ) → b.store.stores (store_of f.store) ≡ v → Good inv t (read_out v fs th)
+      go f fs E None q = tt
+      go f fs E (Some c) q = leaves fs f E c q

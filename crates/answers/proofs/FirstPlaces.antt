@@ -1,4 +1,5 @@
 -- 60, 61 and 62: a frame's search for its first base. It rests on FrameSteps.antt and Adding.antt.
+use Rattle.std.specs.Prelude.{Option, Some, None}
 use mathlib.Core.Path.{◌≡◌, refl, sym, ◌∙◌, ap, subst}
 use mathlib.Core.Logic.{◌⊎◌, inl, inr}
 use mathlib.Core.Bool.{Bool, true, false, cond, true≢false, false≢true}
@@ -7,12 +8,8 @@ use Prim.Native.Nat.{ℕ, suc, ◌<◌, ◌≤◌}
 use native.Mathlib.Omega.{arith}
 use lib.Dec.{eqb, leb, ltb}
 use borrow.Author.Tests.{eq-eqb, leb-true}
-use Rattle.definitions.specs.declared.Link.{Link}
-use Rattle.definitions.specs.declared.Link.TheVariants.{Nil, To}
 use Rattle.definitions.specs.declared.Kind.{Kind}
 use Rattle.definitions.specs.declared.Kind.TheVariants.{Normal, Route, Main, Neighbour, Range}
-use Rattle.definitions.specs.declared.Shared.{Shared}
-use Rattle.definitions.specs.declared.Shared.TheVariants.{Unset, Set}
 use Rattle.definitions.specs.declared.Node.{Node}
 use Rattle.definitions.specs.declared.Effect.TheVariants.{Quiet}
 use Rattle.definitions.specs.Nodes.{Shapes, Nodes, child_for, check_store, check_as, check, is_replaceable, replaceable, is_route, shape}
@@ -54,15 +51,15 @@ pub of_is : (S : ℕ) (v : Node) → is_of S v ≡ true → (v.kind ≡ Range) �
 of_is S v e = let (a, c) = two_of (is_range v.kind) (eqb v.store S) e in (range_kind v.kind a, borrow.Author.Tests.eqb-true v.store S c)
 
 -- an unset range base is what is not replaceable among range bases
-not_set : (v : Shared) (b : Node) → is_replaceable (check_store v b) ≡ false → v ≡ Unset
-not_set Unset b e = refl
-not_set (Set c) b e = absurd (true≢false e)
+not_set : (v : Option ℕ) (b : Node) → is_replaceable (check_store v b) ≡ false → v ≡ None
+not_set None b e = refl
+not_set (Some c) b e = absurd (true≢false e)
 
-range_unset : (n : Shapes) (st : ℕ → Shared) (x : ℕ) → (n x).kind ≡ Range → replaceable n st x ≡ false → st (n x).store ≡ Unset
+range_unset : (n : Shapes) (st : ℕ → Option ℕ) (x : ℕ) → (n x).kind ≡ Range → replaceable n st x ≡ false → st (n x).store ≡ None
 unfolding check replaceable
 range_unset n st x k e = not_set _ (n x) (ap (λ v. is_replaceable (check_as v n st x)) (sym k) ∙ e)
 
-module _ {b : Bench} {hist : Hist} {now : ℕ} {first : ℕ → Link} (inv : Inv b hist now first) (t : ℕ) where
+module _ {b : Bench} {hist : Hist} {now : ℕ} {first : ℕ → Option ℕ} (inv : Inv b hist now first) (t : ℕ) where
   abbrev th : Thread
   th = b.threads t
 
@@ -81,9 +78,9 @@ module _ {b : Bench} {hist : Hist} {now : ℕ} {first : ℕ → Link} (inv : Inv
   pub first_on : 0 < T' inv t
   first_on = rw (eq-eqb t t refl) (go (first t) (inv.counted t))
     where
-      go : (l : Link) → ((k : ℕ) → l ≡ To k → 0 < k) → 0 < moment (opened l now)
-      go Nil h = omega arith
-      go (To k) h = h k refl
+      go : (l : Option ℕ) → ((k : ℕ) → l ≡ Some k → 0 < k) → 0 < moment (opened l now)
+      go None h = omega arith
+      go (Some k) h = h k refl
 
   module _ (p : Place) (e : Stands b t p) (f : Frame) (fs : List Frame) (E : th.frames ≡ f ∷ fs) (nl : looks th.action ≡ false) where
     abbrev PileF : World → Type 0
@@ -103,14 +100,14 @@ module _ {b : Bench} {hist : Hist} {now : ℕ} {first : ℕ → Link} (inv : Inv
       base_at_lem n g a m bo h = rw (a x (m.shape.low x bo)) (kind_base _ h)
 
       -- 82: the store is set, since an unset one's first base would have been found
-      is_ready : (S : ℕ) → f.store ≡ To S → is_route (b.store.nodes x).kind ≡ false → is_of S (shape (b.store.nodes x)) ≡ false → (n : Nodes) (g : Ghost) → Agrees b.store n → Mem (W' n g) hist
-          → Know p (W' n g) (moment (first t)) th → PileF (W' n g) → (v : Shared) → b.store.stores S ≡ v → (S c : ℕ) × (f.store ≡ To S) × (b.store.stores S ≡ Set c)
-      is_ready S i h o n g a m k pl (Set c) q = (S, c, i, q)
-      is_ready S i h o n g a m k pl Unset q = let (bg, bo, ir, cl, fr, _, _, _, _) = R n g a m k pl in let as₀ = asks_of (W' n g) hist (T' inv t) th (f ∷ fs) pl S i in
+      is_ready : (S : ℕ) → f.store ≡ Some S → is_route (b.store.nodes x).kind ≡ false → is_of S (shape (b.store.nodes x)) ≡ false → (n : Nodes) (g : Ghost) → Agrees b.store n → Mem (W' n g) hist
+          → Know p (W' n g) (moment (first t)) th → PileF (W' n g) → (v : Option ℕ) → b.store.stores S ≡ v → (S c : ℕ) × (f.store ≡ Some S) × (b.store.stores S ≡ Some c)
+      is_ready S i h o n g a m k pl (Some c) q = (S, c, i, q)
+      is_ready S i h o n g a m k pl None q = let (bg, bo, ir, cl, fr, _, _, _, _) = R n g a m k pl in let as₀ = asks_of (W' n g) hist (T' inv t) th (f ∷ fs) pl S i in
           let v = first_of m S x as₀.low q (base_at_lem n g a m bo h) (rw (← as₀.lower) ir) (fr S i q) in let z = a x (m.shape.low x bo) in
           absurd (true≢false (sym (is_of_lem S (shape (b.store.nodes x)) (sym (ap (λ v. v.kind) z) ∙ v.0) (sym (ap (λ v. v.store) z) ∙ v.1)) ∙ o))
 
-      to_add : (S : ℕ) → f.store ≡ To S → is_route (b.store.nodes x).kind ≡ false → is_of S (shape (b.store.nodes x)) ≡ true → (th' : Thread) → Adds th (adds (b.store.nodes x).container.set (in_hand x s f)) fs (b.store.nodes x).container.set th'
+      to_add : (S : ℕ) → f.store ≡ Some S → is_route (b.store.nodes x).kind ≡ false → is_of S (shape (b.store.nodes x)) ≡ true → (th' : Thread) → Adds th (adds (b.store.nodes x).container.set (in_hand x s f)) fs (b.store.nodes x).container.set th'
           → Good inv t (goes th')
       to_add S i h o th' ad = go_frames inv t p th' e ad.station (on_not_back th' nl ad.action) ad.apart (λ n g a m k pl₀.
           let pl : PileF (W' n g) = subst (λ v. PileOf (W' n g) hist (T' inv t) th v) E pl₀ in let (bg, bo, ir, cl, fr, rt, en, hu, ov) = R n g a m k pl in
@@ -120,13 +117,13 @@ module _ {b : Bench} {hist : Hist} {now : ℕ} {first : ℕ → Link} (inv : Inv
           ad.knows (W' n g) hist (T' inv t) nl (pile_asks (W' n g) hist (T' inv t) th f (adds (b.store.nodes x).container.set (in_hand x s f)) fs S i as₁ pl)
           (λ S' i' q y v. let u : S ≡ S' = cc in let q' : Waits (W' n g) S = rw u q in (range_within m S x y ox (m.tales.holds S x ox bo q').0 (rw z v)).1) (ap (λ v. v.container.set) (sym z)))
 
-      at_base_lem : (l : Link) → f.store ≡ l → is_route (b.store.nodes x).kind ≡ false → Good inv t (found_first l (shape (b.store.nodes x)) (in_hand x s f) fs th)
-      at_base_lem Nil i h = go_frames inv t p _ e refl (λ z _. clash (cc)) refl (λ n g a m k pl₀.
+      at_base_lem : (l : Option ℕ) → f.store ≡ l → is_route (b.store.nodes x).kind ≡ false → Good inv t (found_first l (shape (b.store.nodes x)) (in_hand x s f) fs th)
+      at_base_lem None i h = go_frames inv t p _ e refl (λ z _. clash (cc)) refl (λ n g a m k pl₀.
           let pl : PileF (W' n g) = subst (λ v. PileOf (W' n g) hist (T' inv t) th v) E pl₀ in let (bg, bo, ir, cl, fr, rt, en, hu, ov) = R n g a m k pl in let ib = base_at_lem n g a m bo h in (
             (record { begun = bg; free = i; at = record { kind = ib; born = bo; range = ir }; climb = cl; alone = λ y. ap (λ v. (n v).parent) (rt y) ∙ root_parent m (λ v. ib (ap (λ u. (n u).kind) (rt y) ∙ v)); entries = en; hung = λ l. hu (inr l) }, nl),
             pile_alike (W' n g) hist (T' inv t) th _ (in_hand x s f ∷ fs) refl refl refl (pile_moved (W' n g) hist (T' inv t) th (x ∷ s) x f.popped f.key f fs pl),
           ))
-      at_base_lem (To S) i h = either inv t _ _ _
+      at_base_lem (Some S) i h = either inv t _ _ _
           (λ o. adding_by th Quiet (Good inv t) (either inv t) (b.store.nodes x).container.set (in_hand x s f) fs (to_add S i h o))
           (λ o. go_frames inv t p _ e refl (λ z _. clash (cc)) refl (λ n g a m k pl₀.
           let pl : PileF (W' n g) = subst (λ v. PileOf (W' n g) hist (T' inv t) th v) E pl₀ in
@@ -201,7 +198,7 @@ module _ {b : Bench} {hist : Hist} {now : ℕ} {first : ℕ → Link} (inv : Inv
       opening_at : (n : Nodes) (g : Ghost) (f : Frame) (fs : List Frame) → th.frames ≡ f ∷ fs → Know p62 (W' n g) (moment (first t)) th → Opening (W' n g) f
       opening_at n g f fs E k = subst (λ v. TopOf v (λ f. Opening (W' n g) f)) E k.0
 
-      free_done : (w : World) (T : ℕ) (f : Frame) (fs : List Frame) → f.store ≡ Nil → PileOf w hist T th (f ∷ fs) → f.done ≡ 0
+      free_done : (w : World) (T : ℕ) (f : Frame) (fs : List Frame) → f.store ≡ None → PileOf w hist T th (f ∷ fs) → f.done ≡ 0
       free_done w T f [] i p = go (is_query th.action) p
         where
           go : (c : Bool) → Own c w hist T th f → f.done ≡ 0

@@ -1,4 +1,5 @@
 -- What is known of a thread's frames: of each, whatever the place (`Pile`), and of the one that is carried on, at the places 60 to 82.
+use Rattle.std.specs.Prelude.{Option, Some, None}
 use mathlib.Core.Path.{◌≡◌, refl}
 use native.Mathlib.Omega.{arith}
 use mathlib.Core.Logic.{◌≢◌, ◌⊎◌, inl, inr}
@@ -8,10 +9,7 @@ use Prim.Native.Nat.{ℕ, suc, ◌<◌, ◌≤◌}
 use lib.ListN.{length}
 use Rattle.container.specs.Depths.{is_in}
 use Rattle.container.specs.Container.{has}
-use Rattle.definitions.specs.declared.Link.{Link}
-use Rattle.definitions.specs.declared.Link.TheVariants.{Nil, To}
 use Rattle.definitions.specs.declared.Kind.TheVariants.{Route}
-use Rattle.definitions.specs.declared.Shared.TheVariants.{Set}
 use Rattle.definitions.specs.Threads.{Frame, Thread}
 use Rattle.definitions.specs.Frames.{top_of, tail_of, reaches}
 use Rattle.definitions.specs.Steps.{is_query}
@@ -28,9 +26,9 @@ Member x [] = ⊥
 Member x (y ∷ s) = (x ≡ y) ⊎ Member x s
 
 -- the route that a link names, if any, is in the stack
-abbrev pub Hung : Link → List ℕ → Type 0
-Hung Nil s = Unit {0}
-Hung (To r) s = Member r s
+abbrev pub Hung : Option ℕ → List ℕ → Type 0
+Hung None s = Unit {0}
+Hung (Some r) s = Member r s
 
 -- the stack's top, if any, has a lower number
 abbrev pub Over : ℕ → List ℕ → Type 0
@@ -66,7 +64,7 @@ pub record Added (w : World) (hist : Hist) (f : Frame) (S : ℕ) : Type 0 where
 
 -- a frame with a store has its ends
 pub record Asks (w : World) (hist : Hist) (f : Frame) (S : ℕ) : Type 0 where
-  pub store : f.store ≡ To S
+  pub store : f.store ≡ Some S
   pub low : S < w.shown
   pub lower : f.lower ≡ (w.tale S).lower
   pub upper : f.upper ≡ (w.tale S).upper
@@ -76,9 +74,9 @@ pub record Asks (w : World) (hist : Hist) (f : Frame) (S : ℕ) : Type 0 where
 
 -- a query's own frame; t is the query's first moment
 pub data Bottom (w : World) (hist : Hist) (t : ℕ) (th : Thread) (f : Frame) : Type 0 where
-  free : f.store ≡ Nil → f.begun ≡ false → f.done ≡ 0 → f.lower ≡ th.station → f.upper ≡ th.extra → th.station ≤ th.extra → th.extra < 64 → Bottom w hist t th f
+  free : f.store ≡ None → f.begun ≡ false → f.done ≡ 0 → f.lower ≡ th.station → f.upper ≡ th.extra → th.station ≤ th.extra → th.extra < 64 → Bottom w hist t th f
   rides : (S : ℕ) → Asks w hist f S → (w.tale S).start ≤ th.station → th.extra ≤ (w.tale S).upper → 0 < t
-      → ((c : ℕ) → w.stores S ≡ Set c → t ≤ (w.tale S).time) → Bottom w hist t th f
+      → ((c : ℕ) → w.stores S ≡ Some c → t ≤ (w.tale S).time) → Bottom w hist t th f
 
 -- the frame that a thread started with, by its action
 abbrev pub Own : Bool → World → Hist → ℕ → Thread → Frame → Type 0
@@ -91,15 +89,15 @@ Short w f = f.begun ≡ true → reaches (w.nodes (prev_of f)).container.set f.u
 
 -- g waits for the frame f above it: a query's own frame with no store yet; or it is short and, while f's store is unset, so is its own, up to where f's starts
 pub data Waiting (w : World) (f g : Frame) : Type 0 where
-  own_free : g.store ≡ Nil → g.begun ≡ false → Waiting w f g
+  own_free : g.store ≡ None → g.begun ≡ false → Waiting w f g
   blocked : g.begun ≡ true → reaches (w.nodes (prev_of g)).container.set g.upper ≡ false
-      → ((S Z : ℕ) → f.store ≡ To S → g.store ≡ To Z → Waits w S → Waits w Z × (w.hi (prev_of g) ≡ (w.tale S).start)) → Waiting w f g
+      → ((S Z : ℕ) → f.store ≡ Some S → g.store ≡ Some Z → Waits w S → Waits w Z × (w.hi (prev_of g) ≡ (w.tale S).start)) → Waiting w f g
 
 -- 15: the base x is in the way of the frame f; the same, for the frame that a new one may be put on
 pub data Blocks (w : World) (x : ℕ) (f : Frame) : Type 0 where
-  first_base : f.store ≡ Nil → f.begun ≡ false → Blocks w x f
+  first_base : f.store ≡ None → f.begun ≡ false → Blocks w x f
   stands : f.begun ≡ true → reaches (w.nodes (prev_of f)).container.set f.upper ≡ false
-      → ((S Z : ℕ) → Of w S x → f.store ≡ To Z → Waits w S → (S < w.shown) × Waits w Z × (w.hi (prev_of f) ≡ (w.tale S).start)) → Blocks w x f
+      → ((S Z : ℕ) → Of w S x → f.store ≡ Some Z → Waits w S → (S < w.shown) × Waits w Z × (w.hi (prev_of f) ≡ (w.tale S).start)) → Blocks w x f
 
 abbrev pub PileOf : World → Hist → ℕ → Thread → List Frame → Type 0
 PileOf w hist t th [] = Unit {0}
@@ -113,7 +111,7 @@ Pile w hist t th = PileOf w hist t th th.frames
 
 -- while the frame's store is unset
 abbrev pub Unless : World → Frame → (ℕ → Type 0) → Type 0
-Unless w f Q = (S : ℕ) → f.store ≡ To S → Waits w S → Q S
+Unless w f Q = (S : ℕ) → f.store ≡ Some S → Waits w S → Q S
 
 -- 61: the route reached has the lower end in its range, and has not died since the store was shown
 pub record Downward (w : World) (f : Frame) : Type 0 where
@@ -127,10 +125,10 @@ pub record Downward (w : World) (f : Frame) : Type 0 where
 -- 62, 64-67: the first base, with no store yet; if it was the root, it has no parent
 pub record Opening (w : World) (f : Frame) : Type 0 where
   pub begun : f.begun ≡ false
-  pub free : f.store ≡ Nil
+  pub free : f.store ≡ None
   pub at : AtBase w f.lower f.base
   pub climb : Climb w (tail_of f.stack)
-  pub alone : tail_of f.stack ≡ [] → (w.nodes f.base).parent ≡ Nil
+  pub alone : tail_of f.stack ≡ [] → (w.nodes f.base).parent ≡ None
   pub entries : (z : ℕ) → Member z (tail_of f.stack) → In w f.lower z
   pub hung : Live w f.base → Hung (w.up f.base) (tail_of f.stack)
 
@@ -177,8 +175,8 @@ pub record Nexts (w : World) (f : Frame) : Type 0 where
 
 -- 76: the base in hand is no range base of the store; if it is live, the store is unset
 pub record Outside (w : World) (f : Frame) : Type 0 where
-  pub other : (S : ℕ) → f.store ≡ To S → Of w S f.base → ⊥
-  pub waits : (S : ℕ) → f.store ≡ To S → Live w f.base → Waits w S
+  pub other : (S : ℕ) → f.store ≡ Some S → Of w S f.base → ⊥
+  pub waits : (S : ℕ) → f.store ≡ Some S → Live w f.base → Waits w S
 
 -- 81: the base added last passes the upper end
 pub record Complete (w : World) (f : Frame) : Type 0 where
@@ -188,7 +186,7 @@ pub record Complete (w : World) (f : Frame) : Type 0 where
 
 -- 82: the result is set
 abbrev pub Ready : World → Frame → Type 0
-Ready w f = (S c : ℕ) × (f.store ≡ To S) × (w.stores S ≡ Set c)
+Ready w f = (S c : ℕ) × (f.store ≡ Some S) × (w.stores S ≡ Some c)
 
 abbrev pub TopOf : List Frame → (Frame → Type 0) → Type 0
 TopOf [] Q = Unit {0}
@@ -215,9 +213,9 @@ pub tail_member : (z : ℕ) (s : List ℕ) → Member z (tail_of s) → Member z
 tail_member z [] m = m
 tail_member z (x ∷ s) m = inr m
 
-pub hung_more : (l : Link) (x : ℕ) (s : List ℕ) → Hung l s → Hung l (x ∷ s)
-hung_more Nil x s h = tt
-hung_more (To r) x s h = inr h
+pub hung_more : (l : Option ℕ) (x : ℕ) (s : List ℕ) → Hung l s → Hung l (x ∷ s)
+hung_more None x s h = tt
+hung_more (Some r) x s h = inr h
 
 pub member_routed : (w : World) (z : ℕ) (s : List ℕ) → Climb w s → Member z s → Routed w z
 member_routed w z [] c m = absurd m

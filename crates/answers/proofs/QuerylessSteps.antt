@@ -1,5 +1,6 @@
 -- A step of a thread that neither asks nor helps a query, where no node is a range base: the thread stays so, and no range base is made
 -- (`level_at`). What is claimed of a whole run stands here too (`Queryless`). Assumes nothing.
+use Rattle.std.specs.Prelude.{Option, Some, None}
 use mathlib.Core.Path.{◌≡◌, refl, sym, ◌∙◌, subst}
 use mathlib.Core.Logic.{◌≢◌}
 use mathlib.Core.Bool.{Bool, true, false}
@@ -10,8 +11,6 @@ use native.Mathlib.Decide.{dec_lt}
 use Rattle.container.specs.Choice.{ite}
 use Rattle.definitions.specs.declared.Quarter.{Quarter}
 use Rattle.definitions.specs.declared.Quarter.TheVariants.{ReadLeft, SwapLeft, ReadRight, SwapRight}
-use Rattle.definitions.specs.declared.Link.{Link}
-use Rattle.definitions.specs.declared.Link.TheVariants.{Nil, To}
 use Rattle.definitions.specs.declared.Kind.{Kind}
 use Rattle.definitions.specs.declared.Kind.TheVariants.{Normal, Route, Main, Neighbour, Range}
 use Rattle.definitions.specs.declared.Stage.{Stage}
@@ -23,7 +22,6 @@ use Rattle.definitions.specs.declared.Spot.{Spot}
 use Rattle.definitions.specs.declared.Probe.{Probe}
 use Rattle.definitions.specs.declared.Probe.TheVariants.{Hit, Next, Miss}
 use Rattle.definitions.specs.declared.Check.{Check}
-use Rattle.definitions.specs.declared.Shared.TheVariants.{Unset}
 use Rattle.definitions.specs.declared.Effect.{Effect}
 use Rattle.definitions.specs.declared.Effect.TheVariants.{Quiet, Mark, Settle, Invalid, Swing, Raise, Lower, Base, Fork, Commit, Ask, Fill}
 use Rattle.definitions.specs.Threads.{Thread, Turn, Moves, Finishes, Finds, Full, NoStore, goes}
@@ -46,7 +44,7 @@ pub record Unasking (th : Thread) : Type 0 where
 -- a store that no query has touched
 pub record Untouched (s : Store) : Type 0 where
   pub nodes : (x : ℕ) → (s.nodes x).kind ≢ Range
-  pub stores : (k : ℕ) → s.stores k ≡ Unset
+  pub stores : (k : ℕ) → s.stores k ≡ None
   pub shown : s.shown ≡ 0
 
 pub record Queryless (b : Bench) : Type 0 where
@@ -97,9 +95,9 @@ quarter_found q = omega (arith, four q)
 quarter_united : (q : Quarter) → number (swap united q) < 60
 quarter_united q = omega (arith, four q)
 
-backs_out : (l : Link) → number (back_out l) < 60
-backs_out Nil = omega arith
-backs_out (To g) = omega arith
+backs_out : (l : Option ℕ) → number (back_out l) < 60
+backs_out None = omega arith
+backs_out (Some g) = omega arith
 
 -- the check meets no range base
 abbrev Met : Check → Type 0
@@ -204,10 +202,10 @@ module _ (s : Sight) (none : (x : ℕ) → (s.nodes x).kind ≢ Range) (th : Thr
   block Join c z = tt
   block Query c z = tt
 
-  link : (c : Bool) (l : Link) → Level (join_under c l th)
-  link c Nil = tt
-  link false (To p) = on _ (omega arith) refl refl
-  link true (To p) = on _ (omega arith) refl refl
+  link : (c : Bool) (l : Option ℕ) → Level (join_under c l th)
+  link c None = tt
+  link false (Some p) = on _ (omega arith) refl refl
+  link true (Some p) = on _ (omega arith) refl refl
 
   clear : (a : Action) → Level (cleared_as a s.stop.on (s.nodes th.base) th)
   clear Lookup = tt
@@ -241,33 +239,33 @@ module _ (s : Sight) (none : (x : ℕ) → (s.nodes x).kind ≢ Range) (th : Thr
   by_united (Next q) m = on _ (quarter_united q) refl refl
   by_united Miss m = on _ (omega arith) refl refl
 
-  grand : (l : Link) → Level (grand_marking l s.nodes th)
-  grand Nil = on _ (omega arith) refl refl
-  grand (To g) = fork _ _ _ (to_place _ (omega arith) refl refl, tt) (on _ (omega arith) refl refl)
+  grand : (l : Option ℕ) → Level (grand_marking l s.nodes th)
+  grand None = on _ (omega arith) refl refl
+  grand (Some g) = fork _ _ _ (to_place _ (omega arith) refl refl, tt) (on _ (omega arith) refl refl)
 
-  unmarks : (l : Link) → Mild (unmark l)
-  unmarks Nil = tt
-  unmarks (To g) = tt
+  unmarks : (l : Option ℕ) → Mild (unmark l)
+  unmarks None = tt
+  unmarks (Some g) = tt
 
-  voids : (l : Link) → Mild (invalid l)
-  voids Nil = tt
-  voids (To g) = tt
+  voids : (l : Option ℕ) → Mild (invalid l)
+  voids None = tt
+  voids (Some g) = tt
 
-  at_46 : (l : Link) (m : Node) → Level (cut_at l m s.nodes s.root th)
-  at_46 Nil m = fork _ _ _ (to_place _ (omega arith) refl refl, tt) (on _ (omega arith) refl refl)
-  at_46 (To g) m = fork _ _ _ (on _ (omega arith) refl refl) (on _ (omega arith) refl refl)
+  at_46 : (l : Option ℕ) (m : Node) → Level (cut_at l m s.nodes s.root th)
+  at_46 None m = fork _ _ _ (to_place _ (omega arith) refl refl, tt) (on _ (omega arith) refl refl)
+  at_46 (Some g) m = fork _ _ _ (on _ (omega arith) refl refl) (on _ (omega arith) refl refl)
 
-  at_47 : (d : Bool) (l : Link) (m : Node) → Level (cut_on d l m s.nodes th)
-  at_47 d Nil m = on _ (omega arith) refl refl
-  at_47 d (To g) m = fork _ _ _ (to_place _ (omega arith) refl refl, tt) (on _ (omega arith) refl refl)
+  at_47 : (d : Bool) (l : Option ℕ) (m : Node) → Level (cut_on d l m s.nodes th)
+  at_47 d None m = on _ (omega arith) refl refl
+  at_47 d (Some g) m = fork _ _ _ (to_place _ (omega arith) refl refl, tt) (on _ (omega arith) refl refl)
 
-  at_48 : (l : Link) (m : Node) → Level (cut_right l m s.nodes th)
-  at_48 Nil m = on _ (omega arith) refl refl
-  at_48 (To g) m = fork _ _ _ (on _ (omega arith) refl refl) (on _ (omega arith) refl refl)
+  at_48 : (l : Option ℕ) (m : Node) → Level (cut_right l m s.nodes th)
+  at_48 None m = on _ (omega arith) refl refl
+  at_48 (Some g) m = fork _ _ _ (on _ (omega arith) refl refl) (on _ (omega arith) refl refl)
 
-  at_50 : (l : Link) → Level (freeing l s.nodes th)
-  at_50 Nil = on _ (omega arith) refl refl
-  at_50 (To g) = fork _ _ _ (to_place _ (omega arith) refl refl, tt) (on _ (omega arith) refl refl)
+  at_50 : (l : Option ℕ) → Level (freeing l s.nodes th)
+  at_50 None = on _ (omega arith) refl refl
+  at_50 (Some g) = fork _ _ _ (to_place _ (omega arith) refl refl, tt) (on _ (omega arith) refl refl)
 
   level : (p : Place) → number p < 60 → Level (step p s th)
   unfolding step beside cleared blocked lost

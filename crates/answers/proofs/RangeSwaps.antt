@@ -1,4 +1,5 @@
 -- 64 to 67 and 77 to 80: the swaps of a base for a range base, of a new store and of the frame's. They rest on GraftBase.antt and GraftTales.antt.
+use Rattle.std.specs.Prelude.{Option, None}
 use mathlib.Core.Path.{◌≡◌, refl, sym, ◌∙◌, ap, subst}
 use mathlib.Core.Logic.{inl, inr}
 use mathlib.Core.Bool.{Bool, true, false, true≢false}
@@ -10,8 +11,6 @@ use borrow.Author.Tests.{eq-eqb, ne_eqb}
 use Rattle.container.specs.Depths.{is_in, find}
 use Rattle.container.specs.Choice.{upd}
 use Rattle.container.specs.Container.{has, union}
-use Rattle.definitions.specs.declared.Link.{Link}
-use Rattle.definitions.specs.declared.Link.TheVariants.{Nil}
 use Rattle.definitions.specs.declared.Kind.TheVariants.{Route}
 use Rattle.definitions.specs.declared.Effect.TheVariants.{Ask}
 use Rattle.definitions.specs.declared.Quarter.{Quarter}
@@ -58,7 +57,7 @@ was_live w w' r z (lives l) q = l
 was_live w w' r z (died e) q = absurd (alive q (r.dead z e))
 
 -- a frame without a store is a query's own
-free_ends : (w : World) (hist : Hist) (T : ℕ) (th : Thread) (f : Frame) (fs : List Frame) → f.store ≡ Nil → PileOf w hist T th (f ∷ fs) → (f.lower ≤ f.upper) × (f.upper < 64) × (f.done ≡ 0)
+free_ends : (w : World) (hist : Hist) (T : ℕ) (th : Thread) (f : Frame) (fs : List Frame) → f.store ≡ None → PileOf w hist T th (f ∷ fs) → (f.lower ≤ f.upper) × (f.upper < 64) × (f.done ≡ 0)
 free_ends w hist T th f [] i p = go (is_query th.action) p
   where
     go : (c : Bool) → Own c w hist T th f → (f.lower ≤ f.upper) × (f.upper < 64) × (f.done ≡ 0)
@@ -67,7 +66,7 @@ free_ends w hist T th f [] i p = go (is_query th.action) p
     go false (S, a) = absurd (clash (let v = a.store in cc))
 free_ends w hist T th f (g ∷ fs) i ((S, a), _, _) = absurd (clash (let v = a.store in cc))
 
-module _ {b : Bench} {hist : Hist} {now : ℕ} {first : ℕ → Link} (inv : Inv b hist now first) (t : ℕ) where
+module _ {b : Bench} {hist : Hist} {now : ℕ} {first : ℕ → Option ℕ} (inv : Inv b hist now first) (t : ℕ) where
   abbrev th : Thread
   th = b.threads t
 
@@ -150,7 +149,7 @@ module _ {b : Bench} {hist : Hist} {now : ℕ} {first : ℕ → Link} (inv : Inv
             in_c : (n : Nodes) (g : Ghost) → Mem (W n g) hist → Opening (W n g) f → Replaceable (W n g) x → Live (W n g) x → n x ≡ b.store.nodes x → (s : ℕ) → has c s ≡ true → s < g.hi x
             in_c n g m o rx lx zx s h = (repl_within m x s o.at.kind rx lx (ap (λ v. has v.container.set s) zx ∙ h)).1
 
-            root_end : (v : Spot) → At inv t v x → (n : Nodes) (g : Ghost) → Mem (W n g) hist → n x ≡ b.store.nodes x → (n x).parent ≡ Nil → g.hi x ≡ 64
+            root_end : (v : Spot) → At inv t v x → (n : Nodes) (g : Ghost) → Mem (W n g) hist → n x ≡ b.store.nodes x → (n x).parent ≡ None → g.hi x ≡ 64
             root_end Root (_, j) n g m zx h = ap (λ v. g.hi v) (sym j) ∙ m.shape.root_hi
             root_end (Under p d) (j, _) n g m zx h = absurd (clash (let y = ap (λ v. v.parent) zx in cc))
 

@@ -1,5 +1,6 @@
 -- What each place answers a split or join, and that it has made its change by then (definitions/specs/Reasons.antt): `told` shows it of
 -- every place.
+use Rattle.std.specs.Prelude.{Option, Some, None}
 use mathlib.Core.Path.{◌≡◌, refl, sym, ◌∙◌, ap, subst}
 use mathlib.Core.Logic.{inl, inr}
 use mathlib.Core.Bool.{Bool, true, false, not, ◌||◌, ◌&&◌, false≢true}
@@ -9,8 +10,6 @@ use lib.Dec.{ltb, leb}
 use borrow.Author.Tests.{eq-eqb, lt-ltb, le-ltb, ltb-true}
 use Rattle.container.specs.Choice.{ite}
 use Rattle.container.specs.Container.{has}
-use Rattle.definitions.specs.declared.Link.{Link}
-use Rattle.definitions.specs.declared.Link.TheVariants.{Nil, To}
 use Rattle.definitions.specs.declared.Check.{Check}
 use Rattle.definitions.specs.declared.Node.{Node}
 use Rattle.definitions.specs.declared.Action.{Action}
@@ -118,10 +117,10 @@ module _ (s : Store) (th : Thread) where
   lacking Join b i h = rw i (refl, refl)
 
   -- 20, or 19 with the stop on
-  link : (on : Bool) (l : Link) → th.action ≡ Join → Calm 3 (join_under on l th)
-  link on Nil i = rw i (refl, refl)
-  link false (To p) i = (i, refl)
-  link true (To p) i = (i, refl)
+  link : (on : Bool) (l : Option ℕ) → th.action ≡ Join → Calm 3 (join_under on l th)
+  link on None i = rw i (refl, refl)
+  link false (Some p) i = (i, refl)
+  link true (Some p) i = (i, refl)
 
   clear : (a : Action) (b : Node) → th.action ≡ a → Calm 3 (cleared_as a r.stop.on b th)
   clear Lookup b i = rw i (inl refl)
@@ -194,16 +193,16 @@ module _ (s : Store) (th : Thread) where
     by_found n (Next q) b = rw (place_number (swap found q)) (i, o, refl)
     by_found n Miss b = (i, o, refl)
 
-    grand : (l : Link) → Calm 33 (grand_marking l r.nodes th)
-    grand Nil = (i, o, refl)
-    grand (To g) = split 33 _ _ _ (i, o, refl) (i, o, refl)
+    grand : (l : Option ℕ) → Calm 33 (grand_marking l r.nodes th)
+    grand None = (i, o, refl)
+    grand (Some g) = split 33 _ _ _ (i, o, refl) (i, o, refl)
 
     -- 35: the stage of its main becomes a node number, or it goes back
-    backs : (l : Link) → Stands (at (back_out l) th) false
-    backs Nil = (i, o, refl)
-    backs (To g) = (i, o, refl)
+    backs : (l : Option ℕ) → Stands (at (back_out l) th) false
+    backs None = (i, o, refl)
+    backs (Some g) = (i, o, refl)
 
-    made : is_preparing (s.nodes th.main).stage ≡ true → (x : ℕ) (p : Link) (n : ℕ) (g : Link) (y : ℕ) → changes th.action 35 s (perform (Commit th.main x p n g y) s) th ≡ true
+    made : is_preparing (s.nodes th.main).stage ≡ true → (x : ℕ) (p : Option ℕ) (n : ℕ) (g : Option ℕ) (y : ℕ) → changes th.action 35 s (perform (Commit th.main x p n g y) s) th ≡ true
     made e x p n g y = rw (i, e, eq-eqb th.main th.main refl)
 
     not_made : is_preparing (s.nodes th.main).stage ≡ false → changes th.action 35 s s th ≡ false
@@ -237,21 +236,21 @@ module _ (s : Store) (th : Thread) where
   by_united n (Next q) m = rw (place_number (swap united q)) refl
   by_united n Miss m = refl
 
-  at_46 : (l : Link) (m : Node) → Helps 46 (cut_at l m r.nodes r.root th)
-  at_46 Nil m = on_the_way 46 _ _ _ refl refl
-  at_46 (To g) m = on_the_way 46 _ _ _ refl refl
+  at_46 : (l : Option ℕ) (m : Node) → Helps 46 (cut_at l m r.nodes r.root th)
+  at_46 None m = on_the_way 46 _ _ _ refl refl
+  at_46 (Some g) m = on_the_way 46 _ _ _ refl refl
 
-  at_47 : (n : ℕ) (d : Bool) (l : Link) (m : Node) → Helps n (cut_on d l m r.nodes th)
-  at_47 n d Nil m = refl
-  at_47 n d (To g) m = on_the_way n _ _ _ refl refl
+  at_47 : (n : ℕ) (d : Bool) (l : Option ℕ) (m : Node) → Helps n (cut_on d l m r.nodes th)
+  at_47 n d None m = refl
+  at_47 n d (Some g) m = on_the_way n _ _ _ refl refl
 
-  at_48 : (l : Link) (m : Node) → Helps 48 (cut_right l m r.nodes th)
-  at_48 Nil m = refl
-  at_48 (To g) m = on_the_way 48 _ _ _ refl refl
+  at_48 : (l : Option ℕ) (m : Node) → Helps 48 (cut_right l m r.nodes th)
+  at_48 None m = refl
+  at_48 (Some g) m = on_the_way 48 _ _ _ refl refl
 
-  at_50 : (l : Link) → Helps 50 (freeing l r.nodes th)
-  at_50 Nil = refl
-  at_50 (To g) = on_the_way 50 _ _ _ refl refl
+  at_50 : (l : Option ℕ) → Helps 50 (freeing l r.nodes th)
+  at_50 None = refl
+  at_50 (Some g) = on_the_way 50 _ _ _ refl refl
 
   -- ---- every place
 

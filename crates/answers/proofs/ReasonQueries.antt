@@ -1,4 +1,5 @@
 -- The places 60 to 82, and the way back from helping, make no change of a split or join, and lead to parts where none is made.
+use Rattle.std.specs.Prelude.{Option, Some, None}
 use mathlib.Core.Path.{◌≡◌, refl}
 use mathlib.Core.Bool.{Bool, true, false, not, false≢true}
 use mathlib.Core.List.{List, [], ◌∷◌}
@@ -6,10 +7,6 @@ use Prim.Native.Nat.{ℕ}
 use lib.Dec.{eqb}
 use Rattle.container.specs.Choice.{ite}
 use Rattle.container.specs.Container.{cut}
-use Rattle.definitions.specs.declared.Link.{Link}
-use Rattle.definitions.specs.declared.Link.TheVariants.{Nil, To}
-use Rattle.definitions.specs.declared.Shared.{Shared}
-use Rattle.definitions.specs.declared.Shared.TheVariants.{Unset, Set}
 use Rattle.definitions.specs.declared.Node.{Node}
 use Rattle.definitions.specs.declared.Action.{Action}
 use Rattle.definitions.specs.declared.Action.TheVariants.{Lookup, Insert, Remove, Split, Join, Query}
@@ -52,9 +49,9 @@ module _ (s : Sight) (th : Thread) where
   unfolding adding
   added n e c f fs = fork n _ _ _ refl (nexted n f.stack e _ fs)
 
-  first_found : (n : ℕ) (l : Link) (b : Node) (f : Frame) (fs : List Frame) → Free n (found_first l b f fs th)
-  first_found n Nil b f fs = refl
-  first_found n (To k) b f fs = fork n _ _ _ (added n _ _ _ fs) refl
+  first_found : (n : ℕ) (l : Option ℕ) (b : Node) (f : Frame) (fs : List Frame) → Free n (found_first l b f fs th)
+  first_found n None b f fs = refl
+  first_found n (Some k) b f fs = fork n _ _ _ (added n _ _ _ fs) refl
 
   first_reached : (n x : ℕ) (l : List ℕ) (f : Frame) (fs : List Frame) → Free n (reached_first s.nodes x l f fs th)
   unfolding reached_first
@@ -68,13 +65,13 @@ module _ (s : Sight) (th : Thread) where
   popped [] f fs = refl
   popped (x ∷ l) f fs = refl
 
-  met : (v : Shared) (b : Node) (f : Frame) (fs : List Frame) → Free 74 (met_by v b f fs th)
-  met (Set c) b f fs = refl
-  met Unset b f fs = fork 74 _ _ _ (added 74 _ _ _ fs) refl
+  met : (v : Option ℕ) (b : Node) (f : Frame) (fs : List Frame) → Free 74 (met_by v b f fs th)
+  met (Some c) b f fs = refl
+  met None b f fs = fork 74 _ _ _ (added 74 _ _ _ fs) refl
 
-  fills : (v : Shared) (f : Frame) → Free 81 (filling v f th)
-  fills Unset f = refl
-  fills (Set c) f = refl
+  fills : (v : Option ℕ) (f : Frame) → Free 81 (filling v f th)
+  fills None f = refl
+  fills (Some c) f = refl
 
   -- a query says no or yes
   finds : (a : Action) (v : Bool) → is_query a ≡ true → Reason a 82 false (said v)
@@ -89,9 +86,9 @@ module _ (s : Sight) (th : Thread) where
   left [] r = either th 82 (λ _. false) _ _ _ (λ e. finds th.action (not (eqb (cut r (between th.station th.extra)) 0)) e) (λ _. refl)
   left (f ∷ fs) r = backed 82 (f ∷ fs) _
 
-  read_out_lem : (v : Shared) (fs : List Frame) → Free 82 (read_out v fs th)
-  read_out_lem Unset fs = tt
-  read_out_lem (Set r) fs = left fs r
+  read_out_lem : (v : Option ℕ) (fs : List Frame) → Free 82 (read_out v fs th)
+  read_out_lem None fs = tt
+  read_out_lem (Some r) fs = left fs r
 
   by_opening : (n : ℕ) (o : Probe) (b : Node) (f : Frame) (fs : List Frame) → Free n (opened_by o b s f fs th)
   by_opening n (Hit v) b f fs = fork n _ _ _ (fork n _ _ _ (added n _ _ _ fs) tt) tt

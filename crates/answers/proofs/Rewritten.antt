@@ -1,4 +1,5 @@
 -- One number of the node table rewritten, with its mark, its valid mark or its stage: what the places with soft effects share. Assumes nothing.
+use Rattle.std.specs.Prelude.{Option, Some, None}
 use mathlib.Core.Path.{◌≡◌, refl, sym, ◌∙◌, ap}
 use mathlib.Core.Logic.{◌≢◌, ◌⊎◌, inl}
 use mathlib.Core.Bool.{Bool, true, false, cond, false≢true}
@@ -7,8 +8,6 @@ use native.Mathlib.Omega.{arith}
 use lib.Dec.{ltb, eqb}
 use borrow.Author.Tests.{eq-eqb, ne_eqb, ltb-true, ltb-false, eqb-true, lt-ltb, le-ltb}
 use Rattle.container.specs.Choice.{upd}
-use Rattle.definitions.specs.declared.Link.{Link}
-use Rattle.definitions.specs.declared.Link.TheVariants.{Nil, To}
 use Rattle.definitions.specs.declared.Stage.{Stage}
 use Rattle.definitions.specs.declared.Stage.TheVariants.{Preparing, Completing, Aborted, Done}
 use Rattle.definitions.specs.Nodes.{Nodes, with_mark, with_valid, with_stage, is_preparing, over, Entry}
@@ -38,7 +37,7 @@ written f nb nb1 n' u u' r hr hu e a x = elim (test (ltb x u)) [
   | off h ↦ (let i = ltb-false x u h in rw (ne_eqb x r (omega arith), mix_high nb n' u x i))
 ]
 
-pub as_mark : (c : Bool) (l : Link) (v : Entry) → ◌≡◌ {A = Entry} (record {
+pub as_mark : (c : Bool) (l : Option ℕ) (v : Entry) → ◌≡◌ {A = Entry} (record {
   kind = v.kind;
   key = v.key;
   left = v.left;
@@ -117,10 +116,10 @@ prep_is Completing e = absurd (false≢true e)
 prep_is Aborted e = absurd (false≢true e)
 prep_is Done e = absurd (false≢true e)
 
-pub nil_is : (l : Link) → is_nil l ≡ true → l ≡ Nil
-nil_is Nil e = refl
-nil_is (To x) e = absurd (false≢true e)
+pub nil_is : (l : Option ℕ) → is_nil l ≡ true → l ≡ None
+nil_is None e = refl
+nil_is (Some x) e = absurd (false≢true e)
 
-pub mark_is : (l : Link) (m : ℕ) → names l m ≡ true → l ≡ To m
-mark_is Nil m e = absurd (false≢true e)
-mark_is (To x) m e = ap To (sym (eqb-true _ _ e))
+pub mark_is : (l : Option ℕ) (m : ℕ) → names l m ≡ true → l ≡ Some m
+mark_is None m e = absurd (false≢true e)
+mark_is (Some x) m e = ap Some (sym (eqb-true _ _ e))

@@ -1,6 +1,7 @@
 -- What the frames of a range query need of fixed memory, in every file's run: a stack never has more than 86 entries, 85 routes and a base; a
 -- thread that comes to 15 at a range base that waits has room for one frame more; and an idle thread has none. (Numbers used and stores
 -- shown: UsedRun.antt; at most four frames: Reach.antt.)
+use Rattle.std.specs.Prelude.{None}
 use mathlib.Core.Path.{◌≡◌, refl, ap, subst}
 use mathlib.Core.Logic.{◌≢◌}
 use mathlib.Core.List.{List, [], ◌∷◌}
@@ -10,7 +11,6 @@ use lib.ListN.{length}
 use Rattle.definitions.specs.declared.Kind.TheVariants.{Route, Range}
 use Rattle.definitions.specs.declared.Quarter.{Quarter}
 use Rattle.definitions.specs.declared.Quarter.TheVariants.{ReadLeft, SwapLeft, ReadRight, SwapRight}
-use Rattle.definitions.specs.declared.Shared.TheVariants.{Unset}
 use Rattle.definitions.specs.Schedule.{stop_of, records_of}
 use Rattle.definitions.specs.Run.{after}
 use Rattle.definitions.specs.Claim.{moments}
@@ -140,7 +140,7 @@ reach_push file k t e = let o = run_ends file k in let h = o.inv.held (nodes fil
     push_short _ (moments (stop_of file) (records_of file k)) h.mem (reach_store file k) _ e _ ((after file k).bench.threads t) (h.knows t)
 
 pub reach_enter : (file : List ℕ) (k t : ℕ) → t < 4 → ((after file k).bench.threads t).place ≡ 15
-    → (nodes file k ((after file k).bench.threads t).base).kind ≡ Range → (after file k).bench.store.stores (nodes file k ((after file k).bench.threads t).base).store ≡ Unset
+    → (nodes file k ((after file k).bench.threads t).base).kind ≡ Range → (after file k).bench.store.stores (nodes file k ((after file k).bench.threads t).base).store ≡ None
     → length ((after file k).bench.threads t).frames ≤ 3
 reach_enter file k t l e = let o = run_ends file k in push_fits o.inv o.counts.owned t l (ap place_of e)
 

@@ -1,5 +1,6 @@
 -- Demand 3 over the plain set, as 01 has it (definitions/specs/SetClaim.antt). It follows from the answers rule over depths
 -- (AnswersRule.antt): the plain set is the plain table with its depths forgotten, at every moment.
+use Rattle.std.specs.Prelude.{Option, None}
 use mathlib.Core.Path.{◌≡◌, refl, sym, ◌∙◌, ap, subst}
 use mathlib.Core.Bool.{Bool, true, false, not, cond}
 use mathlib.Core.List.{List, [], ◌∷◌}
@@ -7,8 +8,6 @@ use Prim.Native.Nat.{ℕ, zero, suc, ◌/◌, ◌%◌}
 use lib.Dec.{eqb}
 use Rattle.container.specs.Depths.{Found, is_in}
 use Rattle.container.proofs.DepthLaws.{is_in_lem}
-use Rattle.definitions.specs.declared.Link.{Link}
-use Rattle.definitions.specs.declared.Link.TheVariants.{Nil}
 use Rattle.definitions.specs.declared.Answer.{Answer}
 use Rattle.definitions.specs.declared.Action.{Action}
 use Rattle.definitions.specs.declared.Action.TheVariants.{Lookup, Insert, Remove, Split, Join, Query}
@@ -116,12 +115,12 @@ module _ (H : deep.Moments) (G : plain.Moments) (same_at : (k s : ℕ) → is_in
   set_same : (b : Bench) (P : table.Plain) (Q : set.Plain) → Same P Q → deep.SameTable b P → plain.SameSet b Q
   set_same b P Q same h s l = sym (is_in_lem (tree_held b) s) ∙ ap is_in (h s l) ∙ same.stations s
 
-  from_same : (rs : List Rec) (b : Bench) (P : table.Plain) (Q : set.Plain) (f : ℕ → Link) (k : ℕ) → Same P Q → deep.From rs b P H f k → plain.From rs b Q G f k
+  from_same : (rs : List Rec) (b : Bench) (P : table.Plain) (Q : set.Plain) (f : ℕ → Option ℕ) (k : ℕ) → Same P Q → deep.From rs b P H f k → plain.From rs b Q G f k
   from_same [] b P Q f k same h = set_same b P Q same h
   from_same (r ∷ rs) b P Q f k same (h, onward) =
       (set_same b P Q same h, go (record_step b r.last r.first r.second r.extra) onward (λ b' P' Q' z. from_same rs b' P' Q' (first k) (suc k) z))
     where
-      first : ℕ → ℕ → Link
+      first : ℕ → ℕ → Option ℕ
       first j = first_steps (r.first % 16) (r.first / 16) j f
 
       go : (o : Result) → deep.Onward o b r P H (first k) k (λ b' P'. deep.From rs b' P' H (first k) (suc k))
@@ -132,6 +131,6 @@ module _ (H : deep.Moments) (G : plain.Moments) (same_at : (k s : ℕ) → is_in
 
 pub set_rule : SetRule
 set_rule = (
-  λ on rs. from_same (deep.moments on rs) (plain.moments on rs) (moments_same on rs) rs (fresh on) table.empty set.empty (λ _. Nil) 0 empty_same (answers_rule.0 on rs),
+  λ on rs. from_same (deep.moments on rs) (plain.moments on rs) (moments_same on rs) rs (fresh on) table.empty set.empty (λ _. None) 0 empty_same (answers_rule.0 on rs),
   λ file n e s h. answers_rule.1 file n e s h ∙ moments_same (stop_of file) (records_of file (count_of file)) (count_of file) s,
 )

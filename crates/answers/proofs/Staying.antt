@@ -1,4 +1,5 @@
 -- What a step does to frames: it keeps what its thread owns, puts no fifth frame on, and owns the store that it shows.
+use Rattle.std.specs.Prelude.{Option, Some, None}
 use mathlib.Core.Path.{◌≡◌, refl, sym, ◌∙◌, ap, subst}
 use mathlib.Core.Bool.{Bool, true, false, true≢false}
 use Prim.Native.Nat.{ℕ, ◌≤◌}
@@ -9,12 +10,8 @@ use Rattle.answers.proofs.FrameFacts.{TopOf}
 use Rattle.answers.proofs.Owners.{Bears, Owner}
 use Rattle.definitions.specs.declared.Effect.TheVariants.{Quiet, Mark, Settle, Invalid, Swing, Raise, Lower, Base, Fork, Commit, Ask, Fill}
 use Rattle.container.specs.Choice.{ite}
-use Rattle.definitions.specs.declared.Link.{Link}
-use Rattle.definitions.specs.declared.Link.TheVariants.{Nil, To}
 use Rattle.definitions.specs.declared.Kind.{Kind}
 use Rattle.definitions.specs.declared.Kind.TheVariants.{Normal, Route, Main, Neighbour, Range}
-use Rattle.definitions.specs.declared.Shared.{Shared}
-use Rattle.definitions.specs.declared.Shared.TheVariants.{Unset, Set}
 use Rattle.definitions.specs.declared.Effect.{Effect}
 use Rattle.definitions.specs.declared.Check.{Check}
 use Rattle.definitions.specs.declared.Stage.{Stage}
@@ -57,7 +54,7 @@ Shows (Fill j c) k = ⊥
 abbrev pub Stay : Sight → Thread → Turn → Type 0
 Stay s th (Moves th' e) = ((S : ℕ) → Owner th S → Owner th' S) × (length th.frames ≤ 4 → length th'.frames ≤ 4) × ((k : ℕ) → Shows e k → (k ≡ s.shown) × Owner th' k)
 Stay s th (Finishes e a) = (k : ℕ) → Shows e k → ⊥
-Stay s th (Finds c) = (S : ℕ) → Bears th.frames S → s.stores S ≡ Unset → ⊥
+Stay s th (Finds c) = (S : ℕ) → Bears th.frames S → s.stores S ≡ None → ⊥
 Stay s th Full = Unit {0}
 Stay s th NoStore = Unit {0}
 
@@ -78,7 +75,7 @@ bears_top f f' (g ∷ fs) S e b v = v
 
 -- what is asked of the invariant at four places
 abbrev pub Room : Sight → Thread → Type 0
-Room s th = (s.nodes th.base).kind ≡ Range → s.stores (s.nodes th.base).store ≡ Unset → length th.frames ≤ 3
+Room s th = (s.nodes th.base).kind ≡ Range → s.stores (s.nodes th.base).store ≡ None → length th.frames ≤ 3
 
 abbrev pub Single : Thread → Type 0
 Single th = (f : Frame) (fs : List Frame) → th.frames ≡ f ∷ fs → (f.begun ≡ false) × (fs ≡ []) × (is_query th.action ≡ true)
@@ -128,10 +125,10 @@ module _ (s : Sight) (th : Thread) where
   lose Join = (λ k v. v)
   lose Query = tt
 
-  link : (on : Bool) (l : Link) → Stay s th (join_under on l th)
-  link on Nil = (λ k v. v)
-  link false (To p) = (λ S o. o, λ h. h, λ k v. absurd v)
-  link true (To p) = (λ S o. o, λ h. h, λ k v. absurd v)
+  link : (on : Bool) (l : Option ℕ) → Stay s th (join_under on l th)
+  link on None = (λ k v. v)
+  link false (Some p) = (λ S o. o, λ h. h, λ k v. absurd v)
+  link true (Some p) = (λ S o. o, λ h. h, λ k v. absurd v)
 
   clear : (a : Action) → Stay s th (cleared_as a s.stop.on (s.nodes th.base) th)
   clear Lookup = (λ k v. v)
@@ -167,7 +164,7 @@ module _ (s : Sight) (th : Thread) where
 
   bears_next : (e : Effect) (f f' : Frame) (fs : List Frame) → f'.store ≡ f.store → (f.begun ≡ true → f'.begun ≡ true)
       → ((S : ℕ) → Owner th S → Bears (f ∷ fs) S) → (length th.frames ≤ 4 → length (f ∷ fs) ≤ 4)
-      → ((k : ℕ) → Shows e k → (k ≡ s.shown) × (is_query th.action ≡ true) × (f.store ≡ To k) × (f.begun ≡ true) × (fs ≡ []))
+      → ((k : ℕ) → Shows e k → (k ≡ s.shown) × (is_query th.action ≡ true) × (f.store ≡ Some k) × (f.begun ≡ true) × (fs ≡ []))
       → (n : ℕ) → Stay s th (Moves (to_frames n (f' ∷ fs) th) e)
   bears_next e f f' fs i j ow fw sh n = (
     (λ S o. (o.0, bears_top f f' fs S i j (ow S o))),
@@ -176,7 +173,7 @@ module _ (s : Sight) (th : Thread) where
   )
 
   nexted : (l : List ℕ) (e : Effect) (f : Frame) (fs : List Frame) → ((S : ℕ) → Owner th S → Bears (f ∷ fs) S) → (length th.frames ≤ 4 → length (f ∷ fs) ≤ 4)
-      → ((k : ℕ) → Shows e k → (k ≡ s.shown) × (is_query th.action ≡ true) × (f.store ≡ To k) × (f.begun ≡ true) × (fs ≡ [])) → Stay s th (next_from l e f fs th)
+      → ((k : ℕ) → Shows e k → (k ≡ s.shown) × (is_query th.action ≡ true) × (f.store ≡ Some k) × (f.begun ≡ true) × (fs ≡ [])) → Stay s th (next_from l e f fs th)
   nexted [] e f fs ow fw sh = bears_next e f f fs refl (λ v. v) ow fw sh 81
   nexted (x ∷ []) e f fs ow fw sh = bears_next e f (popping x [] f) fs refl (λ v. v) ow fw sh 81
   nexted (x ∷ y ∷ l) e f fs ow fw sh = bears_next e f (popping x (y ∷ l) f) fs refl (λ v. v) ow fw sh 70
@@ -190,14 +187,14 @@ module _ (s : Sight) (th : Thread) where
   goes_back e n = backed th.frames e n (λ S o. o.1) (λ h. h)
 
   added : (e : Effect) (c : ℕ) (f : Frame) (fs : List Frame) → ((S : ℕ) → Owner th S → Bears (f ∷ fs) S) → (length th.frames ≤ 4 → length (f ∷ fs) ≤ 4)
-      → ((k : ℕ) → Shows e k → (k ≡ s.shown) × (is_query th.action ≡ true) × (f.store ≡ To k) × (fs ≡ [])) → Stay s th (adding e c f fs th)
+      → ((k : ℕ) → Shows e k → (k ≡ s.shown) × (is_query th.action ≡ true) × (f.store ≡ Some k) × (fs ≡ [])) → Stay s th (adding e c f fs th)
   unfolding adding
   added e c f fs ow fw sh = fork s th _ _ _ (bears_next e (adds c f) (adds c f) fs refl (λ v. v) ow' fw sh' 81) (nexted f.stack e (adds c f) fs ow' fw sh')
     where
       ow' : (S : ℕ) → Owner th S → Bears (adds c f ∷ fs) S
       ow' S o = bears_top f (adds c f) fs S refl (λ _. refl) (ow S o)
 
-      sh' : (k : ℕ) → Shows e k → (k ≡ s.shown) × (is_query th.action ≡ true) × (f.store ≡ To k) × (true ≡ true) × (fs ≡ [])
+      sh' : (k : ℕ) → Shows e k → (k ≡ s.shown) × (is_query th.action ≡ true) × (f.store ≡ Some k) × (true ≡ true) × (fs ≡ [])
       sh' k v = let (a, q, d, z) = sh k v in (a, q, d, refl, z)
 
   -- of the frame that is carried on
@@ -214,9 +211,9 @@ module _ (s : Sight) (th : Thread) where
     with_top : (e : Effect) (c : ℕ) (f' : Frame) → ((k : ℕ) → Shows e k → ⊥) → f'.store ≡ f.store → (f.begun ≡ true → f'.begun ≡ true) → Stay s th (adding e c f' fs th)
     with_top e c f' n i j = added e c f' fs (λ S o. bears_top f f' fs S i j (mine S o)) few (λ k v. absurd (n k v))
 
-    first_found : (l : Link) (n : Node) (x : ℕ) (st : List ℕ) → Stay s th (found_first l n (in_hand x st f) fs th)
-    first_found Nil n x st = moves (in_hand x st f) refl (λ v. v) 62
-    first_found (To k) n x st = fork s th _ _ _ (with_top Quiet _ (in_hand x st f) (λ k v. v) refl (λ v. v)) (moves (in_hand x st f) refl (λ v. v) 82)
+    first_found : (l : Option ℕ) (n : Node) (x : ℕ) (st : List ℕ) → Stay s th (found_first l n (in_hand x st f) fs th)
+    first_found None n x st = moves (in_hand x st f) refl (λ v. v) 62
+    first_found (Some k) n x st = fork s th _ _ _ (with_top Quiet _ (in_hand x st f) (λ k v. v) refl (λ v. v)) (moves (in_hand x st f) refl (λ v. v) 82)
 
     first_reached : (x : ℕ) (l : List ℕ) → Stay s th (reached_first s.nodes x l f fs th)
     unfolding reached_first
@@ -230,9 +227,9 @@ module _ (s : Sight) (th : Thread) where
     popped [] = moves (with_stack [] f) refl (λ v. v) 81
     popped (x ∷ l) = moves (with_stack (x ∷ l) f) refl (λ v. v) 72
 
-    met : (v : Shared) (n : Node) → Stay s th (met_by v n f fs th)
-    met (Set c) n = (λ S o. o, λ h. h, λ k v. absurd v)
-    met Unset n = fork s th _ _ _ (with_top Quiet _ f (λ k v. v) refl (λ v. v)) (λ S o. o, λ h. h, λ k v. absurd v)
+    met : (v : Option ℕ) (n : Node) → Stay s th (met_by v n f fs th)
+    met (Some c) n = (λ S o. o, λ h. h, λ k v. absurd v)
+    met None n = fork s th _ _ _ (with_top Quiet _ f (λ k v. v) refl (λ v. v)) (λ S o. o, λ h. h, λ k v. absurd v)
 
     -- 62: the frame takes another store; it has not begun
     ride : f.begun ≡ false → (l h k n : ℕ) → Stay s th (Moves (to_frames n (asks l h k f ∷ fs) th) Quiet)
@@ -245,7 +242,7 @@ module _ (s : Sight) (th : Thread) where
     by_opening : (f.begun ≡ false) × (fs ≡ []) × (is_query th.action ≡ true) → (o : Probe) (n : Node) → Stay s th (opened_by o n s f fs th)
     by_opening (b, z, q) (Next r) n = (λ S o. o, λ h. h, λ k v. absurd v)
     by_opening (b, z, q) Miss n = (λ S o. o, λ h. h, λ k v. absurd v)
-    by_opening (b, z, q) (Hit v) n = fork s th _ _ _ (fork s th _ _ _ (added _ _ _ fs (λ S o. other fs S (mine S o)) few (λ k v. (sym v, q, ap To v, z))) tt) tt
+    by_opening (b, z, q) (Hit v) n = fork s th _ _ _ (fork s th _ _ _ (added _ _ _ fs (λ S o. other fs S (mine S o)) few (λ k v. (sym v, q, ap Some v, z))) tt) tt
       where
         other : (fs : List Frame) (S : ℕ) → Bears (f ∷ fs) S → Bears (asks f.lower f.upper s.shown (in_hand s.used (tail_of f.stack) f) ∷ fs) S
         other [] S (_, j) = absurd (true≢false (sym j ∙ b))
@@ -257,18 +254,18 @@ module _ (s : Sight) (th : Thread) where
     by_next Miss n = goes_back _ (λ k v. v)
 
     -- 82
-    under : (gs : List Frame) → fs ≡ gs → (r : ℕ) → s.stores (store_of f.store) ≡ Set r → Stay s th (leaving gs r th)
-    under [] z r q = fork_eq s th _ _ _ (λ _ S v u. clash (let (i, _) : (f.store ≡ To S) × (f.begun ≡ true) = subst (λ l. Bears (f ∷ l) S) z (subst (λ l. Bears l S) E v) in let y : s.stores S ≡ Set r = ap (λ v. s.stores (store_of v)) (sym i) ∙ q in cc))
+    under : (gs : List Frame) → fs ≡ gs → (r : ℕ) → s.stores (store_of f.store) ≡ Some r → Stay s th (leaving gs r th)
+    under [] z r q = fork_eq s th _ _ _ (λ _ S v u. clash (let (i, _) : (f.store ≡ Some S) × (f.begun ≡ true) = subst (λ l. Bears (f ∷ l) S) z (subst (λ l. Bears l S) E v) in let y : s.stores S ≡ Some r = ap (λ v. s.stores (store_of v)) (sym i) ∙ q in cc))
         (λ c. backed [] Quiet (λ k v. v) (λ S o. absurd (true≢false (sym o.0 ∙ c))) (λ h. omega arith))
     under (g ∷ gs) z r q = backed (g ∷ gs) Quiet (λ k v. v) (λ S o. subst (λ l. Bears (f ∷ l) S) z (mine S o)) (λ h. let k = subst (λ l. length (f ∷ l) ≤ 4) z (few h) in omega arith)
 
-    read_out_lem : (v : Shared) → s.stores (store_of f.store) ≡ v → Stay s th (read_out v fs th)
-    read_out_lem Unset q = tt
-    read_out_lem (Set r) q = under fs refl r q
+    read_out_lem : (v : Option ℕ) → s.stores (store_of f.store) ≡ v → Stay s th (read_out v fs th)
+    read_out_lem None q = tt
+    read_out_lem (Some r) q = under fs refl r q
 
-    fills : (v : Shared) → Stay s th (filling v f th)
-    fills Unset = (λ S o. o, λ h. h, λ k v. absurd v)
-    fills (Set c) = (λ S o. o, λ h. h, λ k v. absurd v)
+    fills : (v : Option ℕ) → Stay s th (filling v f th)
+    fills None = (λ S o. o, λ h. h, λ k v. absurd v)
+    fills (Some c) = (λ S o. o, λ h. h, λ k v. absurd v)
 
   in_frame_lem : (fs : List Frame) (k : Frame → List Frame → Turn) → th.frames ≡ fs → ((f : Frame) (gs : List Frame) → th.frames ≡ f ∷ gs → Stay s th (k f gs)) → Stay s th (in_frame fs k)
   in_frame_lem [] k E h = tt
@@ -280,11 +277,11 @@ module _ (s : Sight) (th : Thread) where
   helped Aborted m c h = goes_back _ (λ k v. v)
   helped Done m c h = h
 
-  range_helped : (v : Shared) (n : Node) → (v ≡ Unset → length th.frames ≤ 3) → Stay s th (help_by (check_store v n) th)
-  range_helped (Set c) n h = goes_back _ (λ k v. v)
-  range_helped Unset n h = ((λ S o. (o.0, on_top_lem th.frames S o.1)), (λ _. let k = h refl in omega arith), λ k v. absurd v)
+  range_helped : (v : Option ℕ) (n : Node) → (v ≡ None → length th.frames ≤ 3) → Stay s th (help_by (check_store v n) th)
+  range_helped (Some c) n h = goes_back _ (λ k v. v)
+  range_helped None n h = ((λ S o. (o.0, on_top_lem th.frames S o.1)), (λ _. let k = h refl in omega arith), λ k v. absurd v)
     where
-      on_top_lem : (fs : List Frame) (S : ℕ) → Bears fs S → Bears (new_frame n.lower n.upper (To n.store) ∷ fs) S
+      on_top_lem : (fs : List Frame) (S : ℕ) → Bears fs S → Bears (new_frame n.lower n.upper (Some n.store) ∷ fs) S
       on_top_lem [] S v = absurd v
       on_top_lem (g ∷ fs) S v = v
 
@@ -305,33 +302,33 @@ module _ (s : Sight) (th : Thread) where
   block Join h = (λ k v. v)
   block Query h = tt
 
-  shows_unmark : (l : Link) (k : ℕ) → Shows (unmark l) k → ⊥
-  shows_unmark Nil k v = v
-  shows_unmark (To r) k v = v
+  shows_unmark : (l : Option ℕ) (k : ℕ) → Shows (unmark l) k → ⊥
+  shows_unmark None k v = v
+  shows_unmark (Some r) k v = v
 
-  shows_invalid : (l : Link) (k : ℕ) → Shows (invalid l) k → ⊥
-  shows_invalid Nil k v = v
-  shows_invalid (To r) k v = v
+  shows_invalid : (l : Option ℕ) (k : ℕ) → Shows (invalid l) k → ⊥
+  shows_invalid None k v = v
+  shows_invalid (Some r) k v = v
 
-  grand : (l : Link) → Stay s th (grand_marking l s.nodes th)
-  grand Nil = (λ S o. o, λ h. h, λ k v. absurd v)
-  grand (To g) = fork s th _ _ _ (λ S o. o, λ h. h, λ k v. absurd v) (λ S o. o, λ h. h, λ k v. absurd v)
+  grand : (l : Option ℕ) → Stay s th (grand_marking l s.nodes th)
+  grand None = (λ S o. o, λ h. h, λ k v. absurd v)
+  grand (Some g) = fork s th _ _ _ (λ S o. o, λ h. h, λ k v. absurd v) (λ S o. o, λ h. h, λ k v. absurd v)
 
-  at_46 : (l : Link) (m : Node) → Stay s th (cut_at l m s.nodes s.root th)
-  at_46 Nil m = fork s th _ _ _ (λ S o. o, λ h. h, λ k v. absurd v) (λ S o. o, λ h. h, λ k v. absurd v)
-  at_46 (To g) m = fork s th _ _ _ (λ S o. o, λ h. h, λ k v. absurd v) (λ S o. o, λ h. h, λ k v. absurd v)
+  at_46 : (l : Option ℕ) (m : Node) → Stay s th (cut_at l m s.nodes s.root th)
+  at_46 None m = fork s th _ _ _ (λ S o. o, λ h. h, λ k v. absurd v) (λ S o. o, λ h. h, λ k v. absurd v)
+  at_46 (Some g) m = fork s th _ _ _ (λ S o. o, λ h. h, λ k v. absurd v) (λ S o. o, λ h. h, λ k v. absurd v)
 
-  at_47 : (d : Bool) (l : Link) (m : Node) → Stay s th (cut_on d l m s.nodes th)
-  at_47 d Nil m = (λ S o. o, λ h. h, λ k v. absurd v)
-  at_47 d (To g) m = fork s th _ _ _ (λ S o. o, λ h. h, λ k v. absurd v) (λ S o. o, λ h. h, λ k v. absurd v)
+  at_47 : (d : Bool) (l : Option ℕ) (m : Node) → Stay s th (cut_on d l m s.nodes th)
+  at_47 d None m = (λ S o. o, λ h. h, λ k v. absurd v)
+  at_47 d (Some g) m = fork s th _ _ _ (λ S o. o, λ h. h, λ k v. absurd v) (λ S o. o, λ h. h, λ k v. absurd v)
 
-  at_48 : (l : Link) (m : Node) → Stay s th (cut_right l m s.nodes th)
-  at_48 Nil m = (λ S o. o, λ h. h, λ k v. absurd v)
-  at_48 (To g) m = fork s th _ _ _ (λ S o. o, λ h. h, λ k v. absurd v) (λ S o. o, λ h. h, λ k v. absurd v)
+  at_48 : (l : Option ℕ) (m : Node) → Stay s th (cut_right l m s.nodes th)
+  at_48 None m = (λ S o. o, λ h. h, λ k v. absurd v)
+  at_48 (Some g) m = fork s th _ _ _ (λ S o. o, λ h. h, λ k v. absurd v) (λ S o. o, λ h. h, λ k v. absurd v)
 
-  at_50 : (l : Link) → Stay s th (freeing l s.nodes th)
-  at_50 Nil = (λ S o. o, λ h. h, λ k v. absurd v)
-  at_50 (To g) = fork s th _ _ _ (λ S o. o, λ h. h, λ k v. absurd v) (λ S o. o, λ h. h, λ k v. absurd v)
+  at_50 : (l : Option ℕ) → Stay s th (freeing l s.nodes th)
+  at_50 None = (λ S o. o, λ h. h, λ k v. absurd v)
+  at_50 (Some g) = fork s th _ _ _ (λ S o. o, λ h. h, λ k v. absurd v) (λ S o. o, λ h. h, λ k v. absurd v)
 
   pub stay_op : (p : Place) → Sem p s th → Stay s th (step p s th)
   unfolding step beside cleared blocked check

@@ -1,4 +1,5 @@
 -- What a thread knows outlives what another thread's effect leaves (`Rely`): at each place (`stays`), and of its pile of frames (`pile_stays`).
+use Rattle.std.specs.Prelude.{Option, Some, None}
 use mathlib.Core.Path.{◌≡◌, refl, sym, ◌∙◌, ap, subst}
 use mathlib.Core.Logic.{◌≢◌, inl, inr}
 use mathlib.Core.Bool.{Bool, true, false}
@@ -6,9 +7,6 @@ use mathlib.Core.List.{List, [], ◌∷◌}
 use Prim.Native.Nat.{ℕ, ◌<◌, ◌≤◌}
 use native.Mathlib.Omega.{arith}
 use Rattle.container.specs.Depths.{is_in}
-use Rattle.definitions.specs.declared.Link.TheVariants.{To}
-use Rattle.definitions.specs.declared.Shared.{Shared}
-use Rattle.definitions.specs.declared.Shared.TheVariants.{Unset, Set}
 use Rattle.definitions.specs.declared.Kind.TheVariants.{Route}
 use Rattle.definitions.specs.declared.Quarter.{Quarter}
 use Rattle.definitions.specs.declared.Quarter.TheVariants.{ReadLeft, SwapLeft, ReadRight, SwapRight}
@@ -133,18 +131,18 @@ module _ (w w' : World) (hist : Hist) (Mine : ℕ → Type 0) (r : Rely w w' his
   bottom_stays t th f h (rides S a i j p m) = let o = r.stores.told S a.low in
       rides S (asks_stays f S a) (rw o.2 i) (rw o.1 j) p (λ c e. go (w.stores S) refl c e)
     where
-      go : (v : Shared) → w.stores S ≡ v → (c : ℕ) → w'.stores S ≡ Set c → t ≤ (w'.tale S).time
-      go Unset q c e = omega (arith, r.stores.timed S c a.low q e)
-      go (Set c') q c e = let o = r.stores.set S c' q in rw o.1 (m c' q)
+      go : (v : Option ℕ) → w.stores S ≡ v → (c : ℕ) → w'.stores S ≡ Some c → t ≤ (w'.tale S).time
+      go None q c e = omega (arith, r.stores.timed S c a.low q e)
+      go (Some c') q c e = let o = r.stores.set S c' q in rw o.1 (m c' q)
 
-  waiting_stays : (f g : Frame) (S : ℕ) → Asks w hist f S → ((Z : ℕ) → g.store ≡ To Z → Asks w hist g Z) → Waiting w f g → Waiting w' f g
+  waiting_stays : (f g : Frame) (S : ℕ) → Asks w hist f S → ((Z : ℕ) → g.store ≡ Some Z → Asks w hist g Z) → Waiting w f g → Waiting w' f g
   waiting_stays f g S a ag (own_free e i) = own_free e i
   waiting_stays f g S a ag (blocked b s h) = blocked b (ap (λ c. reaches c.set g.upper) (r.container (prev_of g)) ∙ s) (λ S' Z e i q. let u : S ≡ S' = (let v = a.store in cc) in
       let (wz, eq) = h S' Z e i (r.stores.waited S' q) in let az = ag Z i in let d = az.added b in let lowS : S' < w.shown = rw (← u) a.low in
       let q' = r.stores.hold Z S' (prev_of g) az.low lowS d.of d.born wz q eq (subst (λ v. reaches (w.nodes (prev_of g)).container.set v ≡ false) az.upper s) in
       (q', (r.stores.still Z _ d.of d.born q').1 ∙ eq ∙ sym (r.stores.told S' lowS).2))
 
-  blocks_stays : (x : ℕ) (f : Frame) → ((Z : ℕ) → f.store ≡ To Z → Asks w hist f Z) → Blocks w x f → Blocks w' x f
+  blocks_stays : (x : ℕ) (f : Frame) → ((Z : ℕ) → f.store ≡ Some Z → Asks w hist f Z) → Blocks w x f → Blocks w' x f
   blocks_stays x f af (first_base e b) = first_base e b
   blocks_stays x f af (stands b s h) = stands b (ap (λ c. reaches c.set f.upper) (r.container (prev_of f)) ∙ s) (λ S Z o i q.
       let (lowS, wz, eq) = h S Z (sym (r.kind x) ∙ o.0, sym (r.stores.store x) ∙ o.1) i (r.stores.waited S q) in let az = af Z i in let d = az.added b in
@@ -160,12 +158,12 @@ module _ (w w' : World) (hist : Hist) (Mine : ℕ → Type 0) (r : Rely w w' his
       go false (S, a) = (S, asks_stays f S a)
   pile_stays t th (f ∷ g ∷ fs) h ((S, a), v, p) = ((S, asks_stays f S a), waiting_stays f g S a (asks_of w hist t th (g ∷ fs) p) v, pile_stays t th (g ∷ fs) h p)
 
-  unless : (f : Frame) (Q Q' : ℕ → Type 0) → ((S : ℕ) → f.store ≡ To S → Waits w' S → Q S → Q' S) → Unless w f Q → Unless w' f Q'
+  unless : (f : Frame) (Q Q' : ℕ → Type 0) → ((S : ℕ) → f.store ≡ Some S → Waits w' S → Q S → Q' S) → Unless w f Q → Unless w' f Q'
   unless f Q Q' h k S e q = h S e q (k S e (r.stores.waited S q))
 
   -- of the frame on top; its store is told of
-  module _ (f : Frame) (tell : (S : ℕ) → f.store ≡ To S → Asks w hist f S) where
-    added_at : (S : ℕ) → f.store ≡ To S → f.begun ≡ true → Added w hist f S
+  module _ (f : Frame) (tell : (S : ℕ) → f.store ≡ Some S → Asks w hist f S) where
+    added_at : (S : ℕ) → f.store ≡ Some S → f.begun ≡ true → Added w hist f S
     added_at S e b = (tell S e).added b
 
     downward : Downward w f → Downward w' f
@@ -188,7 +186,7 @@ module _ (w w' : World) (hist : Hist) (Mine : ℕ → Type 0) (r : Rely w w' his
     upward : Upward w f → Upward w' f
     upward k = record { begun = k.begun; climb = climbs f.stack k.climb; some = k.some; short = ap (λ c. reaches c.set f.upper) (r.container (prev_of f)) ∙ k.short }
 
-    hi_still : (S : ℕ) → f.store ≡ To S → f.begun ≡ true → Waits w' S → w'.hi (prev_of f) ≡ w.hi (prev_of f)
+    hi_still : (S : ℕ) → f.store ≡ Some S → f.begun ≡ true → Waits w' S → w'.hi (prev_of f) ≡ w.hi (prev_of f)
     hi_still S e b q = let a = added_at S e b in (r.stores.still S _ a.of a.born q).1
 
     turns : Upward w f → Turns w f → Turns w' f

@@ -1,5 +1,6 @@
 -- What a step may write, place by place: whatever takes a number stands under a test for room (01: refusal 13), and takes the next ones; whatever shows a
 -- store too (02 b: refusal 16); only a split's own swap makes a route. For showing of each effect, once, what is to hold after every step. Assumes nothing.
+use Rattle.std.specs.Prelude.{Option, Some, None}
 use mathlib.Core.Path.{◌≡◌, refl}
 use mathlib.Core.Logic.{◌≢◌}
 use mathlib.Core.Bool.{Bool, true, false}
@@ -21,13 +22,9 @@ use Rattle.definitions.specs.declared.Kind.{Kind}
 use Rattle.definitions.specs.declared.Kind.TheVariants.{Normal, Route, Main, Neighbour}
 use Rattle.definitions.specs.declared.Stage.{Stage}
 use Rattle.definitions.specs.declared.Stage.TheVariants.{Aborted, Done}
-use Rattle.definitions.specs.declared.Link.{Link}
-use Rattle.definitions.specs.declared.Link.TheVariants.{Nil, To}
 use Rattle.definitions.specs.declared.Node.{Node}
 use Rattle.definitions.specs.declared.Content.{Content}
 use Rattle.definitions.specs.declared.Content.TheVariants.{Of, With, Without}
-use Rattle.definitions.specs.declared.Shared.{Shared}
-use Rattle.definitions.specs.declared.Shared.TheVariants.{Unset, Set}
 use Rattle.definitions.specs.declared.Probe.{Probe}
 use Rattle.definitions.specs.declared.Probe.TheVariants.{Hit, Next, Miss}
 use Rattle.definitions.specs.declared.Quarter.{Quarter}
@@ -43,18 +40,18 @@ pub record Allowed (s : Store) (p : Place) (th : Thread) (Q : Effect → Type 0)
   pub quiet : Q Quiet
   pub raise : Q Raise
   pub lower : Q Lower
-  pub mark : (r : ℕ) (l : Link) → Q (Mark r l)
+  pub mark : (r : ℕ) (l : Option ℕ) → Q (Mark r l)
   pub settle : (m : ℕ) (v : Stage) → Q (Settle m v)
   pub void : (r : ℕ) → Q (Invalid r)
   pub swing : (v : Spot) (x : ℕ) → Q (Swing v x)
   pub fill : (k c : ℕ) → Q (Fill k c)
-  pub base : (v : Spot) (k : Kind) (l : Link) (c : Content) (m : ℕ) → k ≢ Route → s.used + 1 ≤ 256 → Q (Base v s.used k l c m)
+  pub base : (v : Spot) (k : Kind) (l : Option ℕ) (c : Content) (m : ℕ) → k ≢ Route → s.used + 1 ≤ 256 → Q (Base v s.used k l c m)
   -- only here a route is made: "a split's swap at 10 to 13", of its own base at that base's key
   pub fork : (v : Spot) (q : Quarter) → p ≡ swap own q → th.action ≡ Split → s.used + 3 ≤ 256
       → Q (Fork v s.used (s.used + 1) (s.used + 2) (split_key (s.nodes th.base).container.set) th.base)
-  pub commit : (m : ℕ) (l : Link) (n : ℕ) (g : Link) (o : ℕ) → s.used + 1 ≤ 256 → Q (Commit m s.used l n g o)
-  pub ask_old : (v : Spot) (l : Link) (y a h k : ℕ) → s.used + 1 ≤ 256 → Q (Ask v s.used l y a h k false)
-  pub ask_new : (v : Spot) (l : Link) (y a h : ℕ) → s.used + 1 ≤ 256 → s.shown + 1 ≤ 64 → Q (Ask v s.used l y a h s.shown true)
+  pub commit : (m : ℕ) (l : Option ℕ) (n : ℕ) (g : Option ℕ) (o : ℕ) → s.used + 1 ≤ 256 → Q (Commit m s.used l n g o)
+  pub ask_old : (v : Spot) (l : Option ℕ) (y a h k : ℕ) → s.used + 1 ≤ 256 → Q (Ask v s.used l y a h k false)
+  pub ask_new : (v : Spot) (l : Option ℕ) (y a h : ℕ) → s.used + 1 ≤ 256 → s.shown + 1 ≤ 64 → Q (Ask v s.used l y a h s.shown true)
 
 -- Q of the effect of a turn
 abbrev pub Each : (Effect → Type 0) → Turn → Type 0
@@ -136,10 +133,10 @@ module _ (s : Store) (p : Place) (th : Thread) (Q : Effect → Type 0) (may : Al
   losing Join = may.quiet
   losing Query = tt
 
-  under : (on : Bool) (l : Link) → Each Q (join_under on l th)
-  under on Nil = may.quiet
-  under false (To r) = may.quiet
-  under true (To r) = may.quiet
+  under : (on : Bool) (l : Option ℕ) → Each Q (join_under on l th)
+  under on None = may.quiet
+  under false (Some r) = may.quiet
+  under true (Some r) = may.quiet
 
   clearing : (a : Action) (on : Bool) (b : Node) → Each Q (cleared_as a on b th)
   clearing Lookup on b = may.quiet
@@ -192,9 +189,9 @@ module _ (s : Store) (p : Place) (th : Thread) (Q : Effect → Type 0) (may : Al
   unfolding back
   backed e g = backed_in th.frames e g
 
-  found_first_lem : (l : Link) (b : Node) (f : Frame) (fs : List Frame) → Each Q (found_first l b f fs th)
-  found_first_lem Nil b f fs = may.quiet
-  found_first_lem (To k) b f fs = pick _ _ _ (added Quiet _ f fs may.quiet) may.quiet
+  found_first_lem : (l : Option ℕ) (b : Node) (f : Frame) (fs : List Frame) → Each Q (found_first l b f fs th)
+  found_first_lem None b f fs = may.quiet
+  found_first_lem (Some k) b f fs = pick _ _ _ (added Quiet _ f fs may.quiet) may.quiet
 
   framed : (l : List Frame) (k : Frame → List Frame → Turn) → ((f : Frame) (fs : List Frame) → Each Q (k f fs)) → Each Q (in_frame l k)
   framed [] k g = tt
@@ -217,33 +214,33 @@ module _ (s : Store) (p : Place) (th : Thread) (Q : Effect → Type 0) (may : Al
   blocking Query c = tt
 
   -- 33 to 51
-  grand : (l : Link) → Each Q (grand_marking l w.nodes th)
-  grand Nil = may.quiet
-  grand (To g) = pick _ _ _ (may.mark g _) may.quiet
+  grand : (l : Option ℕ) → Each Q (grand_marking l w.nodes th)
+  grand None = may.quiet
+  grand (Some g) = pick _ _ _ (may.mark g _) may.quiet
 
-  unmarking : (l : Link) → Q (unmark l)
-  unmarking Nil = may.quiet
-  unmarking (To r) = may.mark r _
+  unmarking : (l : Option ℕ) → Q (unmark l)
+  unmarking None = may.quiet
+  unmarking (Some r) = may.mark r _
 
-  voiding : (l : Link) → Q (invalid l)
-  voiding Nil = may.quiet
-  voiding (To r) = may.void r
+  voiding : (l : Option ℕ) → Q (invalid l)
+  voiding None = may.quiet
+  voiding (Some r) = may.void r
 
-  at_46 : (l : Link) (m : Node) → Each Q (cut_at l m w.nodes w.root th)
-  at_46 Nil m = pick _ _ _ (may.swing _ _) may.quiet
-  at_46 (To g) m = pick _ _ _ may.quiet may.quiet
+  at_46 : (l : Option ℕ) (m : Node) → Each Q (cut_at l m w.nodes w.root th)
+  at_46 None m = pick _ _ _ (may.swing _ _) may.quiet
+  at_46 (Some g) m = pick _ _ _ may.quiet may.quiet
 
-  at_47 : (d : Bool) (l : Link) (m : Node) → Each Q (cut_on d l m w.nodes th)
-  at_47 d Nil m = may.quiet
-  at_47 d (To g) m = pick _ _ _ (may.swing (Under g d) (replacement m)) may.quiet
+  at_47 : (d : Bool) (l : Option ℕ) (m : Node) → Each Q (cut_on d l m w.nodes th)
+  at_47 d None m = may.quiet
+  at_47 d (Some g) m = pick _ _ _ (may.swing (Under g d) (replacement m)) may.quiet
 
-  at_48 : (l : Link) (m : Node) → Each Q (cut_right l m w.nodes th)
-  at_48 Nil m = may.quiet
-  at_48 (To g) m = pick _ _ _ may.quiet may.quiet
+  at_48 : (l : Option ℕ) (m : Node) → Each Q (cut_right l m w.nodes th)
+  at_48 None m = may.quiet
+  at_48 (Some g) m = pick _ _ _ may.quiet may.quiet
 
-  at_50 : (l : Link) → Each Q (freeing l w.nodes th)
-  at_50 Nil = may.quiet
-  at_50 (To g) = pick _ _ _ (may.mark g _) may.quiet
+  at_50 : (l : Option ℕ) → Each Q (freeing l w.nodes th)
+  at_50 None = may.quiet
+  at_50 (Some g) = pick _ _ _ (may.mark g _) may.quiet
 
   ending : (e : Effect) → Q e → Each Q (ended e th)
   ending e g = pick _ _ _ g (backed e g)
@@ -271,21 +268,21 @@ module _ (s : Store) (p : Place) (th : Thread) (Q : Effect → Type 0) (may : Al
   popped [] f fs = may.quiet
   popped (x ∷ l) f fs = may.quiet
 
-  met : (v : Shared) (b : Node) (f : Frame) (fs : List Frame) → Each Q (met_by v b f fs th)
-  met Unset b f fs = pick _ _ _ (added Quiet _ f fs may.quiet) may.quiet
-  met (Set _) b f fs = may.quiet
+  met : (v : Option ℕ) (b : Node) (f : Frame) (fs : List Frame) → Each Q (met_by v b f fs th)
+  met None b f fs = pick _ _ _ (added Quiet _ f fs may.quiet) may.quiet
+  met (Some _) b f fs = may.quiet
 
-  fills : (v : Shared) (f : Frame) → Each Q (filling v f th)
-  fills Unset f = may.fill _ _
-  fills (Set _) f = may.quiet
+  fills : (v : Option ℕ) (f : Frame) → Each Q (filling v f th)
+  fills None f = may.fill _ _
+  fills (Some _) f = may.quiet
 
   leaves : (l : List Frame) (r : ℕ) → Each Q (leaving l r th)
   leaves [] r = pick _ _ _ tt may.quiet
   leaves (f ∷ fs) r = backed_in (f ∷ fs) Quiet may.quiet
 
-  reads_out : (v : Shared) (l : List Frame) → Each Q (read_out v l th)
-  reads_out Unset l = tt
-  reads_out (Set r) l = leaves l r
+  reads_out : (v : Option ℕ) (l : List Frame) → Each Q (read_out v l th)
+  reads_out None l = tt
+  reads_out (Some r) l = leaves l r
 
   -- the step that is taken at a place z
   at_place : (z : Place) → p ≡ z → Each Q (step z w th)

@@ -1,36 +1,32 @@
--- A rule of a table, proved at every entry by one test that is computed over the whole table. Assumes nothing.
-use mathlib.Core.Path.{◌∙◌, subst, sym}
-use mathlib.Core.Bool.{Bool, true, false}
+-- The select table has each byte's row: all rows are computed, once. Assumes nothing.
+use mathlib.Core.Path.{◌≡◌, ap, ◌∙◌}
+use mathlib.Core.Bool.{Bool, true, ◌&&◌}
 use mathlib.Core.List.{List, [], ◌∷◌}
 use Prim.Native.Nat.{ℕ, zero, suc, ◌+◌, ◌<◌}
-use native.Mathlib.Nat.{add-zero, zero-add, add-suc, suc-add, le_of_suc-le-suc, not-suc-le-zero}
-use lib.Dec.{T}
+use native.Mathlib.Omega.{arith}
+use lib.Count.{ones_in}
+use lib.Dec.{T, eqb}
+use lib.Ieee.Fits.{and_l, and_r}
 use lib.ListN.{length, get_or}
+use Rattle.std.proofs.Math.Facts.{eqb_yes}
+use Rattle.container.specs.Choice.{ite}
+use Rattle.container.specs.Container.{has}
+use Rattle.container.specs.Select.{row_of, entries, selected, seek}
+use Rattle.container.specs.declared.select.TheConstants.{ROWS}
 
-abbrev both : Bool → Bool → Bool
-both true b = b
-both false b = false
+-- the list has the rows of the bytes from b on
+abbrev are_rows : ℕ → List ℕ → Bool
+are_rows b [] = true
+are_rows b (r ∷ rs) = eqb r (row_of b) && are_rows (suc b) rs
 
-both_left : (a b : Bool) → T (both a b) → T a
-both_left true b t = tt
-both_left false b t = t
+row_in : (rs : List ℕ) (b k j : ℕ) → T (are_rows b rs) → k < length rs → j ≡ b + k → get_or rs k 0 ≡ row_of j
+row_in [] b k j t h e = absurd (omega arith)
+row_in (r ∷ rs) b zero j t h e = let s : b ≡ j = omega arith in eqb_yes (and_l _ _ t) ∙ ap row_of s
+row_in (r ∷ rs) b (suc k) j t h e = row_in rs (suc b) k j (and_r (eqb r (row_of b)) _ t) (omega arith) (omega arith)
 
-both_right : (a b : Bool) → T (both a b) → T b
-both_right true b t = t
-both_right false b t = absurd t
+all_rows : T (are_rows 0 ROWS)
+unfolding row_of entries selected seek ite has ones_in
+all_rows = tt
 
--- the test f passes at each entry of the list and its place, counted from i
-abbrev pub every : (ℕ → ℕ → Bool) → ℕ → List ℕ → Bool
-every f i [] = true
-every f i (x ∷ xs) = both (f i x) (every f (suc i) xs)
-
-from : (f : ℕ → ℕ → Bool) (xs : List ℕ) (i : ℕ) → T (every f i xs) → (k : ℕ) → k < length xs → T (f (i + k) (get_or xs k 0))
-from f [] i t k h = absurd (not-suc-le-zero h)
-from f (x ∷ xs) i t zero h = subst (λ (m : ℕ). T (f m x)) (sym (add-zero i)) (both_left (f i x) (every f (suc i) xs) t)
-from f (x ∷ xs) i t (suc k) h =
-    subst (λ (m : ℕ). T (f m (get_or xs k 0))) (suc-add i k ∙ sym (add-suc i k))
-    (from f xs (suc i) (both_right (f i x) (every f (suc i) xs) t) k (le_of_suc-le-suc h))
-
--- a test that every entry passes holds at entry k
-pub at : (f : ℕ → ℕ → Bool) (xs : List ℕ) → T (every f 0 xs) → (k : ℕ) → k < length xs → T (f k (get_or xs k 0))
-at f xs t k h = subst (λ (m : ℕ). T (f m (get_or xs k 0))) (zero-add k) (from f xs 0 t k h)
+pub row_at : (b : ℕ) → b < 256 → get_or ROWS b 0 ≡ row_of b
+row_at b h = row_in ROWS 0 b b all_rows h (omega arith)

@@ -1,7 +1,5 @@
 -- An answer as a row has it is told by its number, so that a row's last byte prints the word of its answer. Assumes nothing.
-use Prim.Native.Nat.{ℕ}
 use mathlib.Core.Path.{◌≡◌, refl}
-use mathlib.Core.List.{List}
 use Rattle.definitions.specs.Answers.{rendered, answer_number, answer_of, answer_word, shown}
 use Rattle.definitions.specs.declared.Answer.{Answer}
 use Rattle.definitions.specs.declared.Answer.TheVariants.{No, Yes, At, Lacking, Blocked, Lost, NeighbourBlocked, StoodDown, Stopped}

@@ -1,6 +1,6 @@
 -- What a case of a table is: a file, the lengths of a row buffer and of a text buffer, and all that Run and List hand back for it;
 -- and a quicker form of what the definitions say of it.
-use Prim.Native.Nat.{ℕ, zero, suc, ◌+◌, ◌-◌, ◌*◌, ◌/◌, ◌%◌, ◌^◌}
+use Prim.Native.Nat.{ℕ, ◌+◌, ◌-◌, ◌^◌}
 use Prim.Native.Char.{code}
 use Prim.Native.String.{String, [] as over, ◌∷◌ as ◌then◌}
 use mathlib.Core.Path.{◌≡◌, sym, refl, ap₂, ◌∙◌}

@@ -1,15 +1,14 @@
 -- The check of a base gives the one answer that holds of it (02, g), whatever the nodes hold. Assumes nothing.
+use Rattle.std.specs.Prelude.{Option, Some, None}
 use Prim.Native.Nat.{ℕ}
 use mathlib.Core.Path.{◌≡◌, refl, sym, ap, ◌∙◌}
-use mathlib.Core.Logic.{◌⊎◌, inl, inr}
-use mathlib.Core.Bool.{true, false, false≢true}
+use mathlib.Core.Logic.{inl, inr}
+use mathlib.Core.Bool.{true, false≢true}
 use Rattle.definitions.specs.declared.Kind.{Kind}
 use Rattle.definitions.specs.declared.Kind.TheVariants.{Normal, Route, Main, Neighbour, Range}
 use Rattle.definitions.specs.declared.Stage.{Stage}
 use Rattle.definitions.specs.declared.Stage.TheVariants.{Preparing, Completing, Aborted, Done}
 use Rattle.definitions.specs.declared.Check.{Check}
-use Rattle.definitions.specs.declared.Shared.{Shared}
-use Rattle.definitions.specs.declared.Shared.TheVariants.{Unset, Set}
 use Rattle.definitions.specs.Nodes.{Shapes, Stores, is_set, Means, check_stage, check_store, check_as, check, CheckRule}
 
 module _ (n : Shapes) (k : Stores) (x : ℕ) where
@@ -26,9 +25,9 @@ module _ (n : Shapes) (k : Stores) (x : ℕ) where
   neighbour_means Aborted t e = inr (inr (inl (t, inl e)))
   neighbour_means Done t e = inr (inr (inl (t, inr e)))
 
-  range_means : (v : Shared) → (n x).kind ≡ Range → k (n x).store ≡ v → Means (check_store v (n x)) n k x
-  range_means Unset t e = (t, e, refl, refl, refl)
-  range_means (Set c) t e = inr (inr (inr (t, ap is_set e)))
+  range_means : (v : Option ℕ) → (n x).kind ≡ Range → k (n x).store ≡ v → Means (check_store v (n x)) n k x
+  range_means None t e = (t, e, refl, refl, refl)
+  range_means (Some c) t e = inr (inr (inr (t, ap is_set e)))
 
   means : (v : Kind) → (n x).kind ≡ v → (v ≡ Route → ⊥) → Means (check_as v n k x) n k x
   means Normal t f = inl t
@@ -50,13 +49,13 @@ module _ (n : Shapes) (k : Stores) (x : ℕ) where
   as_normal t = rw t
 
   -- by what the store of a range base holds
-  as_range : {v : Shared} → (n x).kind ≡ Range → k (n x).store ≡ v → check_store v (n x) ≡ check n k x
+  as_range : {v : Option ℕ} → (n x).kind ≡ Range → k (n x).store ≡ v → check_store v (n x) ≡ check n k x
   unfolding check
   as_range t e = ap (λ s. check_store s (n x)) (sym e) ∙ ap (λ c. check_as c n k x) (sym t)
 
-  as_set : (v : Shared) → (n x).kind ≡ Range → k (n x).store ≡ v → is_set v ≡ true → Check.Replaceable ≡ check n k x
-  as_set Unset t e i = absurd (false≢true i)
-  as_set (Set c) t e i = as_range t e
+  as_set : (v : Option ℕ) → (n x).kind ≡ Range → k (n x).store ≡ v → is_set v ≡ true → Check.Replaceable ≡ check n k x
+  as_set None t e i = absurd (false≢true i)
+  as_set (Some c) t e i = as_range t e
 
   alone : (c : Check) → Means c n k x → c ≡ check n k x
   alone Check.Replaceable (inl t) = as_normal t

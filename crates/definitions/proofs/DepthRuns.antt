@@ -1,11 +1,10 @@
 -- Runs of version 2 files (02, request a), shown of the definitions: one table that a single theorem covers, and a printed run with
 -- depths. Each case as in Runs.antt.
-use Prim.Native.Nat.{ℕ, zero, suc, ◌+◌, ◌*◌, ◌/◌, ◌%◌, ◌-◌}
+use Prim.Native.Nat.{ℕ}
 use Prim.Native.String.{String}
 use mathlib.Core.Path.{◌≡◌, refl, sym, ◌∙◌}
 use mathlib.Core.List.{List, [], ◌∷◌, ◌++◌, map}
 use lib.Count.{ones_in, count_trailing_zeros}
-use lib.ListN.{length}
 use Rattle.container.specs.Choice.{ite}
 use Rattle.container.specs.Container.{has, insert, remove, union, cut, below, from, size, least, drop_least, upper_half, lower_half, split_key}
 use Rattle.container.specs.Depths.{put, take_out, merge, within, lower, upper}
@@ -19,7 +18,7 @@ use Rattle.definitions.specs.Listing.{decimal, stations_to, stations_text, route
 use Rattle.definitions.specs.Printed.{action_word, first_line, depth_text, row_line, last_line, printed}
 use Rattle.definitions.proofs.Quick.{quick_printed, quick_printed_printed}
 use Rattle.definitions.proofs.DeepCases.{steps, start, op, says, finds, schedule, run, refusing, faulty, deep_run, deep_rows}
-use Rattle.definitions.proofs.Cases.{Lookup, Insert, Remove, Split, Join, Case, report, word, lines, outcome, promised, quick, map_quick}
+use Rattle.definitions.proofs.Cases.{Lookup, Insert, Remove, Join, Case, report, lines, outcome, promised, quick, map_quick}
 
 abbrev table : List Case
 table =

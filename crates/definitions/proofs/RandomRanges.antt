@@ -1,6 +1,6 @@
 -- Random schedules of 300 records that stand on every place from 60 to 82, shown of the definitions against a model in C++: every row
 -- with its answer (2 to 6 too) and its set, the listing, numbers and stores used, and each thread's place at the end. From 3 they go to 1, 16, 40, 60.
-use Prim.Native.Nat.{ℕ, zero, suc, ◌+◌, ◌*◌, ◌/◌}
+use Prim.Native.Nat.{ℕ, ◌/◌}
 use Prim.Native.Char.{code}
 use Prim.Native.String.{String, [] as over, ◌∷◌ as ◌then◌}
 use mathlib.Core.Path.{◌≡◌, refl}

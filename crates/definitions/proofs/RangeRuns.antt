@@ -1,10 +1,9 @@
 -- Runs with range queries (02, request b), shown of the definitions: one table of version 2 files, and a printed run.
-use Prim.Native.Nat.{ℕ, zero, suc, ◌+◌, ◌*◌, ◌/◌, ◌%◌, ◌-◌}
+use Prim.Native.Nat.{ℕ}
 use Prim.Native.String.{String}
 use mathlib.Core.Path.{◌≡◌, refl, sym, ◌∙◌}
 use mathlib.Core.List.{List, [], ◌∷◌, ◌++◌, map}
 use lib.Count.{ones_in, count_trailing_zeros}
-use lib.ListN.{length}
 use Rattle.container.specs.Choice.{ite}
 use Rattle.container.specs.Container.{has, insert, remove, union, cut, below, from, size, least, drop_least, upper_half, lower_half, split_key}
 use Rattle.container.specs.Depths.{put, take_out, merge, within, lower, upper}
@@ -17,8 +16,8 @@ use Rattle.definitions.specs.Run.{bytes_of, run_refusal}
 use Rattle.definitions.specs.Listing.{decimal, stations_to, stations_text, route_line, base_line, set_line, list_refusal}
 use Rattle.definitions.specs.Printed.{action_word, first_line, depth_text, row_line, last_line, printed}
 use Rattle.definitions.proofs.Quick.{quick_printed, quick_printed_printed}
-use Rattle.definitions.proofs.DeepCases.{steps, start, op, says, finds, Range, found, schedule, run, refusing, ending, deep_run, deep_rows}
-use Rattle.definitions.proofs.Cases.{Insert, Split, Join, Case, word, lines, outcome, promised, quick, map_quick}
+use Rattle.definitions.proofs.DeepCases.{steps, start, op, says, finds, Range, found, schedule, run, refusing, deep_run, deep_rows}
+use Rattle.definitions.proofs.Cases.{Insert, Split, Join, Case, lines, outcome, promised, quick, map_quick}
 
 -- rows after the deep run: the set, the tree below its route
 abbrev after : List ℕ → List ℕ → List ℕ → ℕ → ℕ → List String → Case

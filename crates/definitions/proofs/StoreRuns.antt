@@ -1,10 +1,10 @@
 -- Runs in which the stores of range queries run out (02, request b): refusal 16, only where the comparison succeeds, and 13 before it.
-use Prim.Native.Nat.{ℕ, zero, suc, ◌+◌, ◌*◌, ◌/◌, ◌%◌, ◌-◌}
+use Rattle.std.specs.Prelude.{None}
+use Prim.Native.Nat.{ℕ, zero, suc}
 use mathlib.Core.Path.{◌≡◌, refl, ◌∙◌}
 use mathlib.Core.Bool.{false}
 use mathlib.Core.List.{List, [], ◌∷◌, ◌++◌, map}
 use lib.Count.{ones_in, count_trailing_zeros}
-use lib.ListN.{length}
 use Rattle.container.specs.Choice.{ite, upd}
 use Rattle.container.specs.Container.{has, insert, remove, union, cut, below, from, size, least, drop_least, upper_half, lower_half, split_key}
 use Rattle.container.specs.Depths.{put, take_out, merge, within, lower, upper}
@@ -19,9 +19,7 @@ use Rattle.definitions.specs.Schedule.{count_of, record_at, file_refusal}
 use Rattle.definitions.specs.Run.{bytes_of, run_refusal}
 use Rattle.definitions.specs.Listing.{decimal, stations_to, stations_text, route_line, base_line, set_line, list_refusal}
 use Rattle.definitions.specs.Printed.{action_word, first_line, depth_text, row_line, last_line}
-use Rattle.definitions.specs.declared.Link.TheVariants.{Nil}
 use Rattle.definitions.specs.declared.Quarter.TheVariants.{ReadLeft}
-use Rattle.definitions.specs.declared.Shared.TheVariants.{Unset}
 use Rattle.definitions.proofs.DeepCases.{steps, start, says, Range, found, ending}
 use Rattle.definitions.proofs.Cases.{Insert, Case, outcome, promised, quick, map_quick}
 
@@ -54,10 +52,10 @@ table =
 
 -- t0 at 64 with base 0 in hand
 abbrev swapping : Thread
-swapping = at (swap opening ReadLeft) (at_frames p60 (in_hand 0 [] (new_frame 0 3 Nil) ∷ []) (asking 0 3))
+swapping = at (swap opening ReadLeft) (at_frames p60 (in_hand 0 [] (new_frame 0 3 None) ∷ []) (asking 0 3))
 
 abbrev standing : ℕ → ℕ → ℕ → Bench
-standing root used shown = bench (store (λ _. empty_base) root used (λ _. Unset) shown (stop false 0)) (upd (λ _. idle) 0 swapping)
+standing root used shown = bench (store (λ _. empty_base) root used (λ _. None) shown (stop false 0)) (upd (λ _. idle) 0 swapping)
 
 -- what comes of t0's step: the refusal, 0 for none
 abbrev refusal : Result → ℕ

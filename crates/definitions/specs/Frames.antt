@@ -1,12 +1,10 @@
 -- Frames of a range query or of helping one, and what costs no step (02 b; docs/RANGE.md, "Without a step of their own"):
 -- found first, add, next, back. Nothing shared is read here: a base's container, kind, ends and store never change.
-use Rattle.std.specs.Prelude.{ℕ, suc, Bool, true, false, not, cond, List, [], ◌∷◌, eqb}
+use Rattle.std.specs.Prelude.{ℕ, suc, Bool, true, false, not, cond, List, [], ◌∷◌, eqb, Option, Some, None}
 use Rattle.container.specs.Choice.{ite}
 use Rattle.container.specs.Container.{all, union, cut, below, from}
-use Rattle.definitions.specs.Threads.{Frame, Thread, new_frame, Turn, Moves, Full}
-use Rattle.definitions.specs.Places.{p1, p60, p62, p70, p81, p82, at, at_frames}
-use Rattle.definitions.specs.declared.Link.{Link}
-use Rattle.definitions.specs.declared.Link.TheVariants.{Nil, To}
+use Rattle.definitions.specs.Threads.{Frame, Thread, Turn, Moves, Full}
+use Rattle.definitions.specs.Places.{p1, p60, p62, p70, p81, p82, at_frames}
 use Rattle.definitions.specs.declared.Kind.{Kind}
 use Rattle.definitions.specs.declared.Kind.TheVariants.{Normal, Route, Main, Neighbour, Range}
 use Rattle.definitions.specs.declared.Node.{Node}
@@ -44,7 +42,7 @@ noting k f = record { lower = f.lower; upper = f.upper; store = f.store; stack =
 
 -- "the frame takes ends and store" of a base; or it has the new store
 abbrev pub asks : ℕ → ℕ → ℕ → Frame → Frame
-asks l h k f = record { lower = l; upper = h; store = To k; stack = f.stack; backup = f.backup; base = f.base; popped = f.popped; key = f.key; done = f.done; begun = f.begun }
+asks l h k f = record { lower = l; upper = h; store = Some k; stack = f.stack; backup = f.backup; base = f.base; popped = f.popped; key = f.key; done = f.done; begun = f.begun }
 
 -- "done takes the container of the base in hand, the backup becomes the stack"
 abbrev pub adds : ℕ → Frame → Frame
@@ -60,9 +58,9 @@ abbrev pub tail_of : List ℕ → List ℕ
 tail_of [] = []
 tail_of (x ∷ s) = s
 
-abbrev pub store_of : Link → ℕ
-store_of Nil = 0
-store_of (To k) = k
+abbrev pub store_of : Option ℕ → ℕ
+store_of None = 0
+store_of (Some k) = k
 
 abbrev pub is_range : Kind → Bool
 is_range Normal = false
@@ -94,9 +92,9 @@ adding e c f fs th = ite (reaches c f.upper) (Moves (at_frames p81 (adds c f ∷
 
 -- "Found first": base b is on top of the stack. "The frame has no store: 62. It has one and the base is a range base of that store: add. Else 82"
 -- (168-171)
-abbrev pub found_first : Link → Node → Frame → List Frame → Thread → Turn
-found_first Nil b f fs th = Moves (at_frames p62 (f ∷ fs) th) Quiet
-found_first (To k) b f fs th = ite (is_of k b) (adding Quiet b.container f fs th) (Moves (at_frames p82 (f ∷ fs) th) Quiet)
+abbrev pub found_first : Option ℕ → Node → Frame → List Frame → Thread → Turn
+found_first None b f fs th = Moves (at_frames p62 (f ∷ fs) th) Quiet
+found_first (Some k) b f fs th = ite (is_of k b) (adding Quiet b.container f fs th) (Moves (at_frames p82 (f ∷ fs) th) Quiet)
 
 -- "Back: the end of helping. No frame: 1. The top frame has no base in done: 60. Else the stack becomes the backup, then next" (198-199, 203-204)
 abbrev pub back_in : List Frame → Effect → Thread → Turn

@@ -1,9 +1,7 @@
 -- The history file, what it says and when it is refused (02, j). Events are read in order; nothing here searches.
-use Rattle.std.specs.Prelude.{ℕ, zero, suc, ◌+◌, ◌*◌, Bool, true, false, not, cond, ◌||◌, ◌&&◌, List, eqb, ltb, length, get_or}
+use Rattle.std.specs.Prelude.{ℕ, zero, suc, ◌+◌, ◌*◌, Bool, true, false, not, ◌||◌, ◌&&◌, List, eqb, ltb, length, get_or, Option, Some, None}
 use Rattle.container.specs.Choice.{ite, upd}
 use Rattle.definitions.specs.Schedule.{count_of}
-use Rattle.definitions.specs.declared.Link.{Link}
-use Rattle.definitions.specs.declared.Link.TheVariants.{Nil, To}
 
 -- "each event four bytes: thread, action 1 to 3, station, and 0 for start or 1 and 2 for finishing with no or yes"
 pub record Event : Type 0 where
@@ -44,20 +42,20 @@ operations n f = record { count = n; operation = f }
 -- what a part of a history says: the operations, each thread's open one by its number, and which have finished
 pub record Reading : Type 0 where
   pub all : Operations
-  pub busy : ℕ → Link
+  pub busy : ℕ → Option ℕ
   pub finished : ℕ → Bool
 
 abbrev pub no_operation : Operation
 no_operation = record { action = 0; station = 0; yes = false; finished_before = λ _. false }
 
 abbrev pub unread : Reading
-unread = record { all = operations 0 (λ _. no_operation); busy = λ _. Nil; finished = λ _. false }
+unread = record { all = operations 0 (λ _. no_operation); busy = λ _. None; finished = λ _. false }
 
 -- a start: the next number, on its thread
 abbrev pub begun : Event → Reading → Reading
 begun e R = record {
   all = operations (suc R.all.count) (upd R.all.operation R.all.count (record { action = e.action; station = e.station; yes = false; finished_before = R.finished }));
-  busy = upd R.busy e.thread (To R.all.count);
+  busy = upd R.busy e.thread (Some R.all.count);
   finished = R.finished;
 }
 
@@ -65,11 +63,11 @@ abbrev pub answered : Operation → Bool → Operation
 answered o y = record { action = o.action; station = o.station; yes = y; finished_before = o.finished_before }
 
 -- a finish of what its thread has open
-abbrev pub ended_by : Link → Event → Reading → Reading
-ended_by Nil e R = R
-ended_by (To i) e R = record {
+abbrev pub ended_by : Option ℕ → Event → Reading → Reading
+ended_by None e R = R
+ended_by (Some i) e R = record {
   all = operations R.all.count (upd R.all.operation i (answered (R.all.operation i) (eqb e.mark 2)));
-  busy = upd R.busy e.thread Nil;
+  busy = upd R.busy e.thread None;
   finished = upd R.finished i true;
 }
 
@@ -83,18 +81,18 @@ reading E (suc k) = noted (E k) (reading E k)
 
 -- ---- what is refused
 
-abbrev pub is_open : Link → Bool
-is_open Nil = false
-is_open (To _) = true
+abbrev pub is_open : Option ℕ → Bool
+is_open None = false
+is_open (Some _) = true
 
 -- "thread, action 1 to 3, station, and 0 for start or 1 and 2": four threads and 64 stations (01, "What the bench holds")
 abbrev pub in_range : Event → Bool
 in_range e = ltb e.thread 4 && (ltb 0 e.action && (ltb e.action 4 && (ltb e.station 64 && ltb e.mark 3)))
 
 -- a finish that agrees in action and station with what its thread has open
-abbrev pub closes : Link → Event → Reading → Bool
-closes Nil e R = false
-closes (To i) e R = eqb e.action (R.all.operation i).action && eqb e.station (R.all.operation i).station
+abbrev pub closes : Option ℕ → Event → Reading → Bool
+closes None e R = false
+closes (Some i) e R = eqb e.action (R.all.operation i).action && eqb e.station (R.all.operation i).station
 
 -- "a field is outside its range, a start falls on a busy thread or a finish on an idle one, or a finish differs in action or
 -- station from what its thread has open"; R is what the events before it say

@@ -1,10 +1,10 @@
 -- What Judge hands back for every file (02, j): what an order of the operations is, the first such order, and the report. Nothing here
 -- says how an order is found.
-use Rattle.std.specs.Prelude.{ℕ, zero, suc, ◌+◌, ◌-◌, ◌<◌, ◌≡◌, ◌⊎◌, ◌≢◌, Bool, true, false, not, cond, List, [], ◌∷◌, ◌++◌, eqb, ltb, length, replicate}
+use Rattle.std.specs.Prelude.{ℕ, zero, suc, ◌-◌, ◌<◌, ◌≡◌, ◌⊎◌, ◌≢◌, Bool, true, false, not, cond, List, [], ◌∷◌, ◌++◌, eqb, ltb, length, replicate}
 use Rattle.definitions.specs.PlainSet.{settled}
 use Rattle.definitions.specs.declared.Action.{Action}
 use Rattle.definitions.specs.declared.Action.TheVariants.{Lookup, Insert, Remove, Split, Join, Query}
-use Rattle.definitions.specs.History.{Operation, Operations, reading_of, history_refusal}
+use Rattle.definitions.specs.History.{Operations, reading_of, history_refusal}
 use Rattle.definitions.specs.declared.Judged.{Judged}
 
 -- ---- an order of all operations

@@ -1,5 +1,5 @@
 -- What the places 60 to 82 decide (02 b; docs/RANGE.md, "The places", in its words). Nothing shared is read here: Steps.antt reads, once a step.
-use Rattle.std.specs.Prelude.{ℕ, ◌+◌, Bool, true, false, cond, List, [], ◌∷◌, eqb, ltb, leb}
+use Rattle.std.specs.Prelude.{ℕ, ◌+◌, Bool, true, false, cond, List, [], ◌∷◌, eqb, ltb, leb, Option, Some, None}
 use Rattle.container.specs.Choice.{ite}
 use Rattle.container.specs.Container.{cut}
 use Rattle.definitions.specs.Nodes.{Shapes, is_route}
@@ -13,8 +13,6 @@ use Rattle.definitions.specs.declared.Action.TheVariants.{Lookup, Insert, Remove
 use Rattle.definitions.specs.declared.Probe.{Probe}
 use Rattle.definitions.specs.declared.Probe.TheVariants.{Hit, Next, Miss}
 use Rattle.definitions.specs.declared.Effect.TheVariants.{Quiet, Ask, Fill}
-use Rattle.definitions.specs.declared.Shared.{Shared}
-use Rattle.definitions.specs.declared.Shared.TheVariants.{Unset, Set}
 
 -- ---- 60 to 67: the first base
 
@@ -59,9 +57,9 @@ abbrev pub ascended : Node → Frame → List Frame → Thread → Turn
 ascended r f fs th = ite (cond r.valid (ltb f.key r.key) false) (goes (at p71 th)) (pop_on (tail_of f.stack) f fs th)
 
 -- 74: "set: 82. Unset: a range base of this store: add. Else 76"
-abbrev pub met_by : Shared → Node → Frame → List Frame → Thread → Turn
-met_by (Set _) b f fs th = goes (at p82 th)
-met_by Unset b f fs th = ite (is_of (store_of f.store) b) (adding Quiet b.container f fs th) (goes (at p76 th))
+abbrev pub met_by : Option ℕ → Node → Frame → List Frame → Thread → Turn
+met_by (Some _) b f fs th = goes (at p82 th)
+met_by None b f fs th = ite (is_of (store_of f.store) b) (adding Quiet b.container f fs th) (goes (at p76 th))
 
 -- 77 to 80: "the base for a new range base with its container and parent, the frame's ends and store"; "success: the new base is on top in place
 -- of the old one, add. Failure: back"
@@ -74,9 +72,9 @@ extended_by Miss b s f fs th = back Quiet th
 -- ---- 81, 82
 
 -- 81: "swaps the store's result from unset to done": "82 either way"
-abbrev pub filling : Shared → Frame → Thread → Turn
-filling Unset f th = Moves (at p82 th) (Fill (store_of f.store) f.done)
-filling (Set _) f th = goes (at p82 th)
+abbrev pub filling : Option ℕ → Frame → Thread → Turn
+filling None f th = Moves (at p82 th) (Fill (store_of f.store) f.done)
+filling (Some _) f th = goes (at p82 th)
 
 -- 82: "the frame ends. The last frame of a query: it finishes with the result cut to its own ends (141). Else back"
 abbrev pub is_query : Action → Bool
@@ -92,6 +90,6 @@ leaving [] r th = ite (is_query th.action) (Finds (cut r (between th.station th.
 leaving (f ∷ fs) r th = back_in (f ∷ fs) Quiet th
 
 -- no thread comes here before the result is set
-abbrev pub read_out : Shared → List Frame → Thread → Turn
-read_out Unset fs th = Full
-read_out (Set r) fs th = leaving fs r th
+abbrev pub read_out : Option ℕ → List Frame → Thread → Turn
+read_out None fs th = Full
+read_out (Some r) fs th = leaving fs r th

@@ -1,6 +1,6 @@
 -- Demand 3 as 01 has it, before the depths: the answers rule over the plain set. It is claimed of records of either version, those of
 -- version 1 among them, with the moments and first steps of Claim.antt, and follows from the claim there: crate answers, SetRule.antt.
-use Rattle.std.specs.Prelude.{ℕ, zero, suc, ◌/◌, ◌%◌, ◌<◌, ◌≤◌, ◌≡◌, Bool, not, List, [], ◌∷◌}
+use Rattle.std.specs.Prelude.{ℕ, zero, suc, ◌/◌, ◌%◌, ◌<◌, ◌≤◌, ◌≡◌, Bool, not, List, [], ◌∷◌, Option, None}
 use Rattle.container.specs.Container.{has}
 use Rattle.definitions.specs.Bench.{Bench, fresh}
 use Rattle.definitions.specs.Records.{Row, no_row, row, Result, refused, carried, record_step}
@@ -11,8 +11,6 @@ use Rattle.definitions.specs.Run.{run_refusal, run_report}
 use Rattle.definitions.specs.Plain.{was_refused, was_carried}
 use Rattle.definitions.specs.PlainSet.{Operation, no_operation, doing, Plain, empty, feed}
 use Rattle.definitions.specs.Claim.{row_added, first_steps, moment, OwnSwap}
-use Rattle.definitions.specs.declared.Link.{Link}
-use Rattle.definitions.specs.declared.Link.TheVariants.{Nil}
 use Rattle.definitions.specs.declared.Answer.{Answer}
 use Rattle.definitions.specs.declared.Action.TheVariants.{Lookup, Insert, Remove, Split, Join, Query}
 
@@ -63,13 +61,13 @@ Answered (row a _ _) o place P H f k = Fits o place P H f k a
 -- ---- the claim
 
 -- from moment k on: H is the plain set at every moment of the list, f each thread's first step
-abbrev pub Onward : Result → Bench → Rec → Plain → Moments → (ℕ → Link) → ℕ → (Bench → Plain → Type 0) → Type 0
+abbrev pub Onward : Result → Bench → Rec → Plain → Moments → (ℕ → Option ℕ) → ℕ → (Bench → Plain → Type 0) → Type 0
 Onward (refused _) b r P H f k C = SameSet b (feed r was_refused P)
 Onward (carried b' w) b r P H f k C =
     Answered w (P.operation (r.first / 16)) (b.threads (r.first / 16)).place P H (moment (f (r.first / 16))) k
     × C b' (feed r (was_carried (row_added w)) P)
 
-abbrev pub From : List Rec → Bench → Plain → Moments → (ℕ → Link) → ℕ → Type 0
+abbrev pub From : List Rec → Bench → Plain → Moments → (ℕ → Option ℕ) → ℕ → Type 0
 From [] b P H f k = SameSet b P
 From (r ∷ rs) b P H f k =
     SameSet b P
@@ -78,7 +76,7 @@ From (r ∷ rs) b P H f k =
 
 -- every list of records, "from a fresh bench: root 0, all threads idle, used 1", with the stop off or on
 abbrev pub Claim : Bool → List Rec → Type 0
-Claim on rs = From rs (fresh on) empty (moments on rs) (λ _. Nil) 0
+Claim on rs = From rs (fresh on) empty (moments on rs) (λ _. None) 0
 
 -- "Run's set [is compared] at the last [moment], unless Run refused the file with 1 to 5"; n is the row buffer's length
 abbrev pub RunClaim : List ℕ → ℕ → Type 0

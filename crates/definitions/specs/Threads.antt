@@ -1,8 +1,6 @@
 -- Threads and frames, and what a step decides (01, "Places"; 02 b: docs/RANGE.md).
-use Rattle.std.specs.Prelude.{ℕ, ◌+◌, Bool, true, false, List, [], ◌∷◌, leb}
+use Rattle.std.specs.Prelude.{ℕ, ◌+◌, Bool, true, false, List, [], ◌∷◌, leb, Option, None}
 use Rattle.container.specs.Choice.{ite}
-use Rattle.definitions.specs.declared.Link.{Link}
-use Rattle.definitions.specs.declared.Link.TheVariants.{Nil}
 use Rattle.definitions.specs.declared.Action.{Action}
 use Rattle.definitions.specs.declared.Action.TheVariants.{Lookup, Query}
 use Rattle.definitions.specs.declared.Effect.{Effect}
@@ -14,7 +12,7 @@ pub record Frame : Type 0 where
   -- the ends asked, both inside; no store only in a query's own frame, at first
   pub lower : ℕ
   pub upper : ℕ
-  pub store : Link
+  pub store : Option ℕ
   -- node numbers, the top first; the backup is the stack when the last base was added
   pub stack : List ℕ
   pub backup : List ℕ
@@ -26,7 +24,7 @@ pub record Frame : Type 0 where
   pub done : ℕ
   pub begun : Bool
 
-abbrev pub new_frame : ℕ → ℕ → Link → Frame
+abbrev pub new_frame : ℕ → ℕ → Option ℕ → Frame
 new_frame l h k = record { lower = l; upper = h; store = k; stack = []; backup = []; base = 0; popped = 0; key = 0; done = 0; begun = false }
 
 -- a thread: its operation, its place (0 where it is idle) and its notes
@@ -52,18 +50,18 @@ pub record Thread : Type 0 where
   pub main : ℕ
   pub owner : Bool
   -- of a join: the grandparent, and the parent's other child
-  pub grandparent : Link
+  pub grandparent : Option ℕ
   pub other : ℕ
   -- the frame that is carried on is the first; the others wait
   pub frames : List Frame
 
 -- a thread that has noted an operation, at a place, and nothing else
 abbrev pub begun : Action → ℕ → ℕ → ℕ → Thread
-begun a s d p = record { action = a; station = s; extra = d; place = p; route = 0; read = 0; base = 0; parent = 0; left = true; found = 0; neighbour = 0; main = 0; owner = false; grandparent = Nil; other = 0; frames = [] }
+begun a s d p = record { action = a; station = s; extra = d; place = p; route = 0; read = 0; base = 0; parent = 0; left = true; found = 0; neighbour = 0; main = 0; owner = false; grandparent = None; other = 0; frames = [] }
 
 -- "A query starts with one: its own ends, no store, at place 60"
 abbrev pub asking : ℕ → ℕ → Thread
-asking l h = record { action = Query; station = l; extra = h; place = 60; route = 0; read = 0; base = 0; parent = 0; left = true; found = 0; neighbour = 0; main = 0; owner = false; grandparent = Nil; other = 0; frames = new_frame l h Nil ∷ [] }
+asking l h = record { action = Query; station = l; extra = h; place = 60; route = 0; read = 0; base = 0; parent = 0; left = true; found = 0; neighbour = 0; main = 0; owner = false; grandparent = None; other = 0; frames = new_frame l h None ∷ [] }
 
 abbrev pub idle : Thread
 idle = begun Lookup 0 0 0

@@ -1,11 +1,11 @@
 -- A version 1 run written as a history (02, j: "its accepted start records and rows written as events in turn order"), what History
 -- hands back for every file and buffer, and the claim that Judge accepts such a history. The proof is in crate passing.
-use Rattle.std.specs.Prelude.{ℕ, zero, suc, ◌+◌, ◌*◌, ◌/◌, ◌%◌, ◌≤◌, ◌<◌, ◌≡◌, Bool, true, false, List, [], ◌∷◌, ◌++◌, eqb, ltb, length}
+use Rattle.std.specs.Prelude.{ℕ, zero, suc, ◌+◌, ◌*◌, ◌/◌, ◌%◌, ◌≤◌, ◌<◌, ◌≡◌, true, List, [], ◌∷◌, ◌++◌, eqb, ltb, length}
 use Rattle.container.specs.Choice.{ite}
 use Rattle.definitions.specs.Bench.{Bench, fresh}
 use Rattle.definitions.specs.Answers.{answer_number}
 use Rattle.definitions.specs.Records.{Row, no_row, row, Result, refused, carried, record_step, action_number, is_idle}
-use Rattle.definitions.specs.Run.{Progress, ended, overlay}
+use Rattle.definitions.specs.Run.{ended, overlay}
 use Rattle.definitions.specs.Schedule.{Rec, version, stop_of, records_of, count_of}
 use Rattle.definitions.specs.Merge.{fault}
 use Rattle.definitions.specs.History.{Event}

@@ -6,7 +6,7 @@ use mathlib.Core.List.{List}
 use Prim.Native.Nat.{ℕ, ◌+◌, ◌*◌, ◌<◌, ◌≤◌}
 use native.Mathlib.Omega.{arith}
 use native.Mathlib.Decide.{ℕ_discrete, dec_lt}
-use lib.ListN.{get_or, set, length, length-set, get_or-eq_default}
+use lib.ListN.{get_or, set, length, get_or-eq_default}
 use lib.Seq.{get_or-set_same, get_or-set_other}
 use borrow.Author.Tests.{eq-eqb, ne_eqb, lt-ltb, le-ltb}
 use Rattle.container.specs.Choice.{ite, upd}
@@ -35,23 +35,21 @@ stored_else c i k v j m l h = elim (dec_lt m 64) [
 -- ---- a row filled up to k: the stations below k have their g
 
 pub record Filled (c c' : List ℕ) (to : ℕ) (g : ℕ → ℕ) (k : ℕ) : Type 0 where
-  pub long : length c' ≡ 16384
   pub low : (m : ℕ) → m < k → rows c' to m ≡ g m
   pub high : (m : ℕ) → k ≤ m → rows c' to m ≡ rows c to m
   pub other : (j m : ℕ) → j ≢ to → rows c' j m ≡ rows c j m
 
-pub begun : (c : List ℕ) (to : ℕ) (g : ℕ → ℕ) → length c ≡ 16384 → Filled c c to g 0
-begun c to g n = record { long = n; low = λ m l. absurd (omega arith); high = λ m l. refl; other = λ j m h. refl }
+pub begun : (c : List ℕ) (to : ℕ) (g : ℕ → ℕ) → Filled c c to g 0
+begun c to g = record { low = λ m l. absurd (omega arith); high = λ m l. refl; other = λ j m h. refl }
 
 -- what is read at k is what stood there
 pub unread : {c c' : List ℕ} {to : ℕ} {g : ℕ → ℕ} {k : ℕ} → Filled c c' to g k → (from : ℕ) → k < 64 → get_or c' (from * 64 + k) 0 ≡ rows c from k
 unread {c} {c'} {to} {g} {k} f from l = sym (row_in c' from k l) ∙ elim (ℕ_discrete from to) [ yes e ↦ rw e (f.high k (omega arith)) | no e ↦ f.other from k e ]
 
-pub filled : {c c' : List ℕ} {to : ℕ} {g : ℕ → ℕ} {k : ℕ} → Filled c c' to g k → (v : ℕ) → to < 256 → k < 64 → v ≡ g k → Filled c (set c' (to * 64 + k) v) to g (k + 1)
+pub filled : {c c' : List ℕ} {to : ℕ} {g : ℕ → ℕ} {k : ℕ} → Filled c c' to g k → (v : ℕ) → to * 64 + k < length c' → k < 64 → v ≡ g k → Filled c (set c' (to * 64 + k) v) to g (k + 1)
 filled {c} {c'} {to} {g} {k} f v t l e = record {
-  long = length-set c' (to * 64 + k) v ∙ f.long;
   low = λ m h. elim (ℕ_discrete m k) [
-    | yes q ↦ rw q (stored_at c' to k v (let n = f.long in omega arith) l ∙ e)
+    | yes q ↦ rw q (stored_at c' to k v t l ∙ e)
     | no q ↦ stored_else c' to k v to m l (λ _. q) ∙ f.low m (omega arith)
   ];
   high = λ m h. stored_else c' to k v to m l (λ _ q. absurd (omega arith)) ∙ f.high m (omega arith);
@@ -78,11 +76,11 @@ chosen {c} {c'} {to} {k} a b s f h i = whole_row f h i (λ m l. rw (row_out c a 
     both true = refl
     both false = refl
 
-pub set_in : (c : List ℕ) (x s d : ℕ) → length c ≡ 16384 → x < 256 → s < 64 → rows (set c (x * 64 + s) d) ≡ upd (rows c) x (changed (rows c x) s d)
+pub set_in : (c : List ℕ) (x s d : ℕ) → x * 64 + s < length c → s < 64 → rows (set c (x * 64 + s) d) ≡ upd (rows c) x (changed (rows c x) s d)
 unfolding ite
-set_in c x s d n h l = rw (lt-ltb s 64 l) (fun_ext (λ j. elim (ℕ_discrete j x) [
+set_in c x s d h l = rw (lt-ltb s 64 l) (fun_ext (λ j. elim (ℕ_discrete j x) [
   | yes e ↦ rw (e, eq-eqb x x refl) (fun_ext (λ m. elim (ℕ_discrete m s) [
-    | yes q ↦ rw (q, eq-eqb s s refl) (stored_at c x s d (omega arith) l)
+    | yes q ↦ rw (q, eq-eqb s s refl) (stored_at c x s d h l)
     | no q ↦ rw (ne_eqb m s q) (stored_else c x s d x m l (λ _. q))
   ]))
   | no e ↦ rw (ne_eqb j x e) (fun_ext (λ m. stored_else c x s d j m l (λ q. absurd (e q))))
@@ -101,21 +99,14 @@ read_out_lem c x s l = sym (row_out c x s l)
 pub read_past : (c : List ℕ) (x s : ℕ) → s < 64 → length c ≤ x * 64 + s → 0 ≡ rows c x s
 read_past c x s l h = sym (row_in c x s l ∙ get_or-eq_default c 0 h)
 
--- what is written at station k: the depth of node f, which is a where the set has k, else b
-pub chosen_at : {c c' : List ℕ} {to k : ℕ} {t : Bool} {f : ℕ} {g : ℕ → ℕ} (a b s : ℕ) → Filled c c' to g k → k < 64 → t ≡ has s k → f ≡ ite t a b → get_or c' (f * 64 + k) 0 ≡ selected s (rows c a) (rows c b) k
-unfolding ite
-chosen_at {c} {c'} {to} {k} {t} {f} a b s F l e i = unread F f l ∙ rw (i, ← e) (by t)
-  where
-    by : (t : Bool) → rows c (ite t a b) k ≡ ite t (rows c a k) (rows c b k)
-    by true = refl
-    by false = refl
+-- what is written at station k: the depth of node f, which is a where the set has k, else b; t says whether it has
+module _ {c c' : List ℕ} {to k : ℕ} {t : Bool} {f : ℕ} {g : ℕ → ℕ} (a b s : ℕ) where
+  pub chosen_in : Filled c c' to g k → k < 64 → t ≡ has s k → t ≡ true → f ≡ a → get_or c' (f * 64 + k) 0 ≡ selected s (rows c a) (rows c b) k
+  unfolding ite
+  chosen_in F l e h i = unread F f l ∙ rw (i, ← e, h)
 
-pub picked : (t : Bool) (a b : ℕ) → t ≡ true → a ≡ ite t a b
-unfolding ite
-picked t a b e = rw e
+  pub chosen_out : Filled c c' to g k → k < 64 → t ≡ has s k → t ≡ false → f ≡ b → get_or c' (f * 64 + k) 0 ≡ selected s (rows c a) (rows c b) k
+  unfolding ite
+  chosen_out F l e h i = unread F f l ∙ rw (i, ← e, h)
 
-pub passed : (t : Bool) (a b : ℕ) → t ≡ false → b ≡ ite t a b
-unfolding ite
-passed t a b e = rw e
-
-pub ruleset cases = (picked, passed, set_in, set_out, read_in, read_past, read_out_lem)
+pub ruleset cases = (set_in, set_out, read_in, read_past, read_out_lem)

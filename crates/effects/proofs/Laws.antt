@@ -1,4 +1,5 @@
 -- The cases of what a step writes, each with the code's own facts as premises. Assumes nothing.
+use Rattle.std.specs.Prelude.{Option, Some}
 use mathlib.Core.Path.{◌≡◌, refl, ◌∙◌, ap, fun_ext}
 use mathlib.Core.Bool.{Bool, true, false, cond}
 use Prim.Native.Nat.{ℕ, ◌+◌}
@@ -16,8 +17,6 @@ use Rattle.effects.specs.Writes.{effect_of}
 use Rattle.effects.specs.Used.{used_after, base_shape, range_shape, set_of, fork_shapes, Hung, depths_of, deepened, Applied}
 use Rattle.effects.specs.declared.Write.{Write}
 use Rattle.effects.specs.declared.Write.TheVariants.{Quiet, Mark, Settle, Invalid, Swing, Base, Fork, Commit}
-use Rattle.definitions.specs.declared.Link.{Link}
-use Rattle.definitions.specs.declared.Link.TheVariants.{To}
 use Rattle.definitions.specs.declared.Node.{Node}
 use Rattle.definitions.specs.declared.Kind.{Kind}
 use Rattle.definitions.specs.declared.Kind.TheVariants.{Normal, Neighbour}
@@ -74,7 +73,7 @@ content_made (Without y s) t d = refl
 
 -- ---- a route and its two bases: t₁ and t₂ are the tables between
 pub fork_put : (t : Shapes) (x l r k c : ℕ) {low high : ℕ} {t₁ t₂ t₃ : Shapes} → low ≡ lower_half c → high ≡ upper_half c → t₁ ≡ upd t x (new_route k l r)
-    → t₂ ≡ upd t₁ l (base_shape Normal (To x) low 0) → t₃ ≡ upd t₂ r (base_shape Normal (To x) high 0) → t₃ ≡ fork_shapes x l r k c t
+    → t₂ ≡ upd t₁ l (base_shape Normal (Some x) low 0) → t₃ ≡ upd t₂ r (base_shape Normal (Some x) high 0) → t₃ ≡ fork_shapes x l r k c t
 fork_put t x l r k c i j g₁ g₂ g₃ = rw (g₃, g₂, g₁, i, j)
 
 -- with the depths of the base y that is split
@@ -82,30 +81,30 @@ fork_made : (t : Shapes) (d : Rows) (x l r k y : ℕ) → full (fork_shapes x l 
 unfolding lower upper
 fork_made t d x l r k y =
     let t₁ : Shapes = upd t x (new_route k l r) in
-    let t₂ : Shapes = upd t₁ l (base_shape Normal (To x) (lower_half (t y).container) 0) in
+    let t₂ : Shapes = upd t₁ l (base_shape Normal (Some x) (lower_half (t y).container) 0) in
     let d₁ : Rows = upd d x (d y) in
     let d₂ : Rows = upd d₁ l (d y) in
-    full_new t₂ d₂ r (base_shape Normal (To x) (upper_half (t y).container) 0) (d y) ∙ rw (full_new t₁ d₁ l (base_shape Normal (To x) (lower_half (t y).container) 0) (d y), full_new t d x (new_route k l r) (d y))
+    full_new t₂ d₂ r (base_shape Normal (Some x) (upper_half (t y).container) 0) (d y) ∙ rw (full_new t₁ d₁ l (base_shape Normal (Some x) (lower_half (t y).container) 0) (d y), full_new t d x (new_route k l r) (d y))
 
 -- ---- the union of the containers of a and b
-union_made : (t : Shapes) (d : Rows) (x : ℕ) (p : Link) (a b : ℕ)
+union_made : (t : Shapes) (d : Rows) (x : ℕ) (p : Option ℕ) (a b : ℕ)
     → full (upd t x (base_shape Neighbour p (union (t a).container (t b).container) a)) (upd d x (selected (t a).container (d a) (d b))) ≡ upd (full t d) x (new_base Neighbour p (merge (full t d a).container (full t d b).container) a)
 unfolding merge
 union_made t d x p a b = full_new t d x _ _
 
 -- ---- a range base with the container of node y
-range_made : (t : Shapes) (d : Rows) (x : ℕ) (p : Link) (y l h k : ℕ) → full (upd t x (range_shape p (t y).container l h k)) (upd d x (d y)) ≡ upd (full t d) x (new_range p (full t d y).container l h k)
+range_made : (t : Shapes) (d : Rows) (x : ℕ) (p : Option ℕ) (y l h k : ℕ) → full (upd t x (range_shape p (t y).container l h k)) (upd d x (d y)) ≡ upd (full t d) x (new_range p (full t d y).container l h k)
 range_made t d x p y l h k = full_new t d x _ _
 
 -- ---- the numbers used after a write that makes nodes
 module _ (u : ℕ) {e : Write} where
-  pub used_base : (v : Spot) (x : ℕ) (k : Kind) (p : Link) (c : Content) (m : ℕ) → e ≡ Base v x k p c m → x + 1 ≡ used_after u (effect_of e)
+  pub used_base : (v : Spot) (x : ℕ) (k : Kind) (p : Option ℕ) (c : Content) (m : ℕ) → e ≡ Base v x k p c m → x + 1 ≡ used_after u (effect_of e)
   used_base v x k p c m q = rw q
 
   pub used_fork : (v : Spot) (x l r k y : ℕ) → e ≡ Fork v x l r k y → x + 3 ≡ used_after u (effect_of e)
   used_fork v x l r k y q = rw q
 
-  pub used_commit : (m x : ℕ) (p : Link) (b : ℕ) (g : Link) (w : ℕ) → e ≡ Commit m x p b g w → x + 1 ≡ used_after u (effect_of e)
+  pub used_commit : (m x : ℕ) (p : Option ℕ) (b : ℕ) (g : Option ℕ) (w : ℕ) → e ≡ Commit m x p b g w → x + 1 ≡ used_after u (effect_of e)
   used_commit m x p b g w q = rw q
 
 -- ---- on the nodes, whatever the stores: t₁ is the table with the new nodes, t' and y the table and the root after it
@@ -113,7 +112,7 @@ module _ (t : Shapes) (o u : ℕ) (k : Stores) (j : ℕ) {e : Write} where
   pub apply_quiet : e ≡ Quiet → Applied t o u k j (effect_of e) t o k
   apply_quiet q = record { stored = λ d z'. rw q }
 
-  pub apply_mark : {t' : Shapes} (r : ℕ) (l : Link) → e ≡ Mark r l → t' ≡ upd t r (with_mark l (t r)) → Applied t o u k j (effect_of e) t' o k
+  pub apply_mark : {t' : Shapes} (r : ℕ) (l : Option ℕ) → e ≡ Mark r l → t' ≡ upd t r (with_mark l (t r)) → Applied t o u k j (effect_of e) t' o k
   apply_mark r l q h = record { stored = λ d z'. rw (q, h) (ap (λ a. store a o u k j z') (full_same t d r _)) }
 
   pub apply_settle : {t' : Shapes} (m : ℕ) (s : Stage) → e ≡ Settle m s → t' ≡ upd t m (with_stage s (t m)) → Applied t o u k j (effect_of e) t' o k
@@ -125,7 +124,7 @@ module _ (t : Shapes) (o u : ℕ) (k : Stores) (j : ℕ) {e : Write} where
   pub apply_swing : {t' : Shapes} {y : ℕ} (v : Spot) (x : ℕ) → e ≡ Swing v x → Hung t o v x t' y → Applied t o u k j (effect_of e) t' y k
   apply_swing v x q h = record { stored = λ d z'. rw q (h d u k j z') }
 
-  pub apply_base : {t₁ t' : Shapes} {y w : ℕ} (v : Spot) (x : ℕ) (i : Kind) (p : Link) (c : Content) (m : ℕ) → e ≡ Base v x i p c m → w ≡ set_of c t → t₁ ≡ upd t x (base_shape i p w m) → Hung t₁ o v x t' y → Applied t o u k j (effect_of e) t' y k
+  pub apply_base : {t₁ t' : Shapes} {y w : ℕ} (v : Spot) (x : ℕ) (i : Kind) (p : Option ℕ) (c : Content) (m : ℕ) → e ≡ Base v x i p c m → w ≡ set_of c t → t₁ ≡ upd t x (base_shape i p w m) → Hung t₁ o v x t' y → Applied t o u k j (effect_of e) t' y k
   apply_base {t₁} {t'} {y} {w} v x i p c m q f h g = record {
     stored = λ d z'. rw q (
         g (upd d x (depths_of c d)) (x + 1) k j z'
@@ -141,7 +140,7 @@ module _ (t : Shapes) (o u : ℕ) (k : Stores) (j : ℕ) {e : Write} where
         );
   }
 
-  pub apply_commit : {t₁ t' : Shapes} {c : ℕ} {a z : Node} (m x : ℕ) (p : Link) (b : ℕ) (g : Link) (w : ℕ) → e ≡ Commit m x p b g w → a ≡ t m → z ≡ t b → c ≡ union a.container z.container
+  pub apply_commit : {t₁ t' : Shapes} {c : ℕ} {a z : Node} (m x : ℕ) (p : Option ℕ) (b : ℕ) (g : Option ℕ) (w : ℕ) → e ≡ Commit m x p b g w → a ≡ t m → z ≡ t b → c ≡ union a.container z.container
       → t₁ ≡ upd t x (base_shape Neighbour p c m) → t' ≡ upd t₁ m (committed x b g w (t₁ m)) → Applied t o u k j (effect_of e) t' o k
   apply_commit {t₁} {t'} {c} {a} {z} m x p b g w q e₁ e₂ e₃ h l = record {
     stored = λ d z'.
@@ -156,7 +155,7 @@ module _ (t : Shapes) (o u : ℕ) (k : Stores) (j : ℕ) {e : Write} where
 
 -- ---- a new range base, with the container c of node z
 module _ (t : Shapes) (o u : ℕ) (k : Stores) (j : ℕ) where
-  pub apply_ask : {t₁ t' : Shapes} {y c : ℕ} (v : Spot) (x : ℕ) (p : Link) (z l h i : ℕ) (new : Bool) → c ≡ (t z).container → t₁ ≡ upd t x (range_shape p c l h i) → Hung t₁ o v x t' y → Applied t o u k j (Ask v x p z l h i new) t' y k
+  pub apply_ask : {t₁ t' : Shapes} {y c : ℕ} (v : Spot) (x : ℕ) (p : Option ℕ) (z l h i : ℕ) (new : Bool) → c ≡ (t z).container → t₁ ≡ upd t x (range_shape p c l h i) → Hung t₁ o v x t' y → Applied t o u k j (Ask v x p z l h i new) t' y k
   apply_ask {t₁} {t'} {y} {c} v x p z l h i new f g r = record {
     stored = λ d z'.
         r (upd d x (d z)) (x + 1) k (cond new (i + 1) j) z'
@@ -183,7 +182,7 @@ module _ (t : Shapes) (d : Rows) {e : Write} where
   pub deepen_quiet : e ≡ Quiet → d ≡ deepened (effect_of e) t d
   deepen_quiet q = rw q
 
-  pub deepen_mark : (r : ℕ) (l : Link) → e ≡ Mark r l → d ≡ deepened (effect_of e) t d
+  pub deepen_mark : (r : ℕ) (l : Option ℕ) → e ≡ Mark r l → d ≡ deepened (effect_of e) t d
   deepen_mark r l q = rw q
 
   pub deepen_settle : (m : ℕ) (s : Stage) → e ≡ Settle m s → d ≡ deepened (effect_of e) t d
@@ -195,7 +194,7 @@ module _ (t : Shapes) (d : Rows) {e : Write} where
   pub deepen_swing : (v : Spot) (x : ℕ) → e ≡ Swing v x → d ≡ deepened (effect_of e) t d
   deepen_swing v x q = rw q
 
-  pub deepen_base : {d' : Rows} (v : Spot) (x : ℕ) (k : Kind) (p : Link) (c : Content) (m : ℕ) → e ≡ Base v x k p c m → d' ≡ upd d x (depths_of c d) → d' ≡ deepened (effect_of e) t d
+  pub deepen_base : {d' : Rows} (v : Spot) (x : ℕ) (k : Kind) (p : Option ℕ) (c : Content) (m : ℕ) → e ≡ Base v x k p c m → d' ≡ upd d x (depths_of c d) → d' ≡ deepened (effect_of e) t d
   deepen_base v x k p c m q f = rw q f
 
   pub deepen_fork : {d₁ d₂ d' : Rows} (v : Spot) (x l r k y : ℕ) → e ≡ Fork v x l r k y → d₁ ≡ upd d x (d y) → d₂ ≡ upd d₁ l (d₁ y) → d' ≡ upd d₂ r (d₂ y) → d' ≡ deepened (effect_of e) t d
@@ -204,7 +203,7 @@ module _ (t : Shapes) (d : Rows) {e : Write} where
       let h₂ : d₂ y ≡ d y = rw f₂ (upd_own d₁ l y ∙ h₁) in
       rw q (f₃ ∙ rw (h₂, f₂, h₁, f₁))
 
-  pub deepen_commit : {d' : Rows} {a : Node} (m x : ℕ) (p : Link) (b : ℕ) (g : Link) (w : ℕ) → e ≡ Commit m x p b g w → a ≡ t m → d' ≡ upd d x (selected a.container (d m) (d b)) → d' ≡ deepened (effect_of e) t d
+  pub deepen_commit : {d' : Rows} {a : Node} (m x : ℕ) (p : Option ℕ) (b : ℕ) (g : Option ℕ) (w : ℕ) → e ≡ Commit m x p b g w → a ≡ t m → d' ≡ upd d x (selected a.container (d m) (d b)) → d' ≡ deepened (effect_of e) t d
   deepen_commit m x p b g w q i f = rw q (f ∙ rw i)
 
 pub ruleset hang_cases = (hang_root, hang_under)

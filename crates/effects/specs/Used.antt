@@ -1,6 +1,6 @@
 -- What an effect does, in parts: the counts of used node numbers and of shown stores, the nodes without their depths, and the depths by
 -- themselves.
-use Rattle.std.specs.Prelude.{ℕ, ◌+◌, ◌≡◌, Bool, cond}
+use Rattle.std.specs.Prelude.{ℕ, ◌+◌, ◌≡◌, Bool, cond, Option, Some}
 use Rattle.container.specs.Choice.{upd}
 use Rattle.container.specs.Container.{insert, remove, upper_half, lower_half}
 use Rattle.container.specs.Depths.{container}
@@ -12,8 +12,6 @@ use Rattle.definitions.specs.declared.Stop.{Stop}
 use Rattle.definitions.specs.declared.Spot.{Spot}
 use Rattle.definitions.specs.declared.Kind.{Kind}
 use Rattle.definitions.specs.declared.Kind.TheVariants.{Normal}
-use Rattle.definitions.specs.declared.Link.{Link}
-use Rattle.definitions.specs.declared.Link.TheVariants.{To}
 use Rattle.definitions.specs.declared.Node.{Node}
 use Rattle.definitions.specs.declared.Content.{Content}
 use Rattle.definitions.specs.declared.Content.TheVariants.{Of, With, Without}
@@ -53,11 +51,11 @@ shown_after j (Fill k c) = j
 -- ---- the nodes without their depths
 
 -- a new base
-abbrev pub base_shape : Kind → Link → ℕ → ℕ → Node
+abbrev pub base_shape : Kind → Option ℕ → ℕ → ℕ → Node
 base_shape k p c m = shape (new_base k p (container c (λ _. 0)) m)
 
 -- a new range base
-abbrev pub range_shape : Link → ℕ → ℕ → ℕ → ℕ → Node
+abbrev pub range_shape : Option ℕ → ℕ → ℕ → ℕ → ℕ → Node
 range_shape p c l h k = shape (new_range p (container c (λ _. 0)) l h k)
 
 -- the set of a new base's container
@@ -68,7 +66,7 @@ set_of (Without y s) t = remove (t y).container s
 
 -- a route and its two bases, with the halves of the set c
 abbrev pub fork_shapes : ℕ → ℕ → ℕ → ℕ → ℕ → Shapes → Shapes
-fork_shapes x l r k c t = upd (upd (upd t x (new_route k l r)) l (base_shape Normal (To x) (lower_half c) 0)) r (base_shape Normal (To x) (upper_half c) 0)
+fork_shapes x l r k c t = upd (upd (upd t x (new_route k l r)) l (base_shape Normal (Some x) (lower_half c) 0)) r (base_shape Normal (Some x) (upper_half c) 0)
 
 -- node x is put at the spot v: the table t with root o becomes t' with root y, whatever the depths, the numbers used, the stores and the stop
 abbrev pub Hung : Shapes → ℕ → Spot → ℕ → Shapes → ℕ → Type 0
@@ -107,5 +105,5 @@ abbrev pub Applies : Shapes → ℕ → ℕ → Effect → Shapes → ℕ → Ty
 Applies t o u e t' y = (k : Stores) (j : ℕ) → Applied t o u k j e t' y k
 
 -- the same of a new range base, whether its store is a new one or not
-abbrev pub Asks : Shapes → ℕ → Spot → ℕ → Link → ℕ → ℕ → ℕ → ℕ → Shapes → ℕ → Type 0
+abbrev pub Asks : Shapes → ℕ → Spot → ℕ → Option ℕ → ℕ → ℕ → ℕ → ℕ → Shapes → ℕ → Type 0
 Asks t o v x p b l h i t' y = (u : ℕ) (new : Bool) → Applies t o u (Ask v x p b l h i new) t' y

@@ -2,23 +2,25 @@
 // writes is apart, in functions of its own, so that the other steps do not pay for it.
 #![tactic(auto)]
 
-ghost use Rattle.std.specs.Prelude.{◌≡◌, cond, ◌+◌, length};
+ghost use Rattle.std.specs.Prelude.{◌≡◌, cond, ◌+◌};
 ghost use Rattle.container.specs.Choice.{upd};
-ghost use Rattle.nodes.specs.Cells.{table};
+ghost use Rattle.nodes.specs.Table.{table};
 ghost use Rattle.depths.specs.Rows.{rows};
 ghost use Rattle.definitions.specs.Nodes.{new_route};
 ghost use Rattle.effects.specs.Writes.{effect_of};
 ghost use Rattle.effects.specs.Used.{used_after, base_shape, range_shape, set_of, fork_shapes, Hung, depths_of, deepened, Applies, Asks};
 
-use definitions::{Content, Kind, Link, Node, Spot, Stage};
+use definitions::{Content, Kind, Node, Nodes, Spot, Stage};
+use depths::Depths;
 
-// What a step at a place below 60 writes: an effect that makes no range base and sets no result.
+// What a step at a place below 60 writes: an effect that makes no range base and sets no result. It stands beside definitions' `Effect`
+// because that holds a result, a word, and is wider in every decision: 27 instructions a record, of 99 (docs/DECISIONS.md).
 #[derive(Clone, Copy)]
 pub enum Write {
     Quiet,
     Mark {
         route: u8,
-        mark: Link,
+        mark: Option<u8>,
     },
     Settle {
         main: u8,
@@ -35,7 +37,7 @@ pub enum Write {
         spot: Spot,
         at: u8,
         kind: Kind,
-        parent: Link,
+        parent: Option<u8>,
         content: Content,
         main: u8,
     },
@@ -50,202 +52,135 @@ pub enum Write {
     Commit {
         main: u8,
         at: u8,
-        parent: Link,
+        parent: Option<u8>,
         neighbour: u8,
-        grandparent: Link,
+        grandparent: Option<u8>,
         other: u8,
     },
 }
 
 // A new base, but its depths.
-pub fn put_base(
-    cells: &mut [u8; 5120],
-    sets: &mut [u64; 256],
-    at: u8,
-    kind: Kind,
-    parent: Link,
-    container: u64,
-    main: u8,
-)
-    ensures { table cells.new sets.new ≡ upd (table cells.old sets.old) at (base_shape kind parent container main) }
+pub fn put_base(nodes: &mut Nodes, at: u8, kind: Kind, parent: Option<u8>, container: u64, main: u8)
+    ensures { table nodes.new ≡ upd (table nodes.old) at (base_shape kind parent container main) }
 {
     let n = Node {
-        kind: kind,
-        key: 0,
-        left: 0,
-        right: 0,
-        valid: true,
-        mark: Link::Nil,
-        parent: parent,
-        container: container,
-        stage: Stage::Preparing,
-        union: 0,
-        neighbour: 0,
-        grandparent: Link::Nil,
-        other: 0,
-        main: main,
-        lower: 0,
-        upper: 0,
-        store: 0,
+        kind,
+        parent,
+        container,
+        main,
+        ..nodes::EMPTY
     };
-    nodes::put_node(cells, sets, at, n);
+    nodes::put_node(nodes, at, n);
 }
 
 // A new route.
-pub fn put_route(
-    cells: &mut [u8; 5120],
-    sets: &mut [u64; 256],
-    at: u8,
-    key: u8,
-    left: u8,
-    right: u8,
-)
-    ensures { table cells.new sets.new ≡ upd (table cells.old sets.old) at (new_route key left right) }
+pub fn put_route(nodes: &mut Nodes, at: u8, key: u8, left: u8, right: u8)
+    ensures { table nodes.new ≡ upd (table nodes.old) at (new_route key left right) }
 {
     let n = Node {
         kind: Kind::Route,
-        key: key,
-        left: left,
-        right: right,
-        valid: true,
-        mark: Link::Nil,
-        parent: Link::Nil,
-        container: 0,
-        stage: Stage::Preparing,
-        union: 0,
-        neighbour: 0,
-        grandparent: Link::Nil,
-        other: 0,
-        main: 0,
-        lower: 0,
-        upper: 0,
-        store: 0,
+        key,
+        left,
+        right,
+        ..nodes::EMPTY
     };
-    nodes::put_node(cells, sets, at, n);
+    nodes::put_node(nodes, at, n);
 }
 
 // A new range base, but its depths.
 pub fn put_range(
-    cells: &mut [u8; 5120],
-    sets: &mut [u64; 256],
+    nodes: &mut Nodes,
     at: u8,
-    parent: Link,
+    parent: Option<u8>,
     container: u64,
     lower: u8,
     upper: u8,
     store: u8,
 )
-    ensures { table cells.new sets.new ≡ upd (table cells.old sets.old) at (range_shape parent container lower upper store) }
+    ensures { table nodes.new ≡ upd (table nodes.old) at (range_shape parent container lower upper store) }
 {
     let n = Node {
         kind: Kind::Range,
-        key: 0,
-        left: 0,
-        right: 0,
-        valid: true,
-        mark: Link::Nil,
-        parent: parent,
-        container: container,
-        stage: Stage::Preparing,
-        union: 0,
-        neighbour: 0,
-        grandparent: Link::Nil,
-        other: 0,
-        main: 0,
-        lower: lower,
-        upper: upper,
-        store: store,
+        parent,
+        container,
+        lower,
+        upper,
+        store,
+        ..nodes::EMPTY
     };
-    nodes::put_node(cells, sets, at, n);
+    nodes::put_node(nodes, at, n);
 }
 
 // Node x is put at a spot; gives the root.
-pub fn hang_at(cells: &mut [u8; 5120], sets: &[u64; 256], root: u8, spot: Spot, x: u8) -> u8
-    ensures { Hung (table cells.old sets.now) root spot x (table cells.new sets.now) result }
+#[tactic(auto, using(crate::proofs::Laws::hang_cases))]
+pub fn hang_at(nodes: &mut Nodes, root: u8, spot: Spot, x: u8) -> u8
+    ensures { Hung (table nodes.old) root spot x (table nodes.new) result }
 {
     match spot {
         Spot::Root => x,
         Spot::Under(r, left) => {
-            nodes::set_kid(cells, sets, r, left, x);
+            nodes::set_kid(nodes, r, left, x);
             root
         }
     }
 }
 
 // The set of a new base's container.
-pub fn set_of(cells: &[u8; 5120], sets: &[u64; 256], content: Content) -> u64
-    ensures { result ≡ set_of content (table cells.now sets.now) }
+#[tactic(auto, using(crate::proofs::Laws::set_cases))]
+pub fn set_of(nodes: &Nodes, content: Content) -> u64
+    ensures { result ≡ set_of content (table nodes.now) }
 {
     match content {
-        Content::Of(y) => {
-            let n = nodes::node_at(cells, sets, y);
-            n.container
-        }
-        Content::With(y, s, _) => {
-            let n = nodes::node_at(cells, sets, y);
-            container::with(n.container, s)
-        }
-        Content::Without(y, s) => {
-            let n = nodes::node_at(cells, sets, y);
-            container::without(n.container, s)
-        }
+        Content::Of(y) => nodes::node_at(nodes, y).container,
+        Content::With(y, s, _) => container::with(nodes::node_at(nodes, y).container, s),
+        Content::Without(y, s) => container::without(nodes::node_at(nodes, y).container, s),
     }
 }
 
 // A route and its two bases, with the halves of the set c.
-pub fn put_fork(
-    cells: &mut [u8; 5120],
-    sets: &mut [u64; 256],
-    at: u8,
-    left: u8,
-    right: u8,
-    key: u8,
-    c: u64,
-)
-    ensures { table cells.new sets.new ≡ fork_shapes at left right key c (table cells.old sets.old) }
+#[tactic(auto, using(crate::proofs::Laws::fork_put))]
+pub fn put_fork(nodes: &mut Nodes, at: u8, left: u8, right: u8, key: u8, c: u64)
+    ensures { table nodes.new ≡ fork_shapes at left right key c (table nodes.old) }
 {
     let low = container::lower_half(c);
     let high = container::upper_half(c);
-    put_route(cells, sets, at, key, left, right);
-    put_base(cells, sets, left, Kind::Normal, Link::To(at), low, 0);
-    put_base(cells, sets, right, Kind::Normal, Link::To(at), high, 0);
+    put_route(nodes, at, key, left, right);
+    put_base(nodes, left, Kind::Normal, Some(at), low, 0);
+    put_base(nodes, right, Kind::Normal, Some(at), high, 0);
 }
 
 // How many node numbers are used after it.
+#[tactic(auto, using(crate::proofs::Laws::used_cases))]
 pub fn used_after(used: u16, w: Write) -> u16
     ensures { result ≡ used_after used (effect_of w) }
 {
     match w {
-        Write::Quiet => used,
-        Write::Mark { .. } => used,
-        Write::Settle { .. } => used,
-        Write::Invalid { .. } => used,
-        Write::Swing { .. } => used,
-        Write::Base { at, .. } => at as u16 + 1,
+        Write::Base { at, .. } | Write::Commit { at, .. } => at as u16 + 1,
         Write::Fork { at, .. } => at as u16 + 3,
-        Write::Commit { at, .. } => at as u16 + 1,
+        _ => used,
     }
 }
 
 // It is carried out on the nodes; gives the root. The stores stay as they are.
-pub fn apply(cells: &mut [u8; 5120], sets: &mut [u64; 256], root: u8, used: u16, w: Write) -> u8
-    ensures { Applies (table cells.old sets.old) root used (effect_of w) (table cells.new sets.new) result }
+#[tactic(auto, using(crate::proofs::Laws::apply_cases))]
+pub fn apply(nodes: &mut Nodes, root: u8, used: u16, w: Write) -> u8
+    ensures { Applies (table nodes.old) root used (effect_of w) (table nodes.new) result }
 {
     match w {
         Write::Quiet => root,
         Write::Mark { route, mark } => {
-            nodes::set_mark(cells, sets, route, mark);
+            nodes::set_mark(nodes, route, mark);
             root
         }
         Write::Settle { main, stage } => {
-            nodes::set_stage(cells, sets, main, stage);
+            nodes::set_stage(nodes, main, stage);
             root
         }
         Write::Invalid { route } => {
-            nodes::set_valid(cells, sets, route, false);
+            nodes::set_valid(nodes, route, false);
             root
         }
-        Write::Swing { spot, to } => hang_at(cells, sets, root, spot, to),
+        Write::Swing { spot, to } => hang_at(nodes, root, spot, to),
         Write::Base {
             spot,
             at,
@@ -254,9 +189,9 @@ pub fn apply(cells: &mut [u8; 5120], sets: &mut [u64; 256], root: u8, used: u16,
             content,
             main,
         } => {
-            let c = set_of(cells, sets, content);
-            put_base(cells, sets, at, kind, parent, c, main);
-            hang_at(cells, sets, root, spot, at)
+            let c = set_of(nodes, content);
+            put_base(nodes, at, kind, parent, c, main);
+            hang_at(nodes, root, spot, at)
         }
         Write::Fork {
             spot,
@@ -266,9 +201,9 @@ pub fn apply(cells: &mut [u8; 5120], sets: &mut [u64; 256], root: u8, used: u16,
             key,
             base,
         } => {
-            let n = nodes::node_at(cells, sets, base);
-            put_fork(cells, sets, at, left, right, key, n.container);
-            hang_at(cells, sets, root, spot, at)
+            let n = nodes::node_at(nodes, base);
+            put_fork(nodes, at, left, right, key, n.container);
+            hang_at(nodes, root, spot, at)
         }
         Write::Commit {
             main,
@@ -278,42 +213,36 @@ pub fn apply(cells: &mut [u8; 5120], sets: &mut [u64; 256], root: u8, used: u16,
             grandparent,
             other,
         } => {
-            let m = nodes::node_at(cells, sets, main);
-            let n = nodes::node_at(cells, sets, neighbour);
+            let m = nodes::node_at(nodes, main);
+            let n = nodes::node_at(nodes, neighbour);
             let c = container::united(m.container, n.container);
-            put_base(cells, sets, at, Kind::Neighbour, parent, c, main);
-            nodes::commit(cells, sets, main, at, neighbour, grandparent, other);
+            put_base(nodes, at, Kind::Neighbour, parent, c, main);
+            nodes::commit(nodes, main, at, neighbour, grandparent, other);
             root
         }
     }
 }
 
 // The depths of a new base.
-fn lay(depths: &mut [u16], at: u8, content: Content)
-    requires { length depths.old ≡ 16384 }
+#[tactic(auto, using(crate::proofs::Laws::lay_cases))]
+fn lay(depths: &mut Depths, at: u8, content: Content)
     ensures { rows depths.new ≡ upd (rows depths.old) at (depths_of content (rows depths.old)) }
 {
     match content {
-        Content::Of(y) => depths::copy(depths, y, at),
+        Content::Of(y) | Content::Without(y, _) => depths::copy(depths, y, at),
         Content::With(y, s, d) => {
             depths::copy(depths, y, at);
             depths::set_depth(depths, at, s, d)
         }
-        Content::Without(y, _) => depths::copy(depths, y, at),
     }
 }
 
 // It is carried out on the depths; the nodes are those before it.
-pub fn deepen(cells: &[u8; 5120], sets: &[u64; 256], depths: &mut [u16], w: Write)
-    requires { length depths.old ≡ 16384 }
-    ensures { rows depths.new ≡ deepened (effect_of w) (table cells.now sets.now) (rows depths.old) }
+#[tactic(auto, using(crate::proofs::Laws::deepen_cases))]
+pub fn deepen(nodes: &Nodes, depths: &mut Depths, w: Write)
+    ensures { rows depths.new ≡ deepened (effect_of w) (table nodes.now) (rows depths.old) }
 {
     match w {
-        Write::Quiet => {}
-        Write::Mark { .. } => {}
-        Write::Settle { .. } => {}
-        Write::Invalid { .. } => {}
-        Write::Swing { .. } => {}
         Write::Base { at, content, .. } => lay(depths, at, content),
         Write::Fork {
             at,
@@ -332,35 +261,37 @@ pub fn deepen(cells: &[u8; 5120], sets: &[u64; 256], depths: &mut [u16], w: Writ
             neighbour,
             ..
         } => {
-            let m = nodes::node_at(cells, sets, main);
+            let m = nodes::node_at(nodes, main);
             depths::select(depths, m.container, main, neighbour, at)
         }
+        _ => {}
     }
 }
 
 // ---- what a range query writes; a result is set by crate nodes
 
-// A range base with the container of `base` is put at a spot; gives the root. Whether its store is a new one is for `shown_after`.
+// A range base with the container of `base` is put at a spot; gives the root. Whether its store is a new one is for `shown_after`. The
+// arguments are the fields of one variant of `Effect`, which cannot be passed by itself.
 pub fn ask(
-    cells: &mut [u8; 5120],
-    sets: &mut [u64; 256],
+    nodes: &mut Nodes,
     root: u8,
     spot: Spot,
     at: u8,
-    parent: Link,
+    parent: Option<u8>,
     base: u8,
     lower: u8,
     upper: u8,
     store: u8,
 ) -> u8
-    ensures { Asks (table cells.old sets.old) root spot at parent base lower upper store (table cells.new sets.new) result }
+    ensures { Asks (table nodes.old) root spot at parent base lower upper store (table nodes.new) result }
 {
-    let c = nodes::container_at(cells, sets, base);
-    put_range(cells, sets, at, parent, c, lower, upper, store);
-    hang_at(cells, sets, root, spot, at)
+    let c = nodes::node_at(nodes, base).container;
+    put_range(nodes, at, parent, c, lower, upper, store);
+    hang_at(nodes, root, spot, at)
 }
 
 // How many stores are shown after it.
+#[tactic(auto, using(crate::proofs::Laws::shown_fresh))]
 pub fn shown_after(shown: u16, store: u8, fresh: bool) -> u16
     ensures { result ≡ cond fresh (store + 1) shown }
 {
@@ -368,8 +299,7 @@ pub fn shown_after(shown: u16, store: u8, fresh: bool) -> u16
 }
 
 // Its depths are those of the base that it is put for.
-pub fn deepen_range(depths: &mut [u16], at: u8, old: u8)
-    requires { length depths.old ≡ 16384 }
+pub fn deepen_range(depths: &mut Depths, at: u8, old: u8)
     ensures { rows depths.new ≡ upd (rows depths.old) at (rows depths.old old) }
 {
     depths::copy(depths, old, at);

@@ -1,24 +1,43 @@
--- From the frame on top to its thread: back, a new frame, and a step of the frame as a step of the thread. Rests on Rows.
-use mathlib.Core.Path.{◌≡◌, refl, sym, ap, ap₂, ◌∙◌}
+-- From the frame on top to its thread: back, a new frame, and a step of the frame as a step of the thread. Assumes nothing.
+use mathlib.Core.Path.{◌≡◌, refl, sym, ap, ap₂, ◌∙◌, fun_ext, subst}
 use mathlib.Core.List.{List, ◌∷◌}
 use Prim.Native.Nat.{ℕ, zero, suc, ◌+◌, ◌-◌, ◌*◌, ◌<◌, ◌≤◌}
 use native.Mathlib.Omega.{arith}
-use lib.ListN.{length, get_or}
-use borrow.Author.Rules.{rules}
+use native.Mathlib.Decide.{ℕ_discrete}
+use lib.ListN.{length, get_or, set}
+use borrow.Author.Tests.{eq-eqb, ne_eqb}
+use Rattle.std.specs.Prelude.{None, map}
+use Rattle.std.proofs.lemmas.List.{length-map, map-set, get_or-map, get_or-set_same, get_or-set_other}
 use Rattle.container.specs.Choice.{upd}
 use Rattle.definitions.specs.declared.Action.{Action}
 use Rattle.definitions.specs.Bench.{Sight}
 use Rattle.definitions.specs.Places.{place_of, to_frames}
-use Rattle.definitions.specs.Threads.{Frame, Thread, Moves}
+use Rattle.definitions.specs.Threads.{Frame, Thread, Moves, new_frame}
 use Rattle.definitions.specs.Frames.{back_in}
 use Rattle.definitions.specs.Steps.{step}
-use Rattle.frames.specs.View.{span, pile, stack_length, held, frames_of}
+use Rattle.frames.specs.declared.frame.Frame.{Frame as Kept}
+use Rattle.frames.specs.View.{held_frame, held, frames_of}
 use Rattle.frames.specs.Turns.{Leads, Backs}
-use Rattle.frames.specs.Outcomes.{told_in, Acts, Takes, Stands, Opens, Roomy, Room, step_at}
+use Rattle.frames.specs.Outcomes.{told_in, Acts, Takes, Stands, Opens, Room, step_at}
 use Rattle.frames.specs.declared.Outcome.{Outcome}
-use Rattle.frames.proofs.Rows.{upd_at, upd_other}
 
--- ---- the frames of a thread, where one is replaced
+-- ---- the frames of the code, where one is replaced
+pub put_frame : (l : List Kept) (j : ℕ) (k : Kept) → j < length l → held (set l j k) ≡ upd (held l) j (held_frame k)
+put_frame l j k h = fun_ext (λ i. rw (map-set held_frame l j k) (elim (ℕ_discrete i j) [
+  | yes e ↦ rw (e, eq-eqb j j refl) (get_or-set_same (map held_frame l) j (held_frame k) (new_frame 0 0 None) (rw length-map h))
+  | no e ↦ rw (ne_eqb i j e) (get_or-set_other (map held_frame l) j i (held_frame k) (new_frame 0 0 None) e)
+]))
+
+pub read_frame : (l : List Kept) (j : ℕ) (k : Kept) → j < length l → held_frame (get_or l j k) ≡ held l j
+read_frame l j k h = sym (get_or-map held_frame l j k (new_frame 0 0 None) h)
+
+-- ---- the frames of a thread
+upd_at : (h : ℕ → Frame) (i : ℕ) (g : Frame) → upd h i g i ≡ g
+upd_at h i g = rw (eq-eqb i i refl)
+
+upd_other : (h : ℕ → Frame) (i : ℕ) (g : Frame) (j : ℕ) → (j ≡ i → ⊥) → upd h i g j ≡ h j
+upd_other h i g j e = rw (ne_eqb j i e)
+
 below : (h : ℕ → Frame) (t d k : ℕ) (g : Frame) → k ≤ d → frames_of (upd h (t * 4 + d) g) t k ≡ frames_of h t k
 below h t d zero g l = refl
 below h t d (suc k) g l = ap₂ ◌∷◌ (upd_other h (t * 4 + d) g (t * 4 + k) (λ e. omega arith)) (below h t d k g (omega arith))
@@ -27,75 +46,82 @@ beside : (h : ℕ → Frame) (t d u k : ℕ) (g : Frame) → d < 4 → k ≤ 4 �
 beside h t d u zero g l m o = refl
 beside h t d u (suc k) g l m o = ap₂ ◌∷◌ (upd_other h (t * 4 + d) g (u * 4 + k) (λ e. o (omega arith))) (beside h t d u k g l (omega arith) o)
 
--- the top one of d + 1
-pub frames_top : (h h' : ℕ → Frame) (t d : ℕ) (g : Frame) → h' ≡ upd h (t * 4 + d) g → frames_of h' t (suc d) ≡ g ∷ frames_of h t d
-frames_top h h' t d g q = ap (λ (y : ℕ → Frame). frames_of y t (suc d)) q ∙ ap₂ ◌∷◌ (upd_at h (t * 4 + d) g) (below h t d d g (omega arith))
+-- the top one of d + 1 is replaced by g
+module _ (h h' : ℕ → Frame) (t d : ℕ) (g : Frame) (q : h' ≡ upd h (t * 4 + d) g) where
+  frames_top : frames_of h' t (suc d) ≡ g ∷ frames_of h t d
+  frames_top = ap (λ (y : ℕ → Frame). frames_of y t (suc d)) q ∙ ap₂ ◌∷◌ (upd_at h (t * 4 + d) g) (below h t d d g (omega arith))
 
-pub frames_below : (h h' : ℕ → Frame) (t d : ℕ) (g : Frame) → h' ≡ upd h (t * 4 + d) g → frames_of h' t d ≡ frames_of h t d
-frames_below h h' t d g q = ap (λ (y : ℕ → Frame). frames_of y t d) q ∙ below h t d d g (omega arith)
+  frames_below : frames_of h' t d ≡ frames_of h t d
+  frames_below = ap (λ (y : ℕ → Frame). frames_of y t d) q ∙ below h t d d g (omega arith)
 
-pub frames_beside : (h h' : ℕ → Frame) (t d : ℕ) (g : Frame) → h' ≡ upd h (t * 4 + d) g → d < 4 → (u k : ℕ) → k ≤ 4 → (u ≡ t → ⊥) → frames_of h' u k ≡ frames_of h u k
-frames_beside h h' t d g q l u k m o = ap (λ (y : ℕ → Frame). frames_of y u k) q ∙ beside h t d u k g l m o
+  frames_beside : d < 4 → (u k : ℕ) → k ≤ 4 → (u ≡ t → ⊥) → frames_of h' u k ≡ frames_of h u k
+  frames_beside l u k m o = ap (λ (y : ℕ → Frame). frames_of y u k) q ∙ beside h t d u k g l m o
 
--- ---- back
+-- ---- a new frame
+pub entered : (l : List Kept) (t d : ℕ) (k : Kept) {f : Frame} → length l ≡ 16 → t < 4 → d < 4 → held_frame k ≡ f → Opens (held l) (held (set l (t * 4 + d) k)) t d f
+entered l t d k {f} n i m q = record { frames = frames_top (held l) _ t d f w; others = frames_beside (held l) _ t d f w m }
+  where
+    w : held (set l (t * 4 + d) k) ≡ upd (held l) (t * 4 + d) f
+    w = put_frame l (t * 4 + d) k (omega arith) ∙ ap (upd (held l) (t * 4 + d)) q
+
+-- ---- back: k is the frame on top before it, k' after it
+back_top : (l : List Kept) (t d : ℕ) (k k' : Kept) {p : ℕ} → length l ≡ 16 → t < 4 → d < 4 → Leads (held_frame (get_or l (t * 4 + d) k)) (held_frame k') p (λ e f fs th. back_in (f ∷ fs) e th) → Backs (held l) (held (set l (t * 4 + d) k')) t (suc d) p
+back_top l t d k k' {p} n i m q = record {
+  turn = λ e th. ap (λ (fs : List Frame). Moves (to_frames p fs th) e) (frames_top (held l) _ t d (held_frame k') w)
+      ∙ (q.turn e (frames_of (held l) t d) th ∙ ap (λ (f : Frame). back_in (f ∷ frames_of (held l) t d) e th) (read_frame l (t * 4 + d) k (omega arith)));
+  others = frames_beside (held l) _ t d (held_frame k') w m;
+}
+  where
+    w : held (set l (t * 4 + d) k') ≡ upd (held l) (t * 4 + d) (held_frame k')
+    w = put_frame l (t * 4 + d) k' (omega arith)
+
 pub backs_none : (h : ℕ → Frame) (t d : ℕ) → d ≡ 0 → Backs h h t d 1
 backs_none h t d z = record { turn = λ e th. rw z; others = λ u k l o. refl }
 
-pub backs_on : (h h' : ℕ → Frame) (t d : ℕ) {p : ℕ} → (d ≡ 0 → ⊥) → d ≤ 4 → Leads h h' (t * 4 + (d - 1)) p (λ e f fs th. back_in (f ∷ fs) e th) → Backs h h' t d p
-backs_on h h' t d {p} = by d
-  where
-    at : (k d : ℕ) → k ≡ d → d < 4 → Leads h h' (t * 4 + k) p (λ e f fs th. back_in (f ∷ fs) e th) → Backs h h' t (suc d) p
-    at k d e l q = let r : Leads h h' (t * 4 + d) p (λ e f fs th. back_in (f ∷ fs) e th) = rw e at q in record {
-      turn = λ e th. ap (λ (fs : List Frame). Moves (to_frames p fs th) e) (frames_top h h' t d (h' (t * 4 + d)) r.only) ∙ r.turn e (frames_of h t d) th;
-      others = λ u k m o. frames_beside h h' t d (h' (t * 4 + d)) r.only l u k m o;
-    }
-
-    by : (d : ℕ) → (d ≡ 0 → ⊥) → d ≤ 4 → Leads h h' (t * 4 + (d - 1)) p (λ e f fs th. back_in (f ∷ fs) e th) → Backs h h' t d p
-    by zero z l q = absurd (z refl)
-    by (suc d) z l q = at (suc d - 1) d (omega arith) (omega arith) q
-
--- ---- a new frame
-pub entered : {h h' : ℕ → Frame} (t d : ℕ) (f : Frame) → d < 4 → h' ≡ upd h (t * 4 + d) f → Opens h h' t d f
-entered {h} {h'} t d f l q = record { frames = frames_top h h' t d f q; others = frames_beside h h' t d f q l }
-
-pub ruleset thread_cases = (backs_none, backs_on, entered, rules)
+pub backs_on : (l : List Kept) (t d : ℕ) (k k' : Kept) {p : ℕ} → length l ≡ 16 → t < 4 → d ≤ 4 → (d ≡ 0 → ⊥)
+    → Leads (held_frame (get_or l (t * 4 + d - 1) k)) (held_frame k') p (λ e f fs th. back_in (f ∷ fs) e th) → Backs (held l) (held (set l (t * 4 + d - 1) k')) t d p
+backs_on l t zero k k' n i m z q = absurd (z refl)
+backs_on l t (suc d) k k' n i m z q = let e : t * 4 + suc d - 1 ≡ t * 4 + d = omega arith in rw e (back_top l t d k k' n i (omega arith) (rw e at q))
 
 -- ---- a step of the frame on top is a step of the thread
-module _ (h h' : ℕ → Frame) (t p : ℕ) (s : Sight) (a : Action) (l u : ℕ) where
-  own : (d : ℕ) (th : Thread) → th.frames ≡ frames_of h t (suc d) → Stands p a l u th → to_frames p (frames_of h t (suc d)) th ≡ th
-  own d th o q = ap₂ (λ (x : ℕ) (y : List Frame). to_frames x y th) (sym q.place) (sym o)
+upd_same : (h : ℕ → Frame) (i : ℕ) → upd h i (h i) ≡ h
+upd_same h i = fun_ext (λ j. elim (ℕ_discrete j i) [ yes e ↦ rw (e, eq-eqb i i refl) | no e ↦ rw (ne_eqb j i e) ])
 
-  top_acts : {r : Outcome} (d : ℕ) → d < 4 → Acts h h' (t * 4 + d) r (step_at p s) → Takes h h' t (suc d) r (Stands p a l u) (step (place_of p) s)
+own : (h : ℕ → Frame) (t d : ℕ) (th : Thread) {p b u : ℕ} {a : Action} → th.frames ≡ frames_of h t (suc d) → Stands p a b u th → to_frames p (frames_of h t (suc d)) th ≡ th
+own h t d th o q = ap₂ (λ (x : ℕ) (y : List Frame). to_frames x y th) (sym q.place) (sym o)
+
+module _ (p : ℕ) (s : Sight) (a : Action) (b u : ℕ) {r : Outcome} where
+  top_acts : (l : List Kept) (t d : ℕ) (k k' : Kept) → length l ≡ 16 → t < 4 → d < 4 → Acts (held_frame (get_or l (t * 4 + d) k)) (held_frame k') r (step_at p s)
+      → Takes (held l) (held (set l (t * 4 + d) k')) t (suc d) r (Stands p a b u) (step (place_of p) s)
   unfolding step_at
-  top_acts {r} d m k = record {
-    turn = λ th o q. ap₂ (λ (x y : List Frame). told_in r x y th) (frames_top h h' t d (h' (t * 4 + d)) k.only) (ap (frames_of h' t) n ∙ frames_below h h' t d (h' (t * 4 + d)) k.only)
-        ∙ (k.turn (frames_of h t d) th ∙ ap (step (place_of p) s) (own d th o q));
-    others = frames_beside h h' t d (h' (t * 4 + d)) k.only m;
-    same = k.same;
+  top_acts l t d k k' n i m q = record {
+    turn = λ th o w. ap₂ (λ (x y : List Frame). told_in r x y th) (frames_top (held l) _ t d (held_frame k') v) (ap (frames_of (held (set l (t * 4 + d) k')) t) e ∙ frames_below (held l) _ t d (held_frame k') v)
+        ∙ (q.turn (frames_of (held l) t d) th ∙ (ap (λ (f : Frame). step (place_of p) s (to_frames p (f ∷ frames_of (held l) t d) th)) g ∙ ap (step (place_of p) s) (own (held l) t d th o w)));
+    others = frames_beside (held l) _ t d (held_frame k') v m;
+    same = λ z. v ∙ (ap (upd (held l) (t * 4 + d)) (q.same z ∙ g) ∙ upd_same (held l) (t * 4 + d));
   }
     where
-      n : suc d - 1 ≡ d
-      n = omega arith
+      v : held (set l (t * 4 + d) k') ≡ upd (held l) (t * 4 + d) (held_frame k')
+      v = put_frame l (t * 4 + d) k' (omega arith)
 
-  pub takes_top : {r : Outcome} (d : ℕ) → (d ≡ 0 → ⊥) → d ≤ 4 → Acts h h' (t * 4 + (d - 1)) r (step_at p s) → Takes h h' t d r (Stands p a l u) (step (place_of p) s)
-  takes_top zero z m k = absurd (z refl)
-  takes_top {r} (suc d) z m k = top_acts d (omega arith) (let n : suc d - 1 ≡ d = omega arith in rw n at k)
+      g : held_frame (get_or l (t * 4 + d) k) ≡ held l (t * 4 + d)
+      g = read_frame l (t * 4 + d) k (omega arith)
+
+      e : suc d - 1 ≡ d
+      e = omega arith
+
+  pub takes_top : (l : List Kept) (t d : ℕ) (k k' : Kept) → length l ≡ 16 → t < 4 → d ≤ 4 → (d ≡ 0 → ⊥) → Acts (held_frame (get_or l (t * 4 + d - 1) k)) (held_frame k') r (step_at p s)
+      → Takes (held l) (held (set l (t * 4 + d - 1) k')) t d r (Stands p a b u) (step (place_of p) s)
+  takes_top l t zero k k' n i m z q = absurd (z refl)
+  takes_top l t (suc d) k k' n i m z q = let e : t * 4 + suc d - 1 ≡ t * 4 + d = omega arith in rw e (top_acts l t d k k' n i (omega arith) (rw e at q))
 
 -- ---- room on the stack of the frame on top
-length_pile : (r : ℕ → ℕ) (n : ℕ) → length (pile r n) ≡ n
-length_pile r zero = refl
-length_pile r (suc n) = ap suc (length_pile r n)
-
-pub stack_length_lem : (s b r v : List ℕ) (j : ℕ) → stack_length v j ≡ length (held s b r v j).stack
-unfolding held
-stack_length_lem s b r v j = sym (length_pile (span 88 s j) (get_or v (j * 4 + 1) 0))
-
-top_has : (s b r v : List ℕ) (t d : ℕ) → (d ≡ 0 → ⊥) → Roomy (frames_of (held s b r v) t d) → stack_length v (t * 4 + (d - 1)) < 88
-top_has s b r v t zero z k = absurd (z refl)
-top_has s b r v t (suc d) z k = let n : suc d - 1 ≡ d = omega arith in rw n (let e = stack_length_lem s b r v (t * 4 + d) in omega arith)
-
-pub top_room : (s b r v : List ℕ) (t d p : ℕ) → (d ≡ 0 → ⊥) → (p ≡ 60 → ⊥) → p ≤ 80 → Room p (frames_of (held s b r v) t d) → stack_length v (t * 4 + (d - 1)) < 88
-top_room s b r v t d p z e l k = top_has s b r v t d z (k e (omega arith))
+pub top_room : (l : List Kept) (t d p : ℕ) (k : Kept) → length l ≡ 16 → t < 4 → d ≤ 4 → (d ≡ 0 → ⊥) → Room p (frames_of (held l) t d) → (p ≡ 60 → ⊥) → p < 81 → length (held_frame (get_or l (t * 4 + d - 1) k)).stack < 88
+top_room l t zero p k n i m z r e h = absurd (z refl)
+top_room l t (suc d) p k n i m z r e h =
+    let y : t * 4 + suc d - 1 ≡ t * 4 + d = omega arith in
+    let P : Frame → Type 0 = λ f. length f.stack < 88 in
+    rw y (subst P (sym (read_frame l (t * 4 + d) k (omega arith))) (r e h))
 
 length_frames : (h : ℕ → Frame) (t d : ℕ) → length (frames_of h t d) ≡ d
 length_frames h t zero = refl

@@ -1,6 +1,5 @@
 -- What a step of a range query leaves to its thread, and what fixed memory must hold for it (02 b, docs/RANGE.md).
 use Rattle.std.specs.Prelude.{ℕ, suc, ◌-◌, ◌≤◌, ◌<◌, List, [], ◌∷◌, ◌≡◌, length}
-use Rattle.container.specs.Choice.{upd}
 use Rattle.definitions.specs.declared.Action.{Action}
 use Rattle.definitions.specs.declared.Effect.TheVariants.{Quiet}
 use Rattle.definitions.specs.Bench.{Sight}
@@ -29,11 +28,10 @@ Refused (Found c) = ⊥
 Refused NodesOut = Unit {0}
 Refused StoresOut = Unit {0}
 
--- frame j, on top of a thread's frames, changed as h' says, and the outcome r are what d decides of it
-pub record Acts (h h' : ℕ → Frame) (j : ℕ) (r : Outcome) (d : Frame → List Frame → Thread → Turn) : Type 0 where
-  pub only : h' ≡ upd h j (h' j)
-  pub turn : (fs : List Frame) (th : Thread) → told_in r (h' j ∷ fs) fs th ≡ d (h j) fs th
-  pub same : Refused r → h' ≡ h
+-- the frame f on top of a thread's frames, changed to g, and the outcome r are what d decides of it
+pub record Acts (f g : Frame) (r : Outcome) (d : Frame → List Frame → Thread → Turn) : Type 0 where
+  pub turn : (fs : List Frame) (th : Thread) → told_in r (g ∷ fs) fs th ≡ d f fs th
+  pub same : Refused r → g ≡ f
 
 -- a thread's place and what it was asked
 pub record Stands (p : ℕ) (a : Action) (l u : ℕ) (th : Thread) : Type 0 where

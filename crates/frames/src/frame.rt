@@ -1,157 +1,88 @@
-// A new frame, and the parts of one beside its stack and backup.
-ghost use Rattle.std.specs.Prelude.{◌≡◌, ◌<◌};
-ghost use Rattle.container.specs.Choice.{upd};
-ghost use Rattle.definitions.specs.Frames.{noting, asks, store_of};
-ghost use Rattle.definitions.specs.Threads.{new_frame};
-ghost use Rattle.frames.specs.View.{flag_of, number_of, held};
+// A frame of a range query, or of helping one.
+ghost use Rattle.std.specs.Prelude.{◌≡◌};
 
-use definitions::Link;
+use super::stack::Stack;
 
-// Whether there is a store: 0 for none.
-fn flag_of(l: Link) -> u8
-    ensures { result ≡ flag_of l }
-{
-    match l {
-        Link::Nil => 0,
-        Link::To(_) => 1,
+#[derive(Clone, Copy)]
+pub struct Frame {
+    // node numbers; the backup is the stack when the last base was added
+    pub stack: Stack,
+    pub backup: Stack,
+    // the stations of the bases added
+    pub done: u64,
+    // the ends asked, both inside; no store only in a query's own frame, at first
+    pub lower: u8,
+    pub upper: u8,
+    pub store: Option<u8>,
+    // the base in hand, the base popped last, the key noted at 70
+    pub base: u8,
+    pub popped: u8,
+    pub key: u8,
+    // whether a base is added
+    pub begun: bool,
+}
+
+impl Frame {
+    ghost use Rattle.std.specs.Prelude.{◌<◌, None, length};
+    ghost use Rattle.definitions.specs.Frames.{in_hand, adds, tail_of, store_of};
+    ghost use Rattle.definitions.specs.Threads.{new_frame};
+    ghost use Rattle.frames.specs.View.{held_frame};
+
+    pub const EMPTY: Frame = Frame {
+        stack: Stack::EMPTY,
+        backup: Stack::EMPTY,
+        done: 0,
+        lower: 0,
+        upper: 0,
+        store: None,
+        base: 0,
+        popped: 0,
+        key: 0,
+        begun: false,
+    };
+
+    // A new frame: its ends and its store, nothing done yet.
+    pub fn new(lower: u8, upper: u8, store: Option<u8>) -> Self
+        ensures { held_frame result ≡ new_frame lower upper store }
+    {
+        Frame {
+            lower,
+            upper,
+            store,
+            ..Frame::EMPTY
+        }
     }
-}
 
-// Its number, 0 for none.
-fn number_of(l: Link) -> u8
-    ensures { result ≡ number_of l }
-{
-    match l {
-        Link::Nil => 0,
-        Link::To(n) => n,
+    // The number of its store, 0 for none.
+    pub fn store_number(&self) -> u8
+        ensures { result ≡ store_of self.now.store }
+    {
+        self.store.unwrap_or(0)
     }
-}
 
-// A new frame: the ends l and h and the store k, nothing done yet.
-pub fn open(
-    stacks: &[u8; 1408],
-    backups: &[u8; 1408],
-    notes: &mut [u8; 128],
-    words: &mut [u64; 64],
-    j: usize,
-    l: u8,
-    h: u8,
-    k: Link,
-)
-    requires { j < 16 }
-    ensures { held stacks.now backups.now notes.new words.new ≡ upd (held stacks.now backups.now notes.old words.old) j (new_frame l h k) }
-{
-    let bytes = &notes[..];
-    let all = &words[..];
-    notes[j * 8 + 0] = l;
-    notes[j * 8 + 1] = h;
-    notes[j * 8 + 2] = flag_of(k);
-    notes[j * 8 + 3] = number_of(k);
-    notes[j * 8 + 4] = 0;
-    notes[j * 8 + 5] = 0;
-    notes[j * 8 + 6] = 0;
-    notes[j * 8 + 7] = 0;
-    words[j * 4 + 0] = 0;
-    words[j * 4 + 1] = 0;
-    words[j * 4 + 2] = 0;
-}
-
-// A key is noted.
-pub fn note_key(
-    stacks: &[u8; 1408],
-    backups: &[u8; 1408],
-    notes: &mut [u8; 128],
-    words: &[u64; 64],
-    j: usize,
-    k: u8,
-)
-    requires { j < 16 }
-    ensures { held stacks.now backups.now notes.new words.now ≡ upd (held stacks.now backups.now notes.old words.now) j (noting k (held stacks.now backups.now notes.old words.now j)) }
-{
-    let bytes = &notes[..];
-    notes[j * 8 + 6] = k;
-}
-
-// The frame takes ends and store of a base.
-pub fn ask(
-    stacks: &[u8; 1408],
-    backups: &[u8; 1408],
-    notes: &mut [u8; 128],
-    words: &[u64; 64],
-    j: usize,
-    l: u8,
-    h: u8,
-    k: u8,
-)
-    requires { j < 16 }
-    ensures { held stacks.now backups.now notes.new words.now ≡ upd (held stacks.now backups.now notes.old words.now) j (asks l h k (held stacks.now backups.now notes.old words.now j)) }
-{
-    let bytes = &notes[..];
-    notes[j * 8 + 0] = l;
-    notes[j * 8 + 1] = h;
-    notes[j * 8 + 2] = 1;
-    notes[j * 8 + 3] = k;
-}
-
-// The frame has the new store k.
-pub fn set_store(
-    stacks: &[u8; 1408],
-    backups: &[u8; 1408],
-    notes: &mut [u8; 128],
-    words: &[u64; 64],
-    j: usize,
-    k: u8,
-)
-    requires { j < 16 }
-    ensures { held stacks.now backups.now notes.new words.now ≡ upd (held stacks.now backups.now notes.old words.now) j (asks (held stacks.now backups.now notes.old words.now j).lower (held stacks.now backups.now notes.old words.now j).upper k (held stacks.now backups.now notes.old words.now j)) }
-{
-    let bytes = &notes[..];
-    notes[j * 8 + 2] = 1;
-    notes[j * 8 + 3] = k;
-}
-
-// The frame's store, 0 for none.
-pub fn store_at(
-    stacks: &[u8; 1408],
-    backups: &[u8; 1408],
-    notes: &[u8; 128],
-    words: &[u64; 64],
-    j: usize,
-) -> u8
-    requires { j < 16 }
-    ensures { result ≡ store_of (held stacks.now backups.now notes.now words.now j).store }
-{
-    if notes[j * 8 + 2] == 0 {
-        0
-    } else {
-        notes[j * 8 + 3]
+    // A base x is pushed, and is in hand.
+    pub fn push_base(&mut self, x: u8)
+        requires { length (held_frame self.old).stack < 88 }
+        ensures { held_frame self.new ≡ in_hand x (held_frame self.old).stack (held_frame self.old) }
+    {
+        self.stack.push(x);
+        self.base = x;
     }
-}
 
-// The base in hand.
-pub fn base_at(
-    stacks: &[u8; 1408],
-    backups: &[u8; 1408],
-    notes: &[u8; 128],
-    words: &[u64; 64],
-    j: usize,
-) -> u8
-    requires { j < 16 }
-    ensures { result ≡ (held stacks.now backups.now notes.now words.now j).base }
-{
-    notes[j * 8 + 4]
-}
+    // The new base x is on top in place of the old one, and in hand.
+    pub fn swap_base(&mut self, x: u8)
+        ensures { held_frame self.new ≡ in_hand x (tail_of (held_frame self.old).stack) (held_frame self.old) }
+    {
+        self.stack.pop();
+        self.push_base(x);
+    }
 
-// The frame's lower end.
-pub fn lower_at(
-    stacks: &[u8; 1408],
-    backups: &[u8; 1408],
-    notes: &[u8; 128],
-    words: &[u64; 64],
-    j: usize,
-) -> u8
-    requires { j < 16 }
-    ensures { result ≡ (held stacks.now backups.now notes.now words.now j).lower }
-{
-    notes[j * 8 + 0]
+    // Done takes the container c, and the backup is the stack.
+    pub fn keep(&mut self, c: u64)
+        ensures { held_frame self.new ≡ adds c (held_frame self.old) }
+    {
+        self.done = container::united(self.done, c);
+        self.backup = self.stack;
+        self.begun = true;
+    }
 }

@@ -1,6 +1,5 @@
-// The frames of range queries, changed in place (docs/RANGE.md). Frame t * 4 of thread t is the lowest; it has four. A frame has 88 bytes for its
-// stack and 88 for its backup, 8 bytes (lower, upper, whether there is a store, the store, base, popped, key, begun) and 4 words (done, the
-// lengths of stack and backup, none). Nothing here reads nodes or stores: what a place reads of them is handed in.
+// The frames of range queries, changed in place (docs/RANGE.md). Frame t * 4 of thread t is the lowest; it has four. Nothing here reads nodes or
+// stores: what a place reads of them is handed in.
 #![tactic(auto)]
 
 ghost use Rattle.std.specs.Prelude.{◌≡◌, ◌<◌, ◌≤◌};
@@ -11,14 +10,17 @@ ghost use Rattle.frames.specs.View.{held};
 ghost use Rattle.frames.specs.Turns.{Backs, end_turn};
 ghost use Rattle.frames.specs.Outcomes.{Takes, Stands, Opens};
 
-use definitions::{Action, Effect, Link, Shared};
+use definitions::{Action, Effect};
+use frame::Frame;
 
-pub mod stack; // the stack of a frame
-pub mod backup; // its backup
-pub mod frame; // its other parts, and a new frame
+pub mod stack; // a stack of node numbers
+pub mod frame; // a frame, and what changes its stacks
 pub mod turn; // what costs no step: next, add, back, found first
 pub mod walk; // 70, 72, 74, 81
 pub mod swap; // 62, 64 to 67, 76, 77 to 80
+
+// The frames of four threads.
+pub type Frames = [Frame; 16];
 
 // What a step of a range query leaves to its thread.
 #[derive(Clone, Copy)]
@@ -37,101 +39,74 @@ pub enum Outcome {
 }
 
 // Back, with `depth` frames of thread t left: the end of helping (3, 15, 16, 40, 51), and of a frame (82).
-pub fn leave(
-    stacks: &mut [u8; 1408],
-    backups: &[u8; 1408],
-    notes: &mut [u8; 128],
-    words: &mut [u64; 64],
-    t: usize,
-    depth: usize,
-) -> u8
-    requires { (t < 4) × (depth ≤ 4) }
-    ensures { Backs (held stacks.old backups.now notes.old words.old) (held stacks.new backups.now notes.new words.new) t depth result }
+pub fn leave(frames: &mut Frames, t: usize, depth: usize) -> u8
+    requires thread { t < 4 }
+    requires few { depth ≤ 4 }
+    ensures { Backs (held frames.old) (held frames.new) t depth result }
 {
     if depth == 0 {
         return 1;
     }
-    let d = depth - 1;
-    turn::back(stacks, backups, notes, words, t * 4 + d)
+    turn::back(&mut frames[t * 4 + depth - 1])
 }
 
 // Is it a range query?
-fn is_query(a: Action) -> bool
-    ensures { result ≡ is_query a }
+fn is_query(action: Action) -> bool
+    ensures { result ≡ is_query action }
 {
-    match a {
-        Action::Lookup => false,
-        Action::Insert => false,
-        Action::Remove => false,
-        Action::Split => false,
-        Action::Join => false,
-        Action::Query => true,
-    }
+    matches!(action, Action::Query)
 }
 
 // The stations from l to h, both inside.
+#[tactic(auto, using(crate::proofs::Ends::within_low, crate::proofs::Ends::within_all))]
 fn within(l: u8, h: u16) -> u64
     ensures { result ≡ between l h }
 {
-    let c = container::upper(18446744073709551615, l);
+    let c = container::upper(u64::MAX, l);
     if h < 63 {
-        let k = h as u8;
-        return container::lower(c, k + 1);
+        return container::lower(c, h as u8 + 1);
     }
     c
 }
 
-// 82: the top one of `depth` frames of thread t ends, and `result` is its store's.
+// 82: the top one of `depth` frames of thread t ends; the result of its store is `found`.
+#[tactic(auto, unfolding(container::specs::Choice::ite, crate::specs::Turns::end_turn))]
 pub fn finish(
-    stacks: &mut [u8; 1408],
-    backups: &[u8; 1408],
-    notes: &mut [u8; 128],
-    words: &mut [u64; 64],
+    frames: &mut Frames,
     t: usize,
     depth: usize,
-    res: Shared,
+    found: Option<u64>,
     action: Action,
     station: u8,
     extra: u16,
 ) -> Outcome
-    requires { (t < 4) × (depth ≤ 4) }
-    ensures { Takes (held stacks.old backups.now notes.old words.old) (held stacks.new backups.now notes.new words.new) t depth result (Stands 82 action station extra) (end_turn res) }
+    requires thread { t < 4 }
+    requires few { depth ≤ 4 }
+    ensures { Takes (held frames.old) (held frames.new) t depth result (Stands 82 action station extra) (end_turn found) }
 {
     if depth == 0 {
         return Outcome::NodesOut;
     }
-    let d = depth - 1;
-    match res {
-        Shared::Unset => Outcome::NodesOut,
-        Shared::Set(c) => {
-            if d == 0 {
+    match found {
+        None => Outcome::NodesOut,
+        Some(c) => {
+            if depth == 1 {
                 if is_query(action) {
-                    let asked = within(station, extra);
-                    return Outcome::Found(container::common(c, asked));
+                    return Outcome::Found(container::common(c, within(station, extra)));
                 }
                 return Outcome::Back(1);
             }
-            let p = leave(stacks, backups, notes, words, t, d);
-            Outcome::Back(p)
+            Outcome::Back(leave(frames, t, depth - 1))
         }
     }
 }
 
 // A new frame on top of `depth` frames of thread t: a query's own at its start, or one with the ends and store of a range base that is in
 // the way at 3 or 15.
-pub fn enter(
-    stacks: &[u8; 1408],
-    backups: &[u8; 1408],
-    notes: &mut [u8; 128],
-    words: &mut [u64; 64],
-    t: usize,
-    depth: usize,
-    l: u8,
-    h: u8,
-    k: Link,
-)
-    requires { (t < 4) × (depth < 4) }
-    ensures { Opens (held stacks.now backups.now notes.old words.old) (held stacks.now backups.now notes.new words.new) t depth (new_frame l h k) }
+pub fn enter(frames: &mut Frames, t: usize, depth: usize, l: u8, h: u8, k: Option<u8>)
+    requires thread { t < 4 }
+    requires room { depth < 4 }
+    ensures { Opens (held frames.old) (held frames.new) t depth (new_frame l h k) }
 {
-    frame::open(stacks, backups, notes, words, t * 4 + depth, l, h, k)
+    frames[t * 4 + depth] = Frame::new(l, h, k);
 }

@@ -1,152 +1,77 @@
-// The stack of a frame. That it has room for a push is known of every run (answers, `reach_push`; queries, `query_fits`).
-ghost use Rattle.std.specs.Prelude.{◌≡◌, ◌-◌, ◌<◌, ◌≤◌, []};
-ghost use Rattle.container.specs.Choice.{upd};
-ghost use Rattle.definitions.specs.Frames.{pushed, in_hand, popping, with_stack, top_of, tail_of};
-ghost use Rattle.frames.specs.View.{held, stack_length};
+// A stack of node numbers, of at most 88. That it has room for a push is known of every run (answers, `reach_push`; queries, `query_fits`).
+ghost use Rattle.std.specs.Prelude.{◌≤◌};
 
-// The top of the stack; 0 where it is empty.
-pub fn top(
-    stacks: &[u8; 1408],
-    backups: &[u8; 1408],
-    notes: &[u8; 128],
-    words: &[u64; 64],
-    j: usize,
-) -> u8
-    requires { j < 16 }
-    ensures { result ≡ top_of (held stacks.now backups.now notes.now words.now j).stack }
-{
-    let n = words[j * 4 + 1] as usize;
-    if n == 0 {
-        return 0;
+#[derive(Clone, Copy)]
+pub struct Stack {
+    // the last one pushed is the top; what stands past the length is of no account
+    items: [u8; 88],
+    length: usize,
+    ghost fits: { length ≤ 88 },
+}
+
+impl Stack {
+    ghost use Rattle.std.specs.Prelude.{◌≡◌, ◌<◌, ◌↔◌, [], ◌∷◌, length, get_or, IsTrue};
+    ghost use Rattle.std.specs.List.{slice_get};
+    ghost use Rattle.definitions.specs.Frames.{top_of, tail_of};
+    ghost use Rattle.frames.specs.View.{held_stack};
+
+    pub const EMPTY: Stack = Stack {
+        items: [0; 88],
+        length: 0,
+    };
+
+    pub fn len(&self) -> usize
+        ensures { result ≡ length (held_stack self.now) }
+    {
+        self.length // at most 88
     }
-    let m = n - 1;
-    if m < 88 {
-        return stacks[j * 88 + m];
+
+    pub fn is_empty(&self) -> bool
+        ensures { IsTrue result ↔ (held_stack self.now ≡ []) }
+    {
+        self.len() == 0
     }
-    0
-}
 
-// x is pushed on the stack.
-pub fn push(
-    stacks: &mut [u8; 1408],
-    backups: &[u8; 1408],
-    notes: &[u8; 128],
-    words: &mut [u64; 64],
-    j: usize,
-    x: u8,
-)
-    requires { (j < 16) × (stack_length words.old j < 88) }
-    ensures { held stacks.new backups.now notes.now words.new ≡ upd (held stacks.old backups.now notes.now words.old) j (pushed x (held stacks.old backups.now notes.now words.old j).stack (held stacks.old backups.now notes.now words.old j)) }
-{
-    let whole = &stacks[..];
-    let all = &words[..];
-    let n = words[j * 4 + 1];
-    let at = n as usize;
-    stacks[j * 88 + at] = x;
-    words[j * 4 + 1] = n + 1;
-}
-
-// A base x is pushed, and is in hand.
-pub fn push_base(
-    stacks: &mut [u8; 1408],
-    backups: &[u8; 1408],
-    notes: &mut [u8; 128],
-    words: &mut [u64; 64],
-    j: usize,
-    x: u8,
-)
-    requires { (j < 16) × (stack_length words.old j < 88) }
-    ensures { held stacks.new backups.now notes.new words.new ≡ upd (held stacks.old backups.now notes.old words.old) j (in_hand x (held stacks.old backups.now notes.old words.old j).stack (held stacks.old backups.now notes.old words.old j)) }
-{
-    let whole = &stacks[..];
-    let all = &words[..];
-    let bytes = &notes[..];
-    let n = words[j * 4 + 1];
-    let at = n as usize;
-    stacks[j * 88 + at] = x;
-    words[j * 4 + 1] = n + 1;
-    notes[j * 8 + 4] = x;
-}
-
-// The stack is emptied.
-pub fn clear(
-    stacks: &[u8; 1408],
-    backups: &[u8; 1408],
-    notes: &[u8; 128],
-    words: &mut [u64; 64],
-    j: usize,
-)
-    requires { j < 16 }
-    ensures { held stacks.now backups.now notes.now words.new ≡ upd (held stacks.now backups.now notes.now words.old) j (with_stack [] (held stacks.now backups.now notes.now words.old j)) }
-{
-    let all = &words[..];
-    words[j * 4 + 1] = 0;
-}
-
-// The top is taken off.
-pub fn drop_top(
-    stacks: &[u8; 1408],
-    backups: &[u8; 1408],
-    notes: &[u8; 128],
-    words: &mut [u64; 64],
-    j: usize,
-)
-    requires { j < 16 }
-    ensures { held stacks.now backups.now notes.now words.new ≡ upd (held stacks.now backups.now notes.now words.old) j (with_stack (tail_of (held stacks.now backups.now notes.now words.old j).stack) (held stacks.now backups.now notes.now words.old j)) }
-{
-    let all = &words[..];
-    let n = words[j * 4 + 1];
-    if 0 < n {
-        words[j * 4 + 1] = n - 1;
-    } else {
-        words[j * 4 + 1] = 0;
+    // Entry i, the top first; 0 where there is none.
+    pub fn entry(&self, i: usize) -> u8
+        ensures { result ≡ get_or (held_stack self.now) i 0 }
+    {
+        if i < self.length {
+            return self.items[self.length - 1 - i];
+        }
+        0
     }
-}
 
-// The top is taken off, and noted as popped.
-pub fn pop(
-    stacks: &[u8; 1408],
-    backups: &[u8; 1408],
-    notes: &mut [u8; 128],
-    words: &mut [u64; 64],
-    j: usize,
-)
-    requires { (j < 16) × (0 < stack_length words.old j) }
-    ensures { held stacks.now backups.now notes.new words.new ≡ upd (held stacks.now backups.now notes.old words.old) j (popping (top_of (held stacks.now backups.now notes.old words.old j).stack) (tail_of (held stacks.now backups.now notes.old words.old j).stack) (held stacks.now backups.now notes.old words.old j)) }
-{
-    let bytes = &notes[..];
-    let all = &words[..];
-    let x = top(stacks, backups, notes, words, j);
-    let n = words[j * 4 + 1];
-    notes[j * 8 + 5] = x;
-    words[j * 4 + 1] = n - 1;
-}
+    // The top; 0 where it is empty.
+    pub fn top(&self) -> u8
+        ensures { result ≡ top_of (held_stack self.now) }
+    {
+        self.entry(0)
+    }
 
-// n - 1, and 0 for 0.
-fn one_less(n: u64) -> u64
-    ensures { result ≡ n - 1 }
-{
-    if 0 < n { n - 1 } else { 0 }
-}
+    pub fn push(&mut self, x: u8)
+        requires { length (held_stack self.old) < 88 }
+        ensures { held_stack self.new ≡ x ∷ held_stack self.old }
+    {
+        self.items[self.length] = x;
+        self.length += 1;
+    }
 
-// The new base x is on top in place of the old one, and in hand.
-pub fn swap_top(
-    stacks: &mut [u8; 1408],
-    backups: &[u8; 1408],
-    notes: &mut [u8; 128],
-    words: &mut [u64; 64],
-    j: usize,
-    x: u8,
-)
-    requires { (j < 16) × (stack_length words.old j ≤ 88) }
-    ensures { held stacks.new backups.now notes.new words.new ≡ upd (held stacks.old backups.now notes.old words.old) j (in_hand x (tail_of (held stacks.old backups.now notes.old words.old j).stack) (held stacks.old backups.now notes.old words.old j)) }
-{
-    let whole = &stacks[..];
-    let all = &words[..];
-    let bytes = &notes[..];
-    let m = one_less(words[j * 4 + 1]);
-    let at = m as usize;
-    stacks[j * 88 + at] = x;
-    words[j * 4 + 1] = m + 1;
-    notes[j * 8 + 4] = x;
+    pub fn pop(&mut self) -> Option<u8>
+        ensures top { result ≡ slice_get (held_stack self.old) 0 }
+        ensures rest { held_stack self.new ≡ tail_of (held_stack self.old) }
+        ensures room { length (held_stack self.new) < 88 }
+    {
+        if self.length == 0 {
+            return None;
+        }
+        self.length -= 1;
+        Some(self.items[self.length])
+    }
+
+    pub fn clear(&mut self)
+        ensures { held_stack self.new ≡ [] }
+    {
+        self.length = 0;
+    }
 }

@@ -1,62 +1,48 @@
 // 62, 64 to 67, 76 and 77 to 80: a base is checked and swapped for a range base. What is read of nodes and stores is handed in.
-ghost use Rattle.std.specs.Prelude.{◌≡◌, ◌+◌, ◌<◌, ◌≤◌};
+#![tactic(auto, using(std::proofs::lemmas::Bool::Decides::nat_tests, crate::proofs::Turns::alike_cases), unfolding(container::specs::Choice::ite, definitions::specs::Queries::opened_by, definitions::specs::Frames::back, crate::specs::Turns::begin_turn, crate::specs::Turns::extend_turn, crate::specs::Turns::ride_turn, crate::specs::Turns::pass_turn, crate::specs::Turns::open_turn, crate::specs::Turns::go_on_turn))]
+
+ghost use Rattle.std.specs.Prelude.{◌≡◌, ◌+◌, ◌<◌};
 ghost use Rattle.definitions.specs.Places.{quarter_number};
-ghost use Rattle.frames.specs.View.{held, stack_length};
+ghost use Rattle.frames.specs.View.{held_frame};
 ghost use Rattle.frames.specs.Turns.{ride_turn, pass_turn, open_turn, go_on_turn};
 ghost use Rattle.frames.specs.Outcomes.{Acts};
 
-use super::{Outcome, frame, turn};
-use definitions::{Check, Effect, Link, Probe, Quarter};
+use super::frame::Frame;
+use super::{Outcome, turn};
+use definitions::{Check, Effect, Node, Probe, Quarter};
 
-// 62: c is what the check of the base in hand answers. A range base that reaches as far is ridden on (piggyback).
-pub fn ride(
-    stacks: &[u8; 1408],
-    backups: &[u8; 1408],
-    notes: &mut [u8; 128],
-    words: &[u64; 64],
-    j: usize,
-    c: Check,
-) -> Outcome
-    requires { j < 16 }
-    ensures { Acts (held stacks.now backups.now notes.old words.now) (held stacks.now backups.now notes.new words.now) j result (ride_turn c) }
+// 62: what the check of the base in hand answers. A range base that reaches as far is ridden on (piggyback).
+pub fn ride(frame: &mut Frame, check: Check) -> Outcome
+    ensures { Acts (held_frame frame.old) (held_frame frame.new) result (ride_turn check) }
 {
-    let base = notes[j * 8 + 4];
-    match c {
+    match check {
         Check::Replaceable => Outcome::Onward {
             place: 64,
             effect: Effect::Quiet,
         },
-        Check::Preparing(_) => Outcome::Blocked(base),
-        Check::Completing(_) => Outcome::Blocked(base),
-        Check::Stale => Outcome::Blocked(base),
+        Check::Preparing(_) | Check::Completing(_) | Check::Stale => Outcome::Blocked(frame.base),
         Check::Unset {
-            lower: l,
-            upper: h,
-            store: k,
+            lower,
+            upper,
+            store,
         } => {
-            if notes[j * 8 + 1] <= h {
-                frame::ask(stacks, backups, notes, words, j, l, h, k);
+            if frame.upper <= upper {
+                frame.lower = lower;
+                frame.upper = upper;
+                frame.store = Some(store);
                 return Outcome::Onward {
                     place: 60,
                     effect: Effect::Quiet,
                 };
             }
-            Outcome::Blocked(base)
+            Outcome::Blocked(frame.base)
         }
     }
 }
 
 // 76: is the base in hand replaceable?
-pub fn pass(
-    stacks: &[u8; 1408],
-    backups: &[u8; 1408],
-    notes: &[u8; 128],
-    words: &[u64; 64],
-    j: usize,
-    free: bool,
-) -> Outcome
-    requires { j < 16 }
-    ensures { Acts (held stacks.now backups.now notes.now words.now) (held stacks.now backups.now notes.now words.now) j result (pass_turn free) }
+pub fn pass(frame: &Frame, free: bool) -> Outcome
+    ensures { Acts (held_frame frame.now) (held_frame frame.now) result (pass_turn free) }
 {
     if free {
         return Outcome::Onward {
@@ -64,74 +50,48 @@ pub fn pass(
             effect: Effect::Quiet,
         };
     }
-    Outcome::Blocked(notes[j * 8 + 4])
+    Outcome::Blocked(frame.base)
 }
 
 // The place of one of four steps, counted from the first.
-fn place_of(first: u8, q: Quarter) -> u8
+fn place_of(first: u8, quarter: Quarter) -> u8
     requires { first < 128 }
-    ensures { result ≡ first + quarter_number q }
+    ensures { result ≡ first + quarter_number quarter }
 {
-    match q {
-        Quarter::ReadLeft => first + 0,
-        Quarter::SwapLeft => first + 1,
-        Quarter::ReadRight => first + 2,
-        Quarter::SwapRight => first + 3,
-    }
+    first + quarter as u8
 }
 
-// 64 to 67: what the comparison found, and parent and container of the base in hand.
-pub fn open_at(
-    stacks: &mut [u8; 1408],
-    backups: &mut [u8; 1408],
-    notes: &mut [u8; 128],
-    words: &mut [u64; 64],
-    j: usize,
-    seen: Probe,
-    parent: Link,
-    c: u64,
-    used: u16,
-    shown: u16,
-) -> Outcome
-    requires { (j < 16) × (stack_length words.old j ≤ 88) }
-    ensures { Acts (held stacks.old backups.old notes.old words.old) (held stacks.new backups.new notes.new words.new) j result (open_turn seen parent c used shown) }
+// 64 to 67, with what the comparison found and the base in hand.
+pub fn open_at(frame: &mut Frame, seen: Probe, base: Node, used: u16, shown: u16) -> Outcome
+    ensures { Acts (held_frame frame.old) (held_frame frame.new) result (open_turn seen base used shown) }
 {
     match seen {
-        Probe::Hit(v) => {
+        Probe::Hit(spot) => {
             if 255 < used {
                 return Outcome::NodesOut;
             }
             if 63 < shown {
                 return Outcome::StoresOut;
             }
-            let x = used as u8;
-            let k = shown as u8;
-            let base = notes[j * 8 + 4];
-            let lower = notes[j * 8 + 0];
-            let upper = notes[j * 8 + 1];
+            let at = used as u8;
+            let store = shown as u8;
             let effect = Effect::Ask {
-                spot: v,
-                at: x,
-                parent: parent,
-                base: base,
-                lower: lower,
-                upper: upper,
-                store: k,
+                spot,
+                at,
+                parent: base.parent,
+                base: frame.base,
+                lower: frame.lower,
+                upper: frame.upper,
+                store,
                 fresh: true,
             };
-            let p = turn::begin(stacks, backups, notes, words, j, x, k, c);
-            Outcome::Onward {
-                place: p,
-                effect: effect,
-            }
+            let place = turn::begin(frame, at, store, base.container);
+            Outcome::Onward { place, effect }
         }
-        Probe::Next(q) => {
-            let p = place_of(64, q);
-            Outcome::Onward {
-                place: p,
-                effect: Effect::Quiet,
-            }
-        }
+        Probe::Next(quarter) => Outcome::Onward {
+            place: place_of(64, quarter),
+            effect: Effect::Quiet,
+        },
         Probe::Miss => Outcome::Onward {
             place: 60,
             effect: Effect::Quiet,
@@ -139,60 +99,36 @@ pub fn open_at(
     }
 }
 
-// 77 to 80, likewise.
-pub fn go_on(
-    stacks: &mut [u8; 1408],
-    backups: &mut [u8; 1408],
-    notes: &mut [u8; 128],
-    words: &mut [u64; 64],
-    j: usize,
-    seen: Probe,
-    parent: Link,
-    c: u64,
-    used: u16,
-) -> Outcome
-    requires { (j < 16) × (stack_length words.old j ≤ 88) }
-    ensures { Acts (held stacks.old backups.old notes.old words.old) (held stacks.new backups.new notes.new words.new) j result (go_on_turn seen parent c used) }
+// 77 to 80, likewise. It is not one function with `open_at`: they differ in store, places and what a miss leads to, so one would be a switch.
+pub fn go_on(frame: &mut Frame, seen: Probe, base: Node, used: u16) -> Outcome
+    ensures { Acts (held_frame frame.old) (held_frame frame.new) result (go_on_turn seen base used) }
 {
     match seen {
-        Probe::Hit(v) => {
+        Probe::Hit(spot) => {
             if 255 < used {
                 return Outcome::NodesOut;
             }
-            let x = used as u8;
-            let k = frame::store_at(stacks, backups, notes, words, j);
-            let base = notes[j * 8 + 4];
-            let lower = notes[j * 8 + 0];
-            let upper = notes[j * 8 + 1];
+            let at = used as u8;
             let effect = Effect::Ask {
-                spot: v,
-                at: x,
-                parent: parent,
-                base: base,
-                lower: lower,
-                upper: upper,
-                store: k,
+                spot,
+                at,
+                parent: base.parent,
+                base: frame.base,
+                lower: frame.lower,
+                upper: frame.upper,
+                store: frame.store_number(),
                 fresh: false,
             };
-            let p = turn::extend(stacks, backups, notes, words, j, x, c);
-            Outcome::Onward {
-                place: p,
-                effect: effect,
-            }
+            let place = turn::extend(frame, at, base.container);
+            Outcome::Onward { place, effect }
         }
-        Probe::Next(q) => {
-            let p = place_of(77, q);
-            Outcome::Onward {
-                place: p,
-                effect: Effect::Quiet,
-            }
-        }
-        Probe::Miss => {
-            let p = turn::back(stacks, backups, notes, words, j);
-            Outcome::Onward {
-                place: p,
-                effect: Effect::Quiet,
-            }
-        }
+        Probe::Next(quarter) => Outcome::Onward {
+            place: place_of(77, quarter),
+            effect: Effect::Quiet,
+        },
+        Probe::Miss => Outcome::Onward {
+            place: turn::back(frame),
+            effect: Effect::Quiet,
+        },
     }
 }

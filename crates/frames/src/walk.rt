@@ -1,80 +1,52 @@
 // 70, 72, 74 and 81: from one base to the next, and the end of it. What is read of nodes and stores is handed in.
-ghost use Rattle.std.specs.Prelude.{◌≡◌, ◌<◌, cond, false, ltb};
-ghost use Rattle.frames.specs.View.{held};
+#![tactic(auto, using(std::proofs::lemmas::Bool::Decides::nat_tests, crate::proofs::Turns::add_alike), unfolding(container::specs::Choice::ite, crate::specs::Turns::add_turn, crate::specs::Turns::left_turn, crate::specs::Turns::up_turn, crate::specs::Turns::meet_turn))]
+
+ghost use Rattle.std.specs.Prelude.{◌≡◌, cond, false, ltb};
+ghost use Rattle.frames.specs.View.{held_frame};
 ghost use Rattle.frames.specs.Turns.{Goes, left_turn, up_turn, meet_turn, fill_effect};
 
-use super::{frame, stack, turn};
-use definitions::{Effect, Kind, Shared};
+use super::frame::Frame;
+use super::turn;
+use definitions::{Effect, Node};
 
-// Is the valid mark true, and the key over k?
-fn above(k: u8, valid: bool, key: u8) -> bool
-    ensures { result ≡ cond valid (ltb k key) false }
+// Is the route valid, with its key over k?
+fn above(k: u8, route: Node) -> bool
+    ensures { result ≡ cond route.valid (ltb k route.key) false }
 {
-    if valid { k < key } else { false }
+    route.valid && k < route.key
 }
 
-// 70: the top route's left child and key.
-pub fn look_left(
-    stacks: &[u8; 1408],
-    backups: &[u8; 1408],
-    notes: &mut [u8; 128],
-    words: &[u64; 64],
-    j: usize,
-    left: u8,
-    key: u8,
-) -> u8
-    requires { j < 16 }
-    ensures { Goes (held stacks.now backups.now notes.old words.now) (held stacks.now backups.now notes.new words.now) j result (left_turn left key) }
+// 70, with the top route.
+pub fn look_left(frame: &mut Frame, route: Node) -> u8
+    ensures { Goes (held_frame frame.old) (held_frame frame.new) result (left_turn route) }
 {
-    if left == notes[j * 8 + 5] {
+    if route.left == frame.popped {
         return 71;
     }
-    frame::note_key(stacks, backups, notes, words, j, key);
+    frame.key = route.key;
     72
 }
 
-// 72: the top route's valid mark and key.
-pub fn ascend(
-    stacks: &[u8; 1408],
-    backups: &[u8; 1408],
-    notes: &[u8; 128],
-    words: &mut [u64; 64],
-    j: usize,
-    valid: bool,
-    key: u8,
-) -> u8
-    requires { j < 16 }
-    ensures { Goes (held stacks.now backups.now notes.now words.old) (held stacks.now backups.now notes.now words.new) j result (up_turn valid key) }
+// 72, with the top route.
+pub fn ascend(frame: &mut Frame, route: Node) -> u8
+    ensures { Goes (held_frame frame.old) (held_frame frame.new) result (up_turn route) }
 {
-    if above(notes[j * 8 + 6], valid, key) {
+    if above(frame.key, route) {
         return 71;
     }
-    let m = words[j * 4 + 1];
-    stack::drop_top(stacks, backups, notes, words, j);
-    if m < 2 { 81 } else { 72 }
+    frame.stack.pop();
+    if frame.stack.is_empty() { 81 } else { 72 }
 }
 
-// 74: the result of the frame's store, and kind, store and container of the base in hand.
-pub fn meet(
-    stacks: &[u8; 1408],
-    backups: &mut [u8; 1408],
-    notes: &mut [u8; 128],
-    words: &mut [u64; 64],
-    j: usize,
-    res: Shared,
-    kind: Kind,
-    store: u8,
-    c: u64,
-) -> u8
-    requires { j < 16 }
-    ensures { Goes (held stacks.now backups.old notes.old words.old) (held stacks.now backups.new notes.new words.new) j result (meet_turn res kind store c) }
+// 74, with the result of the frame's store and the base in hand.
+pub fn meet(frame: &mut Frame, found: Option<u64>, base: Node) -> u8
+    ensures { Goes (held_frame frame.old) (held_frame frame.new) result (meet_turn found base) }
 {
-    match res {
-        Shared::Set(_) => 82,
-        Shared::Unset => {
-            let k = frame::store_at(stacks, backups, notes, words, j);
-            if turn::is_of(k, kind, store) {
-                return turn::add(stacks, backups, notes, words, j, c);
+    match found {
+        Some(_) => 82,
+        None => {
+            if turn::is_of(frame.store_number(), base) {
+                return turn::add(frame, base.container);
             }
             76
         }
@@ -82,21 +54,14 @@ pub fn meet(
 }
 
 // 81: what it writes, by the result of the frame's store; it leads to 82.
-pub fn fill(
-    stacks: &[u8; 1408],
-    backups: &[u8; 1408],
-    notes: &[u8; 128],
-    words: &[u64; 64],
-    j: usize,
-    res: Shared,
-) -> Effect
-    requires { j < 16 }
-    ensures { result ≡ fill_effect res (held stacks.now backups.now notes.now words.now j) }
+pub fn fill(frame: &Frame, found: Option<u64>) -> Effect
+    ensures { result ≡ fill_effect found (held_frame frame.now) }
 {
-    let set = words[j * 4 + 0];
-    let k = frame::store_at(stacks, backups, notes, words, j);
-    match res {
-        Shared::Set(_) => Effect::Quiet,
-        Shared::Unset => Effect::Fill { store: k, set: set },
+    match found {
+        Some(_) => Effect::Quiet,
+        None => Effect::Fill {
+            store: frame.store_number(),
+            set: frame.done,
+        },
     }
 }

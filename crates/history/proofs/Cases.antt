@@ -1,14 +1,11 @@
 -- The cases of what the schedule says, of the header and of a file's refusal, each with the code's own facts as premises. Assumes nothing.
 use mathlib.Core.Path.{◌≡◌, refl, sym, ap, ◌∙◌}
 use mathlib.Core.Bool.{false}
-use mathlib.Core.List.{List, [], ◌∷◌}
+use mathlib.Core.List.{List}
 use Prim.Native.Nat.{ℕ, suc, ◌+◌, ◌-◌, ◌*◌, ◌/◌, ◌%◌, ◌≤◌, ◌<◌}
 use native.Mathlib.Omega.{arith}
 use native.Mathlib.Numerals.{add-one}
 use lib.Dec.{eqb}
-use borrow.Author.Tests.{eq-eqb, ne_eqb}
-use Rattle.container.specs.Choice.{ite}
-use Rattle.buffer.specs.Page.{Page, put, put_all}
 use Rattle.definitions.specs.Schedule.{count_of}
 use Rattle.definitions.specs.Merge.{first_byte, fault}
 use Rattle.definitions.specs.Written.{written_refusal}
@@ -16,20 +13,7 @@ use Rattle.history.specs.Ahead.{start_number, starts_to, ahead}
 use Rattle.history.proofs.Outlook.{ahead_own, ahead_other, ahead_none}
 use Rattle.run.proofs.Room.{by_file, by_room, by_none}
 
--- ---- the header
-pub header_put : (p : Page) (x y : ℕ) {q r : Page} → q ≡ put p 1 → r ≡ put_all q (x ∷ y ∷ []) → r ≡ put_all p (1 ∷ x ∷ y ∷ [])
-unfolding put_all
-header_put p x y e f = rw e at f
-
 -- ---- starts
-pub number_step : (x : ℕ) → x % 16 ≡ 0 → 0 ≡ start_number x
-unfolding start_number ite
-number_step x e = rw (eq-eqb (x % 16) 0 e)
-
-pub number_start : (x : ℕ) → (x % 16 ≡ 0 → ⊥) → 1 ≡ start_number x
-unfolding start_number ite
-number_start x e = rw (ne_eqb (x % 16) 0 e)
-
 pub starts_none : (file : List ℕ) → 0 ≡ starts_to file 0
 unfolding starts_to
 starts_none file = refl

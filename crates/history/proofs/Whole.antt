@@ -1,7 +1,7 @@
 -- The whole of History: what Run says of the file, and the report and the buffer at the end. Assumes nothing.
 use mathlib.Core.Path.{◌≡◌, refl, sym, ap, ◌∙◌}
 use mathlib.Core.Bool.{Bool, true, false}
-use mathlib.Core.List.{List, [], ◌∷◌, ◌++◌}
+use mathlib.Core.List.{List, ◌∷◌, ◌++◌}
 use Prim.Native.Nat.{ℕ, ◌+◌, ◌*◌, ◌/◌, ◌%◌, ◌≤◌}
 use native.Mathlib.Omega.{arith}
 use borrow.Author.Tests.{eqb-true, eq-eqb, ne_eqb}
@@ -9,7 +9,7 @@ use lib.Dec.{eqb, ltb}
 use lib.ListN.{length, get_or, drop, length-append, get_or-append}
 use Rattle.container.specs.Choice.{ite}
 use Rattle.buffer.specs.Page.{Page, page, put_all}
-use Rattle.buffer.proofs.Laws.{joined, put_fits}
+use Rattle.buffer.proofs.Laws.{put_fits}
 use Rattle.schedule.specs.Proper.{Plain}
 use Rattle.schedule.proofs.Laws.{plain, fault_file}
 use Rattle.definitions.specs.Schedule.{count_of, file_refusal}
@@ -92,14 +92,14 @@ module _ (file first : List ℕ) {bad : ℕ} (e : bad ≡ written_refusal file (
   unfolding written_buffer ite
   refused_buffer z = rw (← e, ne_eqb _ _ z)
 
-  module _ (z : bad ≡ 0) {d f : ℕ} {rows : List ℕ} (t : Told file d f rows) {s : ℕ} (c : s ≡ starts_to file d) {q r : Page}
-      (h : q ≡ put_all (page first 0) (1 ∷ (s + f) / 256 ∷ (s + f) % 256 ∷ [])) (g : r ≡ put_all q (bytes_of (run_events file))) where
+  module _ (z : bad ≡ 0) {d f : ℕ} {rows : List ℕ} (t : Told file d f rows) {s : ℕ} (c : s ≡ starts_to file d) {r : Page}
+      (g : r ≡ put_all (page first 0) (1 ∷ (s + f) / 256 ∷ (s + f) % 256 ∷ bytes_of (run_events file))) where
     events_count : s + f ≡ length (run_events file)
     events_count = sym (count_all file t.version (count_of file) ∙ rw (← t.done, ← t.finished, c))
 
     all_put : r ≡ put_all (page first 0) (written file)
     unfolding written
-    all_put = joined (page first 0) (1 ∷ (s + f) / 256 ∷ (s + f) % 256 ∷ []) (bytes_of (run_events file)) h g ∙ rw events_count
+    all_put = g ∙ rw events_count
 
     fits : length (written file) ≤ length first
     fits = omega (arith, room_enough (count_of file) file refl, room_for file (length first) (sym e ∙ z))

@@ -1,4 +1,6 @@
 -- Every file has a report: with Unique.antt, the definition is a function. Assumes nothing.
+use Rattle.std.proofs.lemmas.Bool.{cases_Bool, and_parts}
+use Rattle.std.specs.Prelude.{Option, Some, None}
 use mathlib.Core.Path.{◌≡◌, refl, sym, ◌∙◌}
 use mathlib.Core.Logic.{◌⊎◌, inl, inr}
 use mathlib.Core.Bool.{Bool, true, false, not, ◌||◌, true≢false, Bool-discrete}
@@ -12,14 +14,14 @@ use borrow.Author.Tests.{eq-eqb, ltb-true, ltb-false}
 use Rattle.container.specs.Choice.{ite}
 use Rattle.container.specs.Container.{has, insert}
 use Rattle.definitions.specs.Schedule.{count_of}
-use Rattle.definitions.specs.declared.Link.{Link}
-use Rattle.definitions.specs.declared.Link.TheVariants.{Nil, To}
 use Rattle.definitions.specs.History.{Event, Events, events_of, Operations, Reading, begun, ended_by, noted, in_range, in_place, reading, all_in_place, unfinished, reading_of, form_refusal, events_refusal, history_refusal}
 use Rattle.definitions.specs.Judgement.{action_of, reply, padded, accepts, rejects, Decided, JudgementBy, Judgement}
 use Rattle.judge.specs.Search.{state, Fitting, Before, Sound, Entry, dead, alive}
 use Rattle.judge.specs.Standing.{Proper}
 use Rattle.definitions.specs.declared.Judged.{Judged}
-use Rattle.judge.proofs.Tools.{on, off, test, ◌==?◌, and_both}
+use Rattle.judge.specs.declared.Next.{Next}
+use Rattle.judge.specs.declared.Next.TheVariants.{Dead, Done, Go}
+use Rattle.judge.proofs.Tools.{◌==?◌}
 use Rattle.judge.proofs.Rest.{head_fits, head_before, tail_rest, first_order, no_order}
 use Rattle.judge.proofs.Table.{insert_below, insert_above, Goes, Lower, Left, choose_here, lower_none, lower_done, lower_stuck, left_none, left_done, left_some, entry_dead, entry_full}
 use Rattle.judge.proofs.Noting.{proper_begun, proper_ended}
@@ -29,18 +31,18 @@ use Rattle.judge.proofs.Whole.{unread_proper}
 station_of : (e : Event) (R : Reading) → in_place e R ≡ true → e.station < 64
 unfolding in_place
 station_of e R p =
-    let q0 = (and_both (ltb e.thread 4) _ (and_both (in_range e) _ p).0).1 in
-    let q1 = (and_both (ltb 0 e.action) _ q0).1 in
-    let q2 = (and_both (ltb e.action 4) _ q1).1 in
-    ltb-true e.station 64 (and_both (ltb e.station 64) (ltb e.mark 3) q2).0
+    let q0 = (and_parts (ltb e.thread 4) _ (and_parts (in_range e) _ p).0).1 in
+    let q1 = (and_parts (ltb 0 e.action) _ q0).1 in
+    let q2 = (and_parts (ltb e.action 4) _ q1).1 in
+    ltb-true e.station 64 (and_parts (ltb e.station 64) (ltb e.mark 3) q2).0
 
 proper_noted : (e : Event) (R : Reading) → in_place e R ≡ true → Proper R → Proper (noted e R)
 unfolding ite
 proper_noted e R p h = by (eqb e.mark 0)
   where
-    open_by : (k : Link) → R.busy e.thread ≡ k → Proper (ended_by k e R)
-    open_by Nil q = h
-    open_by (To k) q = proper_ended R e k (h.busy e.thread k q) h
+    open_by : (k : Option ℕ) → R.busy e.thread ≡ k → Proper (ended_by k e R)
+    open_by None q = h
+    open_by (Some k) q = proper_ended R e k (h.busy e.thread k q) h
 
     by : (c : Bool) → Proper (ite c (begun e R) (ended_by (R.busy e.thread) e R))
     by true = proper_begun R e (station_of e R p) h
@@ -49,13 +51,13 @@ proper_noted e R p h = by (eqb e.mark 0)
 proper_all : (E : Events) (n : ℕ) → all_in_place E n ≡ true → Proper (reading E n)
 unfolding all_in_place reading
 proper_all E zero p = unread_proper
-proper_all E (suc n) p = let q = and_both (all_in_place E n) (in_place (E n) (reading E n)) p in proper_noted (E n) (reading E n) q.1 (proper_all E n q.0)
+proper_all E (suc n) p = let q = and_parts (all_in_place E n) (in_place (E n) (reading E n)) p in proper_noted (E n) (reading E n) q.1 (proper_all E n q.0)
 
 -- ---- every mask has an entry
 every : (f : ℕ → Bool) (n : ℕ) → ((j : ℕ) → j < n → f j ≡ true) ⊎ ((j : ℕ) × (j < n) × (f j ≡ false))
 every f zero = inl (λ j h. absurd (omega arith))
 every f (suc n) = elim (every f n) [
-  | inl all ↦ elim (test (f n)) [ on q ↦ inl (λ j h. elim (j ==? n) [ yes w ↦ rw w q | no w ↦ all j (omega arith) ]) | off q ↦ inr (n, omega arith, q) ]
+  | inl all ↦ elim (cases_Bool (f n)) [ inl q ↦ inl (λ j h. elim (j ==? n) [ yes w ↦ rw w q | no w ↦ all j (omega arith) ]) | inr q ↦ inr (n, omega arith, q) ]
   | inr x ↦ inr (x.0, omega (arith, x.1), x.2)
 ]
 
@@ -75,7 +77,7 @@ module _ (R : Operations) (sound : Sound R) where
       fail false c f q = true≢false q
 
   abbrev Has : ℕ → Type 0
-  Has M = (v : ℕ) × Entry R M v
+  Has M = (v : Next) × Entry R M v
 
   goes : (M i : ℕ) → i < R.count → has M i ≡ false → Has (insert M i) → (r : Bool) × Goes R M i r
   goes M i h out (v, e) = elim (Before_or M i h) [
@@ -91,18 +93,18 @@ module _ (R : Operations) (sound : Sound R) where
       by b f (alive l best _) = (true, (λ _. (f, (b, (l, best))), λ q. absurd (true≢false q)))
 
   scan : (M : ℕ) → ((i : ℕ) → i < R.count → has M i ≡ false → Has (insert M i)) → (d i : ℕ) (left : Bool) → R.count ≤ i + d → Lower R M i → Left R M i left → Has M
-  scan M more zero i true h low lf = (0, entry_dead R M sound i true (omega arith) low lf refl)
-  scan M more zero i false h low lf = (13, entry_full R M sound i false (omega arith) lf refl)
+  scan M more zero i true h low lf = (Dead, entry_dead R M sound i true (omega arith) low lf refl)
+  scan M more zero i false h low lf = (Done, entry_full R M sound i false (omega arith) lf refl)
   scan M more (suc d) i left h low lf = elim (dec_lt i R.count) [
     | no n ↦ scan M more d i left (omega arith) low lf
-    | yes here ↦ elim (test (has M i)) [
-      | on q ↦ scan M more d (i + 1) left (omega arith) (lower_done R M sound i low refl q) (left_done R M sound i left lf refl q)
-      | off q ↦ next here q (goes M i here q (more i here q)) (scan M more d (i + 1) true (omega arith))
+    | yes here ↦ elim (cases_Bool (has M i)) [
+      | inl q ↦ scan M more d (i + 1) left (omega arith) (lower_done R M sound i low refl q) (left_done R M sound i left lf refl q)
+      | inr q ↦ next here q (goes M i here q (more i here q)) (scan M more d (i + 1) true (omega arith))
     ]
   ]
     where
       next : i < R.count → has M i ≡ false → (r : Bool) × Goes R M i r → (Lower R M (i + 1) → Left R M (i + 1) true → Has M) → Has M
-      next here q (true, g) go = (i + 1, choose_here R M sound i here q low g refl)
+      next here q (true, g) go = (Go i, choose_here R M sound i here q low g refl)
       next here q (false, g) go = go (lower_stuck R M sound i low g refl) (left_some R M sound i here q)
 
   entry_all : (d M : ℕ) → M < 2 ^ R.count → 2 ^ R.count ≤ M + d → Has M
@@ -117,7 +119,7 @@ sound_of R p few = record { few = few; lower = λ i j h q. (omega (arith, p.lowe
 verdict_of : (R : Operations) → Sound R → (r : Judged) × Decided R r
 verdict_of R sound = go (entry_all R sound (2 ^ R.count) 0 (pow_pos R.count) (omega arith))
   where
-    go : (v : ℕ) × Entry R 0 v → (r : Judged) × Decided R r
+    go : (v : Next) × Entry R 0 v → (r : Judged) × Decided R r
     go (v, dead h _) = (record { refusal = 0; accepted = false; operations = R.count; order = padded [] }, record { number = refl; operations = refl; verdict = rejects (no_order R h) refl refl })
     go (v, alive l b _) = (record { refusal = 0; accepted = true; operations = R.count; order = padded l }, record { number = refl; operations = refl; verdict = accepts l (first_order R l b) refl refl })
 

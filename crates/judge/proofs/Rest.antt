@@ -1,5 +1,7 @@
 -- The rest of an order: what can still follow once the operations of a mask are done. The plain set after them is fixed by the
 -- mask alone, since each insert or remove with yes turns its station over and nothing else does. Assumes nothing.
+use Rattle.std.proofs.Math.Bool.{and-false, and-true}
+use Rattle.std.proofs.lemmas.Bool.{not-true, cases_Bool, and_parts}
 use mathlib.Core.Path.{◌≡◌, refl, sym, ◌∙◌, ap, subst, fun_ext}
 use mathlib.Core.Logic.{inl, inr, ◌≢◌}
 use mathlib.Core.Bool.{Bool, true, false, not, ◌&&◌, true≢false}
@@ -17,7 +19,7 @@ use Rattle.definitions.specs.declared.Action.TheVariants.{Lookup, Insert, Remove
 use Rattle.definitions.specs.History.{Operations}
 use Rattle.definitions.specs.Judgement.{times, once, action_of, reply, Answers, Order, First, FirstOrder}
 use Rattle.judge.specs.Search.{flip, changes, turns, state_to, state, Fitting, Before, undone, Rest, Best, Sound}
-use Rattle.judge.proofs.Tools.{on, off, test, ◌==?◌, clash, flip_swap, and_both}
+use Rattle.judge.proofs.Tools.{◌==?◌, flip_swap}
 
 -- ---- the plain set after the operations of a mask
 
@@ -27,7 +29,7 @@ turned Lookup y st S e s = refl
 turned Split y st S e s = refl
 turned Join y st S e s = refl
 turned Query y st S e s = refl
-turned Insert y st S e s = elim (test (eqb s st)) [ on q ↦ rw (q, eqb-true s st q, e) (put (S st)) | off q ↦ rw (q, e) (leave (not (S st)) (S s)) ]
+turned Insert y st S e s = elim (cases_Bool (eqb s st)) [ inl q ↦ rw (q, eqb-true s st q, e) (put (S st)) | inr q ↦ rw (q, e) (leave (not (S st)) (S s)) ]
   where
     put : (b : Bool) → true ≡ flip (not b && true) b
     put true = refl
@@ -36,7 +38,7 @@ turned Insert y st S e s = elim (test (eqb s st)) [ on q ↦ rw (q, eqb-true s s
     leave : (b c : Bool) → c ≡ flip (b && false) c
     leave true c = refl
     leave false c = refl
-turned Remove y st S e s = elim (test (eqb s st)) [ on q ↦ rw (q, eqb-true s st q, e) (take (S st)) | off q ↦ rw (q, e) (leave (S st) (S s)) ]
+turned Remove y st S e s = elim (cases_Bool (eqb s st)) [ inl q ↦ rw (q, eqb-true s st q, e) (take (S st)) | inr q ↦ rw (q, e) (leave (S st) (S s)) ]
   where
     take : (b : Bool) → false ≡ flip (b && true) b
     take true = refl
@@ -99,11 +101,7 @@ module _ (R : Operations) (sound : Sound R) (M : ℕ) where
     at_head = one_of (undone R M i) (times i l) (rw (eq-eqb i i refl) at (rest.each i))
 
     pub head_undone : (i < R.count) × (has M i ≡ false)
-    head_undone = let p = and_both (ltb i R.count) (not (has M i)) at_head.0 in (ltb-true i R.count p.0, not_is (has M i) p.1)
-      where
-        not_is : (b : Bool) → not b ≡ true → b ≡ false
-        not_is true e = absurd (clash (cc))
-        not_is false e = refl
+    head_undone = let p = and_parts (ltb i R.count) (not (has M i)) at_head.0 in (ltb-true i R.count p.0, not-true (has M i) p.1)
 
     small : i < 64
     small = omega (arith, head_undone.0, sound.few)
@@ -115,7 +113,7 @@ module _ (R : Operations) (sound : Sound R) (M : ℕ) where
     head_fits = rest.answers.0
 
     pub head_before : Before R M i
-    head_before j e = elim (test (has M j)) [ on q ↦ q | off q ↦ absurd (true≢false (sym e ∙ rest.keeps.0 j (λ z. one z q))) ]
+    head_before j e = elim (cases_Bool (has M j)) [ inl q ↦ q | inr q ↦ absurd (true≢false (sym e ∙ rest.keeps.0 j (λ z. one z q))) ]
       where
         lo : (j < R.count) × (j ≢ i)
         lo = sound.lower i j head_undone.0 e
@@ -128,13 +126,9 @@ module _ (R : Operations) (sound : Sound R) (M : ℕ) where
       where
         tail_each : (j : ℕ) → times j l ≡ once (undone R (insert M i) j)
         tail_each j = elim (j ==? i) [
-          | yes e ↦ rw (e, insert_same M i small) (at_head.1 ∙ sym (gone (ltb i R.count)))
+          | yes e ↦ rw (e, insert_same M i small) (at_head.1 ∙ rw and-false)
           | no e ↦ rw (insert_other M i j e) (others j e)
         ]
-          where
-            gone : (b : Bool) → once (b && false) ≡ 0
-            gone true = refl
-            gone false = refl
 
   -- ---- an operation in front of a rest
   module _ (i : ℕ) (l : List ℕ) (here : i < R.count) (out : has M i ≡ false) (fit : Fitting R M i) (before : Before R M i) where
@@ -146,29 +140,25 @@ module _ (R : Operations) (sound : Sound R) (M : ℕ) where
       where
         cons_each : (j : ℕ) → times j (i ∷ l) ≡ once (undone R M j)
         cons_each j = elim (j ==? i) [
-          | yes e ↦ subst (λ x. times x (i ∷ l) ≡ once (undone R M x)) (sym e) (rw (eq-eqb i i refl, is_undone i here out, rest.each i, insert_same M i cons_small) (gone (ltb i R.count)))
+          | yes e ↦ subst (λ x. times x (i ∷ l) ≡ once (undone R M x)) (sym e) (rw (eq-eqb i i refl, is_undone i here out, rest.each i, insert_same M i cons_small, and-false))
           | no e ↦ rw (ne_eqb j i e, rest.each j, insert_other M i j e)
         ]
-          where
-            gone : (b : Bool) → suc (once (b && false)) ≡ 1
-            gone true = refl
-            gone false = refl
 
         cons_keeps : (j : ℕ) → times j l ≢ 0 → (R.operation i).finished_before j ≡ false
-        cons_keeps j h = elim (test ((R.operation i).finished_before j)) [ on e ↦ absurd (bad e) | off e ↦ e ]
+        cons_keeps j h = elim (cases_Bool ((R.operation i).finished_before j)) [ inl e ↦ absurd (bad e) | inr e ↦ e ]
           where
             left : undone R (insert M i) j ≡ true
             left = some_of (undone R (insert M i) j) (λ z. h (rest.each j ∙ z))
 
             bad : (R.operation i).finished_before j ≡ true → ⊥
             bad e = let q = (sound.lower i j here e).1 in
-                true≢false (sym (and_both (ltb j R.count) (not (has (insert M i) j)) left).1 ∙ ap not (insert_other M i j q ∙ before j e))
+                true≢false (sym (and_parts (ltb j R.count) (not (has (insert M i) j)) left).1 ∙ ap not (insert_other M i j q ∙ before j e))
 
     pub best_cons : ((k : ℕ) → k < i → (m : List ℕ) → Rest R M (k ∷ m) → ⊥) → Best R (insert M i) l → Best R M (i ∷ l)
     best_cons lower best = record { rest = rest_cons best.rest; first = go }
       where
         go : (m : List ℕ) → Rest R M m → First (i ∷ l) m
-        go [] r = let w : ◌≡◌ {A = ℕ} 0 1 = r.each i ∙ rw (is_undone i here out) in clash w
+        go [] r = let w : ◌≡◌ {A = ℕ} 0 1 = r.each i ∙ rw (is_undone i here out) in omega (arith, w)
         go (k ∷ m) r = elim (dec_lt k i) [
           | yes h ↦ absurd (lower k h m r)
           | no h ↦ elim (k ==? i) [ yes e ↦ inr (sym e, best.first m (subst (λ x. Rest R (insert M x) m) e (tail_rest k m r))) | no e ↦ inl (omega arith) ]
@@ -184,24 +174,16 @@ module _ (R : Operations) (sound : Sound R) (M : ℕ) where
 
   -- no operation can come next
   pub rest_stuck : (i : ℕ) → i < R.count → has M i ≡ false → ((k : ℕ) → k < R.count → (m : List ℕ) → Rest R M (k ∷ m) → ⊥) → (l : List ℕ) → Rest R M l → ⊥
-  rest_stuck i here out none [] r = let w : ◌≡◌ {A = ℕ} 0 1 = r.each i ∙ rw (is_undone i here out) in clash w
+  rest_stuck i here out none [] r = let w : ◌≡◌ {A = ℕ} 0 1 = r.each i ∙ rw (is_undone i here out) in omega (arith, w)
   rest_stuck i here out none (k ∷ l) r = none k (head_undone k l r).0 l r
 
 -- ---- the whole order
 
 pub from_order : (R : Operations) (l : List ℕ) → Order R l → Rest R 0 l
-from_order R l o = record { each = λ i. o.each i ∙ rw (has_none i) (keep (ltb i R.count)); keeps = o.keeps; answers = subst (λ S. Answers R S l) (sym (state_none R)) o.answers }
-  where
-    keep : (b : Bool) → once b ≡ once (b && true)
-    keep true = refl
-    keep false = refl
+from_order R l o = record { each = λ i. o.each i ∙ rw (has_none i, and-true); keeps = o.keeps; answers = subst (λ S. Answers R S l) (sym (state_none R)) o.answers }
 
 pub to_order : (R : Operations) (l : List ℕ) → Rest R 0 l → Order R l
-to_order R l o = record { each = λ i. (rw (has_none i) at (o.each i)) ∙ keep (ltb i R.count); keeps = o.keeps; answers = subst (λ S. Answers R S l) (state_none R) o.answers }
-  where
-    keep : (b : Bool) → once (b && true) ≡ once b
-    keep true = refl
-    keep false = refl
+to_order R l o = record { each = λ i. rw (has_none i, and-true) at (o.each i); keeps = o.keeps; answers = subst (λ S. Answers R S l) (state_none R) o.answers }
 
 pub first_order : (R : Operations) (l : List ℕ) → Best R 0 l → FirstOrder R l
 first_order R l b = record { order = to_order R l b.rest; first = λ m o. b.first m (from_order R m o) }

@@ -9,7 +9,9 @@ use lib.Pow.{pow_pos}
 use Rattle.container.specs.Container.{insert}
 use Rattle.definitions.specs.History.{Operations}
 use Rattle.definitions.specs.Judgement.{padded}
-use Rattle.judge.specs.Search.{Best, Sound, Down, Entry, dead, alive, next_mark, Filled}
+use Rattle.judge.specs.declared.Next.{Next}
+use Rattle.judge.specs.declared.Next.TheVariants.{Dead, Go}
+use Rattle.judge.specs.Search.{Best, Sound, Down, Entry, dead, alive, next_of, Filled}
 use Rattle.judge.proofs.Rest.{head_undone, head_before, best_tail, best_one, to_order}
 use Rattle.judge.proofs.Lengths.{each_length}
 use Rattle.judge.proofs.Table.{insert_below, down_none, down_more}
@@ -41,32 +43,29 @@ module _ (R : Operations) (sound : Sound R) where
   }
 
   -- what the table says where an operation is left
-  record Said (M v : ℕ) (rest : List ℕ) : Type 0 where
+  record Said (M : ℕ) (v : Next) (rest : List ℕ) : Type 0 where
     pub next : ℕ
     pub then : List ℕ
     pub is : rest ≡ next ∷ then
-    pub mark : v ≡ suc next
+    pub mark : v ≡ Go next
 
-  said : (M v : ℕ) (rest : List ℕ) → 0 < length rest → Best R M rest → Entry R M v → Said M v rest
+  said : (M : ℕ) (v : Next) (rest : List ℕ) → 0 < length rest → Best R M rest → Entry R M v → Said M v rest
   said M v [] h b e = absurd (omega arith)
   said M v (i ∷ l) h b (dead none _) = absurd (none (i ∷ l) b.rest)
-  said M v (i ∷ l) h b (alive m c q) = record { next = i; then = l; is = refl; mark = q ∙ ap next_mark (best_one c b) }
+  said M v (i ∷ l) h b (alive m c q) = record { next = i; then = l; is = refl; mark = q ∙ ap next_of (best_one c b) }
 
-  module _ (M p : ℕ) (order table : List ℕ) (t : Traced R M p order) (more : p < R.count) (filled : Filled R table 0) where
-    now : Said M (get_or table M 0) t.rest
-    now = said M (get_or table M 0) t.rest (omega (arith, t.total)) t.best (filled M (omega arith) t.low t.down)
+  module _ (M p : ℕ) (order : List ℕ) (table : List Next) (t : Traced R M p order) (more : p < R.count) (filled : Filled R table 0) where
+    now : Said M (get_or table M Dead) t.rest
+    now = said M (get_or table M Dead) t.rest (omega (arith, t.total)) t.best (filled M (omega arith) t.low t.down)
 
     best_now : Best R M (now.next ∷ now.then)
     best_now = subst (λ l. Best R M l) now.is t.best
 
-    pub trace_some : 1 ≤ get_or table M 0
-    trace_some = omega (arith, now.mark)
+    pub trace_go : ((i : ℕ) → get_or table M Dead ≡ Go i → ⊥) → ⊥
+    trace_go h = h now.next now.mark
 
-    pub trace_low : get_or table M 0 - 1 < R.count
-    trace_low = omega (arith, now.mark, (head_undone R sound M now.next now.then best_now.rest).0)
-
-    is_next : get_or table M 0 - 1 ≡ now.next
-    is_next = omega (arith, now.mark)
+    is_next : (i : ℕ) → get_or table M Dead ≡ Go i → i ≡ now.next
+    is_next i here = let w : Go i ≡ Go now.next = sym here ∙ now.mark in cc
 
     room : 12 - p ≡ suc (12 - (p + 1))
     room = omega (arith, sound.few)
@@ -74,8 +73,8 @@ module _ (R : Operations) (sound : Sound R) where
     cell : order ≡ t.done ++ 0 ∷ replicate (12 - (p + 1)) 0
     cell = t.holds ∙ rw room
 
-    pub trace_step : (N : ℕ) → N ≡ insert M (get_or table M 0 - 1) → Traced R N (p + 1) (set order p (get_or table M 0 - 1))
-    trace_step N e = rw (e, is_next) (record {
+    pub trace_step : (i N : ℕ) → get_or table M Dead ≡ Go i → N ≡ insert M i → Traced R N (p + 1) (set order p i)
+    trace_step i N here e = rw (e, is_next i here) (record {
       done = t.done ++ now.next ∷ [];
       rest = now.then;
       best = best_tail R sound M now.next now.then best_now;

@@ -1,11 +1,19 @@
 -- Words for the search over masks: bit i of a mask is on where operation i is done. Nothing in Judgement.antt rests on them.
-use Rattle.std.specs.Prelude.{ℕ, zero, suc, ◌<◌, ◌≤◌, ◌^◌, ◌≡◌, ◌≢◌, Bool, true, false, not, ◌&&◌, List, [], ◌∷◌, eqb, ltb, get_or}
+use Rattle.std.specs.Prelude.{ℕ, zero, suc, ◌<◌, ◌≤◌, ◌^◌, ◌≡◌, ◌≢◌, Bool, true, false, not, cond, ◌&&◌, List, [], ◌∷◌, eqb, ltb, get_or, Result, MatchResult}
 use Rattle.container.specs.Container.{has}
 use Rattle.definitions.specs.declared.Action.{Action}
 use Rattle.definitions.specs.declared.Action.TheVariants.{Lookup, Insert, Remove, Split, Join, Query}
-use Rattle.definitions.specs.History.{Operation, Operations, operations}
+use Rattle.definitions.specs.History.{Operation, Operations, operations, no_operation}
 use Rattle.definitions.specs.Judgement.{times, once, Keeps, action_of, reply, Answers, First}
-use Rattle.judge.specs.declared.Work.{Work}
+use Rattle.judge.specs.declared.Asked.{Asked}
+use Rattle.judge.specs.declared.Asked.TheVariants as ask
+use Rattle.judge.specs.declared.Mark.{Mark}
+use Rattle.judge.specs.declared.Mark.TheVariants.{Start, Finish}
+use Rattle.judge.specs.declared.Op.{Op}
+use Rattle.judge.specs.declared.Next.{Next}
+use Rattle.judge.specs.declared.Next.TheVariants.{Done, Dead, Go}
+use Rattle.judge.specs.declared.Refusal.{Refusal}
+use Rattle.judge.specs.declared.Refusal.TheVariants.{Short, Version, Length, OutOfPlace, TooMany, Unfinished}
 
 -- ---- the plain set after the operations of a mask: it is fixed by the mask alone
 
@@ -60,41 +68,67 @@ pub record Sound (R : Operations) : Type 0 where
   pub few : R.count ≤ 12
   pub lower : (i j : ℕ) → i < R.count → (R.operation i).finished_before j ≡ true → (j < R.count) × (j ≢ i)
 
--- ---- the table: for each mask the next operation and 1, 13 where none is left, 0 where there is no rest
+-- ---- the table: for each mask what comes next
 
-abbrev pub next_mark : List ℕ → ℕ
-next_mark [] = 13
-next_mark (i ∷ l) = suc i
+abbrev pub next_of : List ℕ → Next
+next_of [] = Done
+next_of (i ∷ l) = Go i
 
-pub data Entry (R : Operations) (M v : ℕ) : Type 0 where
-  dead : ((l : List ℕ) → Rest R M l → ⊥) → v ≡ 0 → Entry R M v
-  alive : (l : List ℕ) → Best R M l → v ≡ next_mark l → Entry R M v
+pub data Entry (R : Operations) (M : ℕ) (v : Next) : Type 0 where
+  dead : ((l : List ℕ) → Rest R M l → ⊥) → v ≡ Dead → Entry R M v
+  alive : (l : List ℕ) → Best R M l → v ≡ next_of l → Entry R M v
 
 -- a mask that has with each operation those that had finished when it started; no other mask is met on the way
 abbrev pub Down : Operations → ℕ → Type 0
 Down R M = (i : ℕ) → i < R.count → has M i ≡ true → Before R M i
 
 -- the entries of such masks from m on are right
-abbrev pub Filled : Operations → List ℕ → ℕ → Type 0
-Filled R table m = (M : ℕ) → m ≤ M → M < 2 ^ R.count → Down R M → Entry R M (get_or table M 0)
+abbrev pub Filled : Operations → List Next → ℕ → Type 0
+Filled R table m = (M : ℕ) → m ≤ M → M < 2 ^ R.count → Down R M → Entry R M (get_or table M Dead)
 
 -- ---- how the code holds the operations
 
-abbrev pub held_op : Work → ℕ → Operation
-held_op w i = record {
-  action = get_or w.actions i 0;
-  station = get_or w.stations i 0;
-  yes = eqb (get_or w.answers i 0) 1;
-  finished_before = has (get_or w.befores i 0);
-}
+-- what an operation asks, by its number in a history
+abbrev pub number_of : Asked → ℕ
+number_of ask.Lookup = 1
+number_of ask.Insert = 2
+number_of ask.Remove = 3
 
-abbrev pub held : Work → Operations
-held w = operations w.count (held_op w)
+abbrev pub operation_of : Op → Operation
+operation_of o = record { action = number_of o.asked; station = o.station; yes = o.yes; finished_before = has o.before }
+
+abbrev pub blank : Op
+blank = record { asked = ask.Lookup; station = 0; yes = false; before = 0 }
+
+-- of n operations
+abbrev pub held_op : ℕ → List Op → ℕ → Operation
+held_op n ops i = cond (ltb i n) (operation_of (get_or ops i blank)) no_operation
+
+abbrev pub held_of : ℕ → List Op → Operations
+held_of n ops = operations n (held_op n ops)
 
 -- stations below 64
 abbrev pub Stations : Operations → Type 0
 Stations R = (i : ℕ) → i < R.count → (R.operation i).station < 64
 
--- an operation that has just started; done: a mask of those finished
-abbrev pub asking : ℕ → ℕ → ℕ → Operation
-asking a s done = record { action = a; station = s; yes = false; finished_before = has done }
+-- ---- the numbers of the refusals
+abbrev pub refusal_of : Refusal → ℕ
+refusal_of Short = 1
+refusal_of Version = 2
+refusal_of Length = 4
+refusal_of OutOfPlace = 21
+refusal_of TooMany = 22
+refusal_of Unfinished = 23
+
+-- ---- bytes of a history
+
+-- a mark by its number in a history
+abbrev pub mark_of : Mark → ℕ
+mark_of Start = 0
+mark_of (Finish y) = cond y 2 1
+
+abbrev pub ReadsAsked : ℕ → Result Asked Refusal → Type 0
+ReadsAsked n r = MatchResult r (λ a. number_of a ≡ n) (λ why. ((0 < n) × (n < 4) → ⊥) × (why ≡ OutOfPlace))
+
+abbrev pub ReadsMark : ℕ → Result Mark Refusal → Type 0
+ReadsMark n r = MatchResult r (λ m. mark_of m ≡ n) (λ why. (3 ≤ n) × (why ≡ OutOfPlace))

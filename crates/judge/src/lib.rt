@@ -1,484 +1,522 @@
 // Judge: whether a history of lookups, inserts and removes can be put in an order that a plain set answers alike.
 #![tactic(auto)]
 
-ghost use Rattle.std.specs.Prelude.{◌≡◌, Bool, true, false, ◌&&◌, List, ◌∷◌, ℕ, suc, ◌+◌, ◌*◌, ◌<◌, ◌≤◌, ◌^◌, eqb, ltb, length};
-ghost use Rattle.container.specs.Choice.{upd};
+ghost use Rattle.std.specs.Prelude.{◌≡◌, ◌↔◌, Bool, true, false, ◌&&◌, List, ◌∷◌, ℕ, suc, ◌+◌, ◌*◌, ◌<◌, ◌≤◌, ◌^◌, eqb, length, IsTrue, IfSome, IsSome, IsNone, IfOk, IfErr, MatchResult};
+ghost use Rattle.std.specs.List.{Any};
 ghost use Rattle.container.specs.Container.{has, insert};
 ghost use Rattle.definitions.specs.Schedule.{count_of};
-ghost use Rattle.definitions.specs.declared.Link.TheVariants.{To};
-ghost use Rattle.definitions.specs.History.{Event, Reading, unread, answered, begun, ended_by, noted, in_place, events_of, reading, all_in_place, unfinished, form_refusal};
-ghost use Rattle.judge.specs.Standing.{Twelve, Four, SlotsOf, Stands, event};
-ghost use Rattle.definitions.specs.Judgement.{action_of, reply, padded, Refused, Decided, Judgement};
-ghost use Rattle.judge.specs.Search.{flip, changes, state_to, state, Fitting, Before, Rest, Best, Sound, Down, Entry, Filled, held, held_op, asking, Stations};
+ghost use Rattle.definitions.specs.History.{Reading, unread, begun, ended_by, noted, in_place, events_of, reading, reading_of, all_in_place, unfinished, form_refusal, history_refusal};
+ghost use Rattle.definitions.specs.Judgement.{action_of, reply, padded, FirstOrder, Order, Refused, Decided, Judgement};
+ghost use Rattle.judge.specs.Search.{flip, changes, turns, state, Fitting, Before, Rest, Best, Sound, Down, Entry, Filled, number_of, mark_of, operation_of, held_of, Stations, refusal_of, ReadsAsked, ReadsMark};
 
 use definitions::Judged;
 
-// The operations of a history, at most twelve of them: what each asks, its answer (1 for yes), and a mask of those that had
-// finished when it started.
-#[derive(Clone, Copy)]
-pub struct Work {
-    pub count: usize,
-    pub actions: [u8; 12],
-    pub stations: [u8; 12],
-    pub answers: [u8; 12],
-    pub befores: [u64; 12],
+// ---- the operations
+
+// What an operation asks.
+#[derive(Clone, Copy, PartialEq, Eq)]
+pub enum Asked {
+    Lookup,
+    Insert,
+    Remove,
 }
 
-// ---- the plain set
+// Action 1 to 3.
+impl TryFrom<u8> for Asked {
+    type Error = Refusal;
 
-// Station s turned over.
-fn turn(set: u64, s: u8) -> u64
-    requires { s < 64 }
-    ensures { (x : ℕ) → has result x ≡ flip (eqb x s) (has set x) }
-{
-    if container::contains(set, s) {
-        container::without(set, s)
-    } else {
-        container::with(set, s)
-    }
-}
+    ghost try_from_gives = { ReadsAsked };
 
-// Whether an operation turns its station over.
-fn turns_over(action: u8, answer: u8) -> bool
-    ensures { result ≡ changes (action_of action) (eqb answer 1) }
-{
-    if 1 < action { answer == 1 } else { false }
-}
-
-// The plain set after operation i too, if it is in the mask.
-fn after_one(w: Work, mask: u64, i: usize, set: u64) -> u64
-    requires { (w.count ≤ 12) × (Stations (held w) × (i < w.count)) }
-    ensures { ((x : ℕ) → has set x ≡ state_to (held w) mask i x) → (x : ℕ) → has result x ≡ state_to (held w) mask (i + 1) x }
-{
-    if container::contains(mask, i as u8) {
-        if turns_over(w.actions[i], w.answers[i]) {
-            return turn(set, w.stations[i]);
+    fn try_from(code: u8) -> Result<Asked, Refusal> {
+        match code {
+            1 => Ok(Asked::Lookup),
+            2 => Ok(Asked::Insert),
+            3 => Ok(Asked::Remove),
+            _ => Err(Refusal::OutOfPlace),
         }
-        return set;
     }
-    set
 }
 
-// The plain set after the operations of a mask.
-fn state_of(w: Work, mask: u64) -> u64
-    requires { (w.count ≤ 12) × Stations (held w) }
-    ensures { (x : ℕ) → has result x ≡ state (held w) mask x }
-{
-    let n = w.count;
-    let mut set = 0u64;
-    let mut i = 0usize;
-    while i < n {
-        set = after_one(w, mask, i, set);
-        i += 1;
-    }
-    set
+// An operation: what it asks at which station, whether the answer is yes, and a mask of those that had finished when it started.
+#[derive(Clone, Copy)]
+pub struct Op {
+    pub asked: Asked,
+    pub station: u8,
+    pub yes: bool,
+    pub before: u64,
 }
 
-// Whether the plain set answers so.
-fn answers_so(set: u64, action: u8, station: u8, answer: u8) -> bool
-    ensures { (S : ℕ → Bool) → has set station ≡ S station → (result ≡ true → eqb answer 1 ≡ reply (action_of action) station S) × (result ≡ false → eqb answer 1 ≡ reply (action_of action) station S → ⊥) }
-{
-    let inside = container::contains(set, station);
-    let yes = answer == 1;
-    if action == 2 {
-        if inside { !yes } else { yes }
-    } else {
-        if inside { yes } else { !yes }
+impl Op {
+    // Whether it turns its station over.
+    fn turns(self) -> bool
+        ensures { result ≡ changes (action_of (number_of self.asked)) self.yes }
+    {
+        match self.asked {
+            Asked::Lookup => false,
+            Asked::Insert | Asked::Remove => self.yes,
+        }
+    }
+
+    // The plain set after it.
+    #[tactic(auto, using(crate::proofs::Cases::turn_out, crate::proofs::Cases::turn_in))]
+    fn applied(self, set: u64) -> u64
+        requires { self.station < 64 }
+        ensures { (x : ℕ) → has result x ≡ flip (turns (operation_of self) x) (has set x) }
+    {
+        if !self.turns() {
+            set
+        } else if container::contains(set, self.station) {
+            container::without(set, self.station)
+        } else {
+            container::with(set, self.station)
+        }
+    }
+
+    // Whether the plain set answers so.
+    fn fits(self, set: u64) -> bool
+        ensures { IsTrue result ↔ (self.yes ≡ reply (action_of (number_of self.asked)) self.station (has set)) }
+    {
+        let inside = container::contains(set, self.station);
+        match self.asked {
+            Asked::Insert => self.yes != inside,
+            Asked::Lookup | Asked::Remove => self.yes == inside,
+        }
     }
 }
 
 // ---- the table of masks
 
-// Whether operation i, not yet done, can come next. `next` is right for every larger mask.
-fn can_go(w: Work, next: &[u8; 4096], mask: u64, i: usize) -> bool
-    requires { Sound (held w) × (Stations (held w) × ((mask < 2 ^ w.count) × ((i < w.count) × ((has mask i ≡ false) × (Down (held w) mask × Filled (held w) next.now (suc mask)))))) }
-    ensures { (result ≡ true → Fitting (held w) mask i × (Before (held w) mask i × ((l : List ℕ) × Best (held w) (insert mask i) l))) × (result ≡ false → (l : List ℕ) → Rest (held w) mask (i ∷ l) → ⊥) }
-{
-    let before = w.befores[i];
-    if container::united(before, mask) == mask {
-        let whole = &next[..];
-        let then = container::with(mask, i as u8) as usize;
-        if whole[then] == 0 {
-            return false;
-        }
-        let set = state_of(w, mask);
-        return answers_so(set, w.actions[i], w.stations[i], w.answers[i]);
-    }
-    false
+// What comes next once the operations of a mask are done: nothing, since no order goes on; nothing, since all are done; or the least
+// that can.
+#[derive(Clone, Copy)]
+pub enum Next {
+    Dead,
+    Done,
+    Go(u8),
 }
 
-// The entry of a mask: the least operation that can come next, and 1; 13 where all are done, 0 where none can.
-fn choose(w: Work, next: &[u8; 4096], mask: u64) -> u8
-    requires { Sound (held w) × (Stations (held w) × ((mask < 2 ^ w.count) × (Down (held w) mask × Filled (held w) next.now (suc mask)))) }
-    ensures { Entry (held w) mask result }
-{
-    let n = w.count;
-    let mut some = false;
-    let mut i = 0usize;
-    while i < n {
-        if !container::contains(mask, i as u8) {
-            if can_go(w, next, mask, i) {
-                return i as u8 + 1;
+// The operations of a history, at most twelve of them.
+#[derive(Clone, Copy)]
+pub struct Work {
+    pub count: usize,
+    pub ops: [Op; 12],
+    ghost sound: { Sound (held_of count ops) },
+    ghost stations: { Stations (held_of count ops) },
+}
+
+impl Work {
+    ghost use Rattle.judge.specs.Standing.{held};
+
+    // The plain set after the operations of a mask.
+    fn state(&self, mask: u64) -> u64
+        ensures { (x : ℕ) → has result x ≡ state (held self.now) mask x }
+    {
+        let mut set = 0;
+        for i in 0..self.count {
+            if container::contains(mask, i as u8) {
+                set = self.ops[i].applied(set);
             }
-            some = true;
         }
-        i += 1;
+        set
     }
-    if some { 0 } else { 13 }
-}
 
-// Whether a mask has with each operation those that had finished when it started. The last operations, which have most of those,
-// come first.
-fn is_down(w: Work, mask: u64) -> bool
-    requires { w.count ≤ 12 }
-    ensures { (result ≡ true → Down (held w) mask) × (result ≡ false → Down (held w) mask → ⊥) }
-{
-    let mut i = w.count;
-    while 0 < i {
-        i -= 1;
-        if container::contains(mask, i as u8) {
-            let before = w.befores[i];
-            if container::united(before, mask) != mask {
+    // Whether a mask has with each operation those that had finished when it started. The last operations, which have most of those,
+    // come first.
+    fn is_down(&self, mask: u64) -> bool
+        ensures { IsTrue result ↔ Down (held self.now) mask }
+    {
+        for i in (0..self.count).rev() {
+            if container::contains(mask, i as u8)
+                && container::united(self.ops[i].before, mask) != mask
+            {
                 return false;
             }
         }
+        true
     }
-    true
-}
 
-// Every entry that can be met, from the last mask down.
-fn fill(w: Work, next: &mut [u8; 4096])
-    requires { Sound (held w) × Stations (held w) }
-    ensures { Filled (held w) next.new 0 }
-{
-    let mut m = 1u64 << (w.count as u64);
-    while 0 < m {
-        m -= 1;
-        if is_down(w, m) {
-            let v = choose(w, next, m);
-            let whole = &mut next[..];
-            whole[m as usize] = v;
+    // The first order, where there is one.
+    fn order(&self) -> Option<[u8; 12]>
+        ensures some { IfSome result (λ order. (l : List ℕ) × FirstOrder (held self.now) l × (order ≡ padded l)) }
+        ensures none { IsNone result → (l : List ℕ) → Order (held self.now) l → ⊥ }
+    {
+        let mut masks = Masks {
+            work: *self,
+            next: [Next::Dead; 4096],
+        };
+        masks.fill();
+        if let Next::Dead = masks.next[0] {
+            return None;
+        }
+        Some(masks.trace())
+    }
+
+    // The verdict.
+    fn decide(&self) -> Judged
+        ensures { Decided (held self.now) result }
+    {
+        match self.order() {
+            Some(order) => Judged {
+                refusal: 0,
+                accepted: true,
+                operations: self.count as u64,
+                order,
+            },
+            None => Judged {
+                refusal: 0,
+                accepted: false,
+                operations: self.count as u64,
+                order: [0; 12],
+            },
         }
     }
+
+    // The operations of a history that is not refused.
+    fn read(history: &[u8]) -> Result<Work, Refusal>
+        ensures ok { IfOk result (λ w. (history_refusal history.now ≡ 0) × (held w ≡ (reading_of history.now).all)) }
+        ensures err { IfErr result (λ why. history_refusal history.now ≡ refusal_of why) }
+    {
+        let noted = Noted::read(history)?;
+        if 12 < noted.count {
+            return Err(Refusal::TooMany);
+        }
+        if noted.is_open() {
+            return Err(Refusal::Unfinished);
+        }
+        Ok(Work {
+            count: noted.count,
+            ops: noted.ops,
+        })
+    }
 }
 
-// The order that the table gives, where there is one.
-fn trace(w: Work, next: &[u8; 4096]) -> [u8; 12]
-    requires { Sound (held w) × (Filled (held w) next.now 0 × ((l : List ℕ) × Best (held w) 0 l)) }
-    ensures { (l : List ℕ) → Best (held w) 0 l → result ≡ padded l }
-{
-    let mut order = [0u8; 12];
-    let mut mask = 0u64;
-    let mut p = 0usize;
-    while p < w.count {
-        let whole = &next[..];
-        let i = whole[mask as usize] - 1;
-        order[p] = i;
-        mask = container::with(mask, i);
-        p += 1;
+// What comes next after each mask that can be met.
+#[derive(Drop)]
+pub struct Masks {
+    pub work: Work,
+    pub next: [Next; 4096],
+}
+
+impl Masks {
+    ghost use Rattle.judge.specs.Standing.{held};
+
+    // Whether operation i, not yet done, can come next. The table is right for every larger mask.
+    fn can_go(&self, mask: u64, i: usize) -> bool
+        requires low { mask < 2 ^ self.now.work.count }
+        requires here { i < self.now.work.count }
+        requires out { has mask i ≡ false }
+        requires down { Down (held self.now.work) mask }
+        requires filled { Filled (held self.now.work) self.now.next (suc mask) }
+        ensures yes { result ≡ true → Fitting (held self.now.work) mask i × (Before (held self.now.work) mask i × ((l : List ℕ) × Best (held self.now.work) (insert mask i) l)) }
+        ensures no { result ≡ false → (l : List ℕ) → Rest (held self.now.work) mask (i ∷ l) → ⊥ }
+    {
+        let op = self.work.ops[i];
+        if container::united(op.before, mask) != mask {
+            return false;
+        }
+        let then = container::with(mask, i as u8) as usize;
+        if let Next::Dead = self.next[then] {
+            return false;
+        }
+        op.fits(self.work.state(mask))
     }
-    order
+
+    // The entry of a mask.
+    fn choose(&self, mask: u64) -> Next
+        requires low { mask < 2 ^ self.now.work.count }
+        requires down { Down (held self.now.work) mask }
+        requires filled { Filled (held self.now.work) self.now.next (suc mask) }
+        ensures { Entry (held self.now.work) mask result }
+    {
+        let mut some = false;
+        for i in 0..self.work.count {
+            if !container::contains(mask, i as u8) {
+                if self.can_go(mask, i) {
+                    return Next::Go(i as u8);
+                }
+                some = true;
+            }
+        }
+        if some { Next::Dead } else { Next::Done }
+    }
+
+    // Every entry that can be met, from the last mask down.
+    fn fill(&mut self)
+        ensures filled { Filled (held self.new.work) self.new.next 0 }
+        ensures work { self.new.work ≡ self.old.work }
+    {
+        for m in (0..1u64 << (self.work.count as u64)).rev() {
+            if self.work.is_down(m) {
+                self.next[m as usize] = self.choose(m);
+            }
+        }
+    }
+
+    // The order that the table gives, where there is one.
+    #[tactic(auto, using(crate::proofs::Walk::trace_start, crate::proofs::Walk::trace_step, crate::proofs::Walk::trace_end))]
+    fn trace(&self) -> [u8; 12]
+        requires filled { Filled (held self.now.work) self.now.next 0 }
+        requires some { (l : List ℕ) × Best (held self.now.work) 0 l }
+        ensures { (l : List ℕ) → Best (held self.now.work) 0 l → result ≡ padded l }
+    {
+        let mut order = [0; 12];
+        let mut mask = 0u64;
+        for p in 0..self.work.count {
+            let Next::Go(i) = self.next[mask as usize] else {
+                unreachable!();
+            };
+            order[p] = i;
+            mask = container::with(mask, i);
+        }
+        order
+    }
 }
 
 // ---- what the events say
 
-// Of each thread what it has open: its action, 0 where it is idle, its station and the operation's number.
-#[derive(Clone, Copy)]
-pub struct Slots {
-    pub actions: [u8; 4],
-    pub stations: [u8; 4],
-    pub numbers: [usize; 4],
+// Why a history is refused: it is under three bytes, of another version or of another length than it states; an event is out of
+// place; it has over twelve operations, or an unfinished one.
+#[derive(Clone, Copy, PartialEq, Eq)]
+pub enum Refusal {
+    Short,
+    Version,
+    Length,
+    OutOfPlace,
+    TooMany,
+    Unfinished,
 }
 
-// What the events so far say; `done` is a mask of the operations that have finished.
+// The number in a report.
+impl From<Refusal> for u64 {
+    ghost from_gives = { λ why n. n ≡ refusal_of why };
+
+    fn from(why: Refusal) -> u64 {
+        match why {
+            Refusal::Short => 1,
+            Refusal::Version => 2,
+            Refusal::Length => 4,
+            Refusal::OutOfPlace => 21,
+            Refusal::TooMany => 22,
+            Refusal::Unfinished => 23,
+        }
+    }
+}
+
+// A start, or a finish with its answer.
+#[derive(Clone, Copy)]
+pub enum Mark {
+    Start,
+    Finish(bool),
+}
+
+// 0 for start or 1 and 2 for finishing with no or yes.
+impl TryFrom<u8> for Mark {
+    type Error = Refusal;
+
+    ghost try_from_gives = { ReadsMark };
+
+    fn try_from(code: u8) -> Result<Mark, Refusal> {
+        match code {
+            0 => Ok(Mark::Start),
+            1 => Ok(Mark::Finish(false)),
+            2 => Ok(Mark::Finish(true)),
+            _ => Err(Refusal::OutOfPlace),
+        }
+    }
+}
+
+// An event whose fields are in their ranges.
+#[derive(Clone, Copy)]
+pub struct Event {
+    pub thread: u8,
+    pub asked: Asked,
+    pub station: u8,
+    pub mark: Mark,
+    ghost a_thread: { thread < 4 },
+    ghost a_station: { station < 64 },
+}
+
+// The event of four bytes.
+impl TryFrom<[u8; 4]> for Event {
+    ghost use Rattle.judge.specs.Standing.{Reads};
+
+    type Error = Refusal;
+
+    ghost try_from_gives = { Reads };
+
+    fn try_from(bytes: [u8; 4]) -> Result<Event, Refusal> {
+        let [thread, action, station, mark] = bytes;
+        if thread < 4 && station < 64 {
+            Ok(Event {
+                thread,
+                asked: Asked::try_from(action)?,
+                station,
+                mark: Mark::try_from(mark)?,
+            })
+        } else {
+            Err(Refusal::OutOfPlace)
+        }
+    }
+}
+
+// What a thread has open: what the operation asks, its station and its number.
+#[derive(Clone, Copy)]
+pub struct Open {
+    pub asked: Asked,
+    pub station: u8,
+    pub number: usize,
+}
+
+impl Open {
+    // Whether a finish agrees with it.
+    fn is_of(self, e: Event) -> bool
+        ensures { IsTrue result ↔ ((self.asked ≡ e.asked) × (self.station ≡ e.station)) }
+    {
+        self.asked == e.asked && self.station == e.station
+    }
+}
+
+// What the events so far say: what each thread has open, a mask of the operations that have finished, how many have started, and the
+// first twelve of these.
 #[derive(Clone, Copy)]
 pub struct Noted {
-    pub slots: Slots,
+    pub slots: [Option<Open>; 4],
     pub done: u64,
-    pub work: Work,
+    pub count: usize,
+    pub ops: [Op; 12],
 }
 
-// The operations with one more, which asks for a at station s. Those past the twelfth are only counted.
-fn begin_op(w: Work, a: u8, s: u8, done: u64) -> Work
-    requires { (w.count < 65536) × Twelve w }
-    ensures { (result.count ≡ w.count + 1) × (Twelve result × ((i : ℕ) → i < 12 → held_op result i ≡ upd (held_op w) w.count (asking a s done) i)) }
-{
-    let mut next = w;
-    let n = w.count;
-    if n < 12 {
-        next.actions[n] = a;
-        next.stations[n] = s;
-        next.answers[n] = 0;
-        next.befores[n] = done;
-        next.count = n + 1;
-        return next;
-    }
-    next.count = n + 1;
-    next
-}
+impl Noted {
+    ghost use Rattle.judge.specs.Standing.{event_of, SlotsOf, Stands};
 
-// Operation i answered as the mark of its finish says: 1 no, 2 yes.
-fn end_op(w: Work, i: usize, m: u8) -> Work
-    requires { Twelve w }
-    ensures { (result.count ≡ w.count) × (Twelve result × ((j : ℕ) → j < 12 → held_op result j ≡ upd (held_op w) i (answered (held_op w i) (eqb m 2)) j)) }
-{
-    let mut next = w;
-    if i < 12 {
-        if m == 2 {
-            next.answers[i] = 1;
-            return next;
+    // Before the first event.
+    #[tactic(auto, using(crate::proofs::Whole::unread_stands))]
+    fn new() -> Noted
+        ensures count { result.count ≡ 0 }
+        ensures stands { Stands result unread }
+    {
+        let blank = Op {
+            asked: Asked::Lookup,
+            station: 0,
+            yes: false,
+            before: 0,
+        };
+        Noted {
+            slots: [None; 4],
+            done: 0,
+            count: 0,
+            ops: [blank; 12],
         }
-        next.answers[i] = 0;
-        return next;
     }
-    next
-}
 
-// A mask with i, of the first twelve.
-fn mark_done(done: u64, i: usize) -> u64
-    ensures { (f : ℕ → Bool) → ((j : ℕ) → has done j ≡ ltb j 12 && f j) → (j : ℕ) → has result j ≡ ltb j 12 && upd f i true j }
-{
-    if i < 12 {
-        container::with(done, i as u8)
-    } else {
-        done
-    }
-}
-
-// An event is in place.
-fn in_place(slots: Slots, t: u8, a: u8, s: u8, m: u8) -> bool
-    ensures { (R : Reading) → SlotsOf slots R → result ≡ in_place (event t a s m) R }
-{
-    if 3 < t {
-        return false;
-    }
-    if a == 0 {
-        return false;
-    }
-    if 3 < a {
-        return false;
-    }
-    if 63 < s {
-        return false;
-    }
-    if 2 < m {
-        return false;
-    }
-    let i = t as usize;
-    let busy = slots.actions[i];
-    if m == 0 {
-        return busy == 0;
-    }
-    if a == busy {
-        s == slots.stations[i]
-    } else {
-        false
-    }
-}
-
-// A start on thread t.
-fn start(n: Noted, t: u8, a: u8, s: u8) -> Noted
-    requires { (t < 4) × ((n.work.count < 65536) × (Twelve n.work × Four n.slots)) }
-    ensures { (result.work.count ≡ n.work.count + 1) × ((R : Reading) (e : Event) → e.thread ≡ t → e.action ≡ a → e.station ≡ s → s < 64 → 0 < a → Stands n R → Stands result (begun e R)) }
-{
-    let mut slots = n.slots;
-    let done = n.done;
-    let w = n.work;
-    let i = t as usize;
-    let k = w.count;
-    slots.actions[i] = a;
-    slots.stations[i] = s;
-    slots.numbers[i] = k;
-    let work = begin_op(w, a, s, done);
-    Noted {
-        slots: slots,
-        done: done,
-        work: work,
-    }
-}
-
-// A finish of what thread t has open.
-fn finish(n: Noted, t: u8, m: u8) -> Noted
-    requires { (t < 4) × (Twelve n.work × Four n.slots) }
-    ensures { (result.work.count ≡ n.work.count) × ((R : Reading) (e : Event) (k : ℕ) → e.thread ≡ t → e.mark ≡ m → R.busy t ≡ To k → Stands n R → Stands result (ended_by (To k) e R)) }
-{
-    let mut slots = n.slots;
-    let done = n.done;
-    let w = n.work;
-    let i = t as usize;
-    let k = slots.numbers[i];
-    slots.actions[i] = 0;
-    let work = end_op(w, k, m);
-    let now = mark_done(done, k);
-    Noted {
-        slots: slots,
-        done: now,
-        work: work,
-    }
-}
-
-// An event that is in place.
-fn note(n: Noted, t: u8, a: u8, s: u8, m: u8) -> Noted
-    requires { (t < 4) × ((n.work.count < 65536) × (Twelve n.work × Four n.slots)) }
-    ensures { (result.work.count ≤ n.work.count + 1) × ((R : Reading) → in_place (event t a s m) R ≡ true → Stands n R → Stands result (noted (event t a s m) R)) }
-{
-    if m == 0 {
-        return start(n, t, a, s);
-    }
-    finish(n, t, m)
-}
-
-// Whether each event is in place, and what they say if so.
-#[derive(Clone, Copy)]
-pub struct Readout {
-    pub fine: bool,
-    pub noted: Noted,
-}
-
-// Before the first event.
-fn nothing_noted() -> Noted
-    ensures { (result.work.count ≡ 0) × Stands result unread }
-{
-    let four = [0u8; 4];
-    let numbers = [0usize; 4];
-    let twelve = [0u8; 12];
-    let masks = [0u64; 12];
-    let slots = Slots {
-        actions: four,
-        stations: four,
-        numbers: numbers,
-    };
-    let work = Work {
-        count: 0,
-        actions: twelve,
-        stations: twelve,
-        answers: twelve,
-        befores: masks,
-    };
-    Noted {
-        slots: slots,
-        done: 0,
-        work: work,
-    }
-}
-
-// The events, in order, up to the first one out of place.
-fn read(h: &[u8], count: usize) -> Readout
-    requires { (count < 65536) × (length h.now ≡ 3 + 4 * count) }
-    ensures { (result.fine ≡ all_in_place (events_of h.now) count) × (result.fine ≡ true → Stands result.noted (reading (events_of h.now) count)) }
-{
-    let mut noted = nothing_noted();
-    let mut k = 0usize;
-    while k < count {
-        let t = h[3 + 4 * k];
-        let a = h[4 + 4 * k];
-        let s = h[5 + 4 * k];
-        let m = h[6 + 4 * k];
-        let slots = noted.slots;
-        if in_place(slots, t, a, s, m) {
-            noted = note(noted, t, a, s, m);
-        } else {
-            return Readout {
-                fine: false,
-                noted: noted,
+    // A start. Operations past the twelfth are only counted.
+    fn start(&mut self, e: Event)
+        requires { self.old.count < 65536 }
+        ensures count { self.new.count ≡ self.old.count + 1 }
+        ensures stands { (R : Reading) → Stands self.old R → Stands self.new (begun (event_of e) R) }
+    {
+        let number = self.count;
+        self.count = number + 1;
+        self.slots[e.thread as usize] = Some(Open {
+            asked: e.asked,
+            station: e.station,
+            number,
+        });
+        if number < 12 {
+            self.ops[number] = Op {
+                asked: e.asked,
+                station: e.station,
+                yes: false,
+                before: self.done,
             };
         }
-        k += 1;
     }
-    Readout {
-        fine: true,
-        noted: noted,
-    }
-}
 
-// Some thread has an operation open.
-fn open_left(slots: Slots) -> bool
-    ensures { (R : Reading) → SlotsOf slots R → result ≡ unfinished R }
-{
-    if slots.actions[0] != 0 {
-        return true;
+    // A finish of the operation with this number.
+    fn finish(&mut self, e: Event, number: usize, yes: bool)
+        ensures count { self.new.count ≡ self.old.count }
+        ensures stands { (R : Reading) → R.busy e.thread ≡ Some number → e.mark ≡ Mark.Finish yes → Stands self.old R → Stands self.new (ended_by (Some number) (event_of e) R) }
+    {
+        self.slots[e.thread as usize] = None;
+        if number < 12 {
+            self.ops[number].yes = yes;
+            self.done = container::with(self.done, number as u8);
+        }
     }
-    if slots.actions[1] != 0 {
-        return true;
+
+    // The next event, where it is in place.
+    fn note(&mut self, e: Event) -> Result<(), Refusal>
+        requires { self.old.count < 65536 }
+        ensures count { self.new.count ≤ self.old.count + 1 }
+        ensures stands { (R : Reading) → Stands self.old R → MatchResult result (λ _. (in_place (event_of e) R ≡ true) × Stands self.new (noted (event_of e) R)) (λ why. (in_place (event_of e) R ≡ false) × (why ≡ Refusal.OutOfPlace)) }
+    {
+        match (e.mark, self.slots[e.thread as usize]) {
+            (Mark::Start, None) => self.start(e),
+            (Mark::Finish(yes), Some(open)) if open.is_of(e) => self.finish(e, open.number, yes),
+            _ => return Err(Refusal::OutOfPlace),
+        }
+        Ok(())
     }
-    if slots.actions[2] != 0 {
-        return true;
+
+    // All events of a history, where its form is right and each is in place.
+    fn read(history: &[u8]) -> Result<Noted, Refusal>
+        ensures ok { IfOk result (λ n. (form_refusal history.now ≡ 0) × ((all_in_place (events_of history.now) (count_of history.now) ≡ true) × Stands n (reading_of history.now))) }
+        ensures err { IfErr result (λ why. history_refusal history.now ≡ refusal_of why) }
+    {
+        let count = count_in(history)?;
+        let mut noted = Noted::new();
+        for k in 0..count {
+            let e = Event::try_from([
+                history[3 + 4 * k],
+                history[4 + 4 * k],
+                history[5 + 4 * k],
+                history[6 + 4 * k],
+            ])?;
+            noted.note(e)?;
+        }
+        Ok(noted)
     }
-    slots.actions[3] != 0
+
+    // Some thread has an operation open.
+    fn is_open(&self) -> bool
+        ensures { IsTrue result ↔ Any (λ slot. IsSome slot) self.now.slots }
+    {
+        self.slots.iter().any(|slot| slot.is_some())
+    }
 }
 
 // ---- the file
 
-// Two bytes, the high one first.
-fn word(high: u8, low: u8) -> usize
-    ensures { (result ≡ high * 256 + low) × (result < 65536) }
+// How many events the header states, where the form is right.
+#[tactic(auto, using(crate::proofs::Whole::form_short, crate::proofs::Whole::form_version, crate::proofs::Whole::form_length, crate::proofs::Whole::form_right), unfolding(definitions::specs::Schedule::count_of))]
+fn count_in(history: &[u8]) -> Result<usize, Refusal>
+    ensures ok { IfOk result (λ n. (form_refusal history.now ≡ 0) × ((n ≡ count_of history.now) × ((n < 65536) × (length history.now ≡ 3 + 4 * n)))) }
+    ensures err { IfErr result (λ why. (form_refusal history.now ≡ refusal_of why)) }
 {
-    high as usize * 256 + low as usize
-}
-
-// The count that the header states.
-fn count_of(h: &[u8]) -> usize
-    requires { 3 ≤ length h.now }
-    ensures { (result ≡ count_of h.now) × (result < 65536) }
-{
-    word(h[1], h[2])
-}
-
-// The refusal of a file for its form, 0 for none.
-fn form_refusal(h: &[u8]) -> u64
-    ensures { (result ≡ form_refusal h.now) × (result ≡ 0 → (3 ≤ length h.now) × (length h.now ≡ 3 + 4 * count_of h.now)) }
-{
-    if h.len() < 3 {
-        return 1;
+    if history.len() < 3 {
+        return Err(Refusal::Short);
     }
-    if h[0] != 1 {
-        return 2;
+    if history[0] != 1 {
+        return Err(Refusal::Version);
     }
-    let n = count_of(h);
-    if h.len() != 3 + 4 * n {
-        return 4;
+    let count = usize::from(u16::from_be_bytes([history[1], history[2]]));
+    if history.len() != 3 + 4 * count {
+        return Err(Refusal::Length);
     }
-    0
+    Ok(count)
 }
 
 // ---- Judge
 
 // A refusal.
-fn refused(k: u64) -> Judged
-    ensures { Refused k result }
+fn refused(why: Refusal) -> Judged
+    ensures { Refused (refusal_of why) result }
 {
-    let none = [0u8; 12];
     Judged {
-        refusal: k,
+        refusal: u64::from(why),
         accepted: false,
         operations: 0,
-        order: none,
-    }
-}
-
-// The verdict on at most twelve operations.
-fn decide(w: Work) -> Judged
-    requires { Sound (held w) × Stations (held w) }
-    ensures { Decided (held w) result }
-{
-    let mut next = [0u8; 4096];
-    fill(w, &mut next);
-    let first = next[0];
-    if first == 0 {
-        let none = [0u8; 12];
-        return Judged {
-            refusal: 0,
-            accepted: false,
-            operations: w.count as u64,
-            order: none,
-        };
-    }
-    let order = trace(w, &next);
-    Judged {
-        refusal: 0,
-        accepted: true,
-        operations: w.count as u64,
-        order: order,
+        order: [0; 12],
     }
 }
 
@@ -486,23 +524,8 @@ fn decide(w: Work) -> Judged
 pub fn judge(history: &[u8]) -> Judged
     ensures { Judgement history.now result }
 {
-    let bad = form_refusal(history);
-    if bad != 0 {
-        return refused(bad);
+    match Work::read(history) {
+        Ok(work) => work.decide(),
+        Err(why) => refused(why),
     }
-    let n = count_of(history);
-    let out = read(history, n);
-    if out.fine {
-        let noted = out.noted;
-        let work = noted.work;
-        let slots = noted.slots;
-        if 12 < work.count {
-            return refused(22);
-        }
-        if open_left(slots) {
-            return refused(23);
-        }
-        return decide(work);
-    }
-    refused(21)
 }

@@ -1,6 +1,7 @@
 -- A tree in which no join and no range query is under way: every reachable base is replaceable and hangs where its parent field says (`Calm`,
 -- a fact of the store alone). It holds with all threads idle (request m): a main that is neither aborted nor done has a thread at 26 to 51
 -- (Owners.antt), and an unset store has a query that owns it (crate answers, Counting.antt).
+use Rattle.std.specs.Prelude.{Option, Some, None}
 use mathlib.Core.Path.{◌≡◌, refl, sym, ◌∙◌, ap, subst}
 use mathlib.Core.Logic.{◌≢◌, inl, inr}
 use mathlib.Core.Bool.{Bool, true, false}
@@ -9,14 +10,11 @@ use Prim.Native.Nat.{ℕ, zero, suc, ◌<◌, ◌≤◌, ◌/◌}
 use lib.Dec.{eqb}
 use borrow.Author.Tests.{eqb-true}
 use Rattle.container.specs.Choice.{ite}
-use Rattle.definitions.specs.declared.Link.TheVariants.{Nil, To}
 use Rattle.definitions.specs.declared.Kind.{Kind}
 use Rattle.definitions.specs.declared.Kind.TheVariants.{Normal, Route, Main, Neighbour, Range}
 use Rattle.definitions.specs.declared.Stage.{Stage}
 use Rattle.definitions.specs.declared.Stage.TheVariants.{Preparing, Completing, Aborted, Done}
 use Rattle.definitions.specs.declared.Check.{Check}
-use Rattle.definitions.specs.declared.Shared.{Shared}
-use Rattle.definitions.specs.declared.Shared.TheVariants.{Unset, Set}
 use Rattle.definitions.specs.Nodes.{Nodes, shape, kid_of, check_stage, check_store, check_as, check, is_replaceable, replaceable}
 use Rattle.definitions.specs.Bench.{Store, Bench, fresh, sight_of}
 use Rattle.definitions.specs.Effects.{recount}
@@ -76,8 +74,8 @@ runs_reach file (suc k) = runs_on file (after file k) (record_at file k) (runs_r
 
 -- where base x hangs
 pub data Hangs (s : Store) (x : ℕ) : Type 0 where
-  first : (s.nodes x).parent ≡ Nil → s.root ≡ x → Hangs s x
-  under : (r : ℕ) (f : Bool) → (s.nodes x).parent ≡ To r → kid_of f (shape (s.nodes r)) ≡ x → Hangs s x
+  first : (s.nodes x).parent ≡ None → s.root ≡ x → Hangs s x
+  under : (r : ℕ) (f : Bool) → (s.nodes x).parent ≡ Some r → kid_of f (shape (s.nodes r)) ≡ x → Hangs s x
 
 pub record Calm (s : Store) : Type 0 where
   pub depth : (d x lo hi : ℕ) → Reached s.nodes s.root d x lo hi → d ≤ 63
@@ -96,7 +94,7 @@ calm_counted c s h = record { depth = h.depth; free = h.free; hangs = λ d x lo 
 needs_open : (n : Nodes) (x : ℕ) (v : Stage) → (n x).kind ≡ Main → (n x).stage ≡ v → is_over v ≡ false → Needs n x
 needs_open n x v e i h = record { kind = e; stage = ap is_over i ∙ h }
 
-module _ {w : World} {hist : Hist} (mem : Mem w hist) (none : (x : ℕ) → Needs w.nodes x → ⊥) (set : (S : ℕ) → S < w.shown → w.stores S ≡ Unset → ⊥) where
+module _ {w : World} {hist : Hist} (mem : Mem w hist) (none : (x : ℕ) → Needs w.nodes x → ⊥) (set : (S : ℕ) → S < w.shown → w.stores S ≡ None → ⊥) where
   -- a live base is where its parent field says
   live_up : (x : ℕ) → IsBase w x → Live w x → w.up x ≡ (w.nodes x).parent
   live_up x h l = elim (mem.bases.up x h l) [ inl e ↦ e | inr (m, P, p) ↦ absurd (pending m P p) ]
@@ -131,9 +129,9 @@ module _ {w : World} {hist : Hist} (mem : Mem w hist) (none : (x : ℕ) → Need
       over Aborted e i = refl
       over Done e i = refl
 
-      filled : (v : Shared) → w.stores (w.nodes x).store ≡ v → (w.nodes x).store < w.shown → is_replaceable (check_store v (shape (w.nodes x))) ≡ true
-      filled Unset i h = absurd (set _ h i)
-      filled (Set c) i h = refl
+      filled : (v : Option ℕ) → w.stores (w.nodes x).store ≡ v → (w.nodes x).store < w.shown → is_replaceable (check_store v (shape (w.nodes x))) ≡ true
+      filled None i h = absurd (set _ h i)
+      filled (Some c) i h = refl
 
       go : (k : Kind) → (w.nodes x).kind ≡ k → is_replaceable (check_as k (λ y. shape (w.nodes y)) w.stores x) ≡ true
       go Normal e = refl
@@ -144,8 +142,8 @@ module _ {w : World} {hist : Hist} (mem : Mem w hist) (none : (x : ℕ) → Need
 
   -- a reachable node is live, and its ghost `up` is where it was reached from
   data Above (x : ℕ) : Type 0 where
-    top : w.up x ≡ Nil → w.root ≡ x → Above x
-    below : (r : ℕ) (f : Bool) → w.up x ≡ To r → kid_of f (shape (w.nodes r)) ≡ x → Above x
+    top : w.up x ≡ None → w.root ≡ x → Above x
+    below : (r : ℕ) (f : Bool) → w.up x ≡ Some r → kid_of f (shape (w.nodes r)) ≡ x → Above x
 
   above : (d x lo hi : ℕ) → Reached w.nodes w.root d x lo hi → Live w x × Above x
   above d x lo hi (Reached.top p q i j) = (rw q mem.shape.root_live, top (ap (λ v. w.up v) q ∙ mem.shape.root_up) (sym q))
@@ -154,7 +152,7 @@ module _ {w : World} {hist : Hist} (mem : Mem w hist) (none : (x : ℕ) → Need
 
 -- the world of a bench
 calm_of : (s : Store) (w : World) (hist : Hist) → w.nodes ≡ s.nodes → w.root ≡ s.root → w.stores ≡ s.stores → Mem w hist → ((x : ℕ) → Needs w.nodes x → ⊥)
-    → ((S : ℕ) → S < w.shown → w.stores S ≡ Unset → ⊥) → Calm s
+    → ((S : ℕ) → S < w.shown → w.stores S ≡ None → ⊥) → Calm s
 calm_of s w hist e i o mem none set = record {
   depth = λ d x lo hi c. reached_depth mem d x lo hi (rw (e, i) c);
   free = λ d x lo hi c h. rw (← e, ← o) (live_free mem none set x (λ z. h (ap (λ v. (v x).kind) (sym e) ∙ z)) (above mem none set d x lo hi (rw (e, i) c)).0);
@@ -175,7 +173,7 @@ idle_frames : (b : Bench) (P : Plain) (k : Kept b P) (t : ℕ) → (b.threads t)
 idle_frames b P k t e = (know_now (kept_inv k) t nowhere (ap place_of e)).1
 
 -- an unset store has a query that owns it
-all_set : (b : Bench) → Known b → AllIdle b → (S : ℕ) → S < b.store.shown → b.store.stores S ≡ Unset → ⊥
+all_set : (b : Bench) → Known b → AllIdle b → (S : ℕ) → S < b.store.shown → b.store.stores S ≡ None → ⊥
 all_set b k h S l e = let (t, _, o) = k.kept.counts.owned S l e in
     subst (λ fs. Bears fs S) (idle_frames b k.plain k.kept t (idle_place b k.sound h t)) o.1
 

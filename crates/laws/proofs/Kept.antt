@@ -1,4 +1,5 @@
 -- The invariant of crate answers at every reachable state, free of the list that led there: whatever the plain table will be later.
+use Rattle.std.specs.Prelude.{Option, None}
 use mathlib.Core.Path.{◌≡◌, refl, ◌∙◌, subst}
 use mathlib.Core.Bool.{Bool, not, cond}
 use Prim.Native.Nat.{ℕ, suc, ◌/◌, ◌%◌, ◌<◌, ◌≤◌}
@@ -6,8 +7,6 @@ use native.Mathlib.Omega.{arith}
 use lib.Dec.{leb}
 use borrow.Author.Tests.{le-leb, lt-leb}
 use Rattle.container.specs.Depths.{Found, absent, is_in, find}
-use Rattle.definitions.specs.declared.Link.{Link}
-use Rattle.definitions.specs.declared.Link.TheVariants.{Nil}
 use Rattle.definitions.specs.declared.Action.TheVariants.{Lookup, Insert, Remove, Split, Join, Query}
 use Rattle.definitions.specs.declared.Answer.{Answer}
 use Rattle.definitions.specs.Answers.{said}
@@ -52,7 +51,7 @@ said_of (row a d' c') (doing Query st d) place P H f k h = tt
 pub record Kept (b : Bench) (P : Plain) : Type 0 where
   pub past : Hist
   pub now : ℕ
-  pub first : ℕ → Link
+  pub first : ℕ → Option ℕ
   pub inv : (H : Hist) → ((j s : ℕ) → j ≤ now → H j s ≡ past j s) → Inv b H now first
   pub tied : Tied b P
   pub counts : Counts b
@@ -94,7 +93,7 @@ kept_record b P r z = go (step_of b r) (λ H e. step_ok P (z.inv H e) z.tied (no
     go (carried b' w) f = let o = at past' (λ j s _. refl) in
         (record { past = past'; now = suc z.now; first = firsts; inv = λ H e. (at H e).0; tied = o.1; counts = o.3; table = λ s. new s }, said_of w _ _ P past' _ _ o.2)
       where
-        firsts : ℕ → Link
+        firsts : ℕ → Option ℕ
         firsts = first_steps (r.first % 16) (r.first / 16) z.now z.first
 
         past' : Hist
@@ -116,4 +115,4 @@ pub kept_next : (b b' : Bench) (P : Plain) (r : Rec) (w : Row) → Kept b P → 
 kept_next b b' P r w z e = subst (KeptAfter P r) e (kept_record b P r z)
 
 pub kept_fresh : (on : Bool) → Kept (fresh on) empty
-kept_fresh on = record { past = λ _ _. absent; now = 0; first = λ _. Nil; inv = λ H e. fresh_ok on H (λ s. e 0 s (omega arith)); tied = fresh_tied on; counts = fresh_counts on; table = λ s. refl }
+kept_fresh on = record { past = λ _ _. absent; now = 0; first = λ _. None; inv = λ H e. fresh_ok on H (λ s. e 0 s (omega arith)); tied = fresh_tied on; counts = fresh_counts on; table = λ s. refl }

@@ -1,5 +1,6 @@
 -- A fact of every reachable state that needs no ghosts: a main that is preparing or completing has a thread that owns it and stands at 26
 -- to 51 (`Tended`). It rests on Turned.antt.
+use Rattle.std.specs.Prelude.{Option}
 use mathlib.Core.Path.{◌≡◌, refl, sym, ◌∙◌, ap, subst}
 use mathlib.Core.Logic.{◌⊎◌, inl, inr}
 use mathlib.Core.Bool.{Bool, true, false, cond, true≢false, false≢true}
@@ -10,7 +11,6 @@ use Rattle.container.specs.Depths.{Container, merge}
 use Rattle.definitions.specs.declared.Kind.TheVariants.{Main, Neighbour}
 use Rattle.definitions.specs.declared.Stage.{Stage}
 use Rattle.definitions.specs.declared.Stage.TheVariants.{Preparing, Completing, Aborted, Done}
-use Rattle.definitions.specs.declared.Link.{Link}
 use Rattle.definitions.specs.declared.Spot.{Spot}
 use Rattle.definitions.specs.declared.Spot.TheVariants.{Root, Under}
 use Rattle.definitions.specs.Threads.{Thread, Turn, Moves, Finishes, Finds, Full, NoStore}
@@ -63,10 +63,10 @@ preparing_not Done e = absurd (false≢true e)
 abbrev trio : ℕ → ℕ → ℕ → ℕ → Container → Store → Store
 trio x l r k c s = store (forked x l r k c s.nodes) s.root (x + 3) s.stores s.shown s.stop
 
-abbrev united : Store → Link → ℕ → ℕ → Entry
+abbrev united : Store → Option ℕ → ℕ → ℕ → Entry
 united s p m n = new_base Neighbour p (merge (s.nodes m).container (s.nodes n).container) m
 
-abbrev ranged : Store → ℕ → Link → ℕ → ℕ → ℕ → ℕ → Bool → Store
+abbrev ranged : Store → ℕ → Option ℕ → ℕ → ℕ → ℕ → ℕ → Bool → Store
 ranged s x p y l h k new = store (upd s.nodes x (new_range p (s.nodes y).container l h k)) s.root (suc x) s.stores (cond new (suc k) s.shown) s.stop
 
 -- a main that needs its thread after an effect did so before it, or is new

@@ -1,5 +1,6 @@
 -- An update (insert or remove) in a calm tree that nobody else changes: place by place it moves on, no swap fails, and at most n steps are
 -- left (`Solo`), two of them at 4 and 5 with the stop on. A fact of the store and the thread alone.
+use Rattle.std.specs.Prelude.{Option, Some, None}
 use mathlib.Core.Path.{◌≡◌, refl, sym, ◌∙◌, ap, subst}
 use mathlib.Core.Logic.{◌≢◌, inl, inr}
 use mathlib.Core.Bool.{Bool, true, false, not, cond, false≢true}
@@ -9,8 +10,6 @@ use lib.Dec.{eqb, ltb}
 use borrow.Author.Tests.{eq-eqb, eqb-true, eqb-false, le-leb, ltb-true, ltb-false}
 use Rattle.container.specs.Choice.{ite}
 use Rattle.container.specs.Container.{has}
-use Rattle.definitions.specs.declared.Link.{Link}
-use Rattle.definitions.specs.declared.Link.TheVariants.{Nil, To}
 use Rattle.definitions.specs.declared.Kind.TheVariants.{Route}
 use Rattle.definitions.specs.declared.Action.{Action}
 use Rattle.definitions.specs.declared.Action.TheVariants.{Insert, Remove}
@@ -50,9 +49,9 @@ pub data Solo (s : Store) (th : Thread) (n : ℕ) : Type 0 where
   at5 : (d lo hi : ℕ) → th.place ≡ 5 → Reached s.nodes s.root d th.base lo hi → (s.nodes th.base).kind ≢ Route → 5 ≤ n → Solo s th n
   at3 : (d lo hi : ℕ) → th.place ≡ 3 → Reached s.nodes s.root d th.base lo hi → (s.nodes th.base).kind ≢ Route → 4 ≤ n → Solo s th n
   at10 : th.place ≡ 10 → Hangs s th.base → 3 ≤ n → Solo s th n
-  at11 : (p : ℕ) → th.place ≡ 11 → (s.nodes th.base).parent ≡ To p → (s.nodes p).left ≡ th.base → 1 ≤ n → Solo s th n
-  at12 : (p : ℕ) → th.place ≡ 12 → (s.nodes th.base).parent ≡ To p → (s.nodes p).right ≡ th.base → 2 ≤ n → Solo s th n
-  at13 : (p : ℕ) → th.place ≡ 13 → (s.nodes th.base).parent ≡ To p → (s.nodes p).right ≡ th.base → 1 ≤ n → Solo s th n
+  at11 : (p : ℕ) → th.place ≡ 11 → (s.nodes th.base).parent ≡ Some p → (s.nodes p).left ≡ th.base → 1 ≤ n → Solo s th n
+  at12 : (p : ℕ) → th.place ≡ 12 → (s.nodes th.base).parent ≡ Some p → (s.nodes p).right ≡ th.base → 2 ≤ n → Solo s th n
+  at13 : (p : ℕ) → th.place ≡ 13 → (s.nodes th.base).parent ≡ Some p → (s.nodes p).right ≡ th.base → 1 ≤ n → Solo s th n
 
 pub solo_busy : (s : Store) (th : Thread) (n : ℕ) → Solo s th n → th.place ≢ 0
 solo_busy s th n (at1 e _) z = omega arith
@@ -127,16 +126,16 @@ module _ (s : Store) (calm : Calm s) (th : Thread) (upd : Updating th.action) (f
 
   -- ---- 10 to 13
 
-  same_link : {p r : ℕ} (l : Link) → To p ≡ l → l ≡ To r → p ≡ r
+  same_link : {p r : ℕ} (l : Option ℕ) → Some p ≡ l → l ≡ Some r → p ≡ r
   same_link l e i = cc
 
-  reads_left : (n : ℕ) (l : Link) → l ≡ (s.nodes th.base).parent → Hangs s th.base → 2 ≤ n
+  reads_left : (n : ℕ) (l : Option ℕ) → l ≡ (s.nodes th.base).parent → Hangs s th.base → 2 ≤ n
       → SoloTurn s n (own_by (probe ReadLeft l (sight_of s).nodes s.root th.base) ((sight_of s).nodes th.base) s.used th)
   unfolding probe ite
-  reads_left n Nil e (first i j) h = rw (eq-eqb s.root th.base j) (swaps n Root)
-  reads_left n Nil e (under r f i j) h = absurd (clash (cc))
-  reads_left n (To p) e (first i j) h = absurd (clash (cc))
-  reads_left n (To p) e (under r f i j) h = go (eqb (s.nodes p).left th.base) refl
+  reads_left n None e (first i j) h = rw (eq-eqb s.root th.base j) (swaps n Root)
+  reads_left n None e (under r f i j) h = absurd (clash (cc))
+  reads_left n (Some p) e (first i j) h = absurd (clash (cc))
+  reads_left n (Some p) e (under r f i j) h = go (eqb (s.nodes p).left th.base) refl
     where
       on_right : (f : Bool) → (s.nodes p).left ≢ th.base → kid_of f (shape (s.nodes p)) ≡ th.base → (s.nodes p).right ≡ th.base
       on_right true o k = absurd (o k)
@@ -146,17 +145,17 @@ module _ (s : Store) (calm : Calm s) (th : Thread) (upd : Updating th.action) (f
       go true c = (s.stop.count, refl, upd, at11 p refl (sym e) (eqb-true _ _ c) (omega arith))
       go false c = (s.stop.count, refl, upd, at12 p refl (sym e) (on_right f (eqb-false _ _ c) (ap (λ v. kid_of f (shape (s.nodes v))) (same_link _ e i) ∙ j)) h)
 
-  swaps_left : (n p : ℕ) (l : Link) → l ≡ To p → (s.nodes p).left ≡ th.base
+  swaps_left : (n p : ℕ) (l : Option ℕ) → l ≡ Some p → (s.nodes p).left ≡ th.base
       → SoloTurn s n (own_by (probe SwapLeft l (sight_of s).nodes s.root th.base) ((sight_of s).nodes th.base) s.used th)
   unfolding probe ite
   swaps_left n p l e h = rw (e, eq-eqb (s.nodes p).left th.base h) (swaps n (Under p true))
 
-  reads_right : (n p : ℕ) (l : Link) → (s.nodes th.base).parent ≡ To p → l ≡ To p → (s.nodes p).right ≡ th.base → 1 ≤ n
+  reads_right : (n p : ℕ) (l : Option ℕ) → (s.nodes th.base).parent ≡ Some p → l ≡ Some p → (s.nodes p).right ≡ th.base → 1 ≤ n
       → SoloTurn s n (own_by (probe ReadRight l (sight_of s).nodes s.root th.base) ((sight_of s).nodes th.base) s.used th)
   unfolding probe ite
   reads_right n p l i e h k = rw (e, eq-eqb (s.nodes p).right th.base h) (s.stop.count, refl, upd, at13 p refl i h k)
 
-  swaps_right : (n p : ℕ) (l : Link) → l ≡ To p → (s.nodes p).right ≡ th.base
+  swaps_right : (n p : ℕ) (l : Option ℕ) → l ≡ Some p → (s.nodes p).right ≡ th.base
       → SoloTurn s n (own_by (probe SwapRight l (sight_of s).nodes s.root th.base) ((sight_of s).nodes th.base) s.used th)
   unfolding probe ite
   swaps_right n p l e h = rw (e, eq-eqb (s.nodes p).right th.base h) (swaps n (Under p false))

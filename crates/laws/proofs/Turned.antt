@@ -1,13 +1,12 @@
 -- What every place's step does, whatever the state: a main that is neither aborted nor done keeps a thread that owns it and stands at 26 to 51
 -- (`Turned`, Tending.antt). No invariant is needed here.
+use Rattle.std.specs.Prelude.{Option, Some, None}
 use mathlib.Core.Path.{◌≡◌, refl, sym, ◌∙◌}
 use mathlib.Core.Bool.{Bool, true, false, false≢true}
 use mathlib.Core.List.{List, [], ◌∷◌}
 use Prim.Native.Nat.{ℕ}
 use borrow.Author.Tests.{eq-eqb}
 use Rattle.container.specs.Choice.{ite}
-use Rattle.definitions.specs.declared.Link.{Link}
-use Rattle.definitions.specs.declared.Link.TheVariants.{Nil, To}
 use Rattle.definitions.specs.declared.Check.{Check}
 use Rattle.definitions.specs.declared.Stage.{Stage}
 use Rattle.definitions.specs.declared.Stage.TheVariants.{Preparing, Completing, Aborted, Done}
@@ -20,8 +19,6 @@ use Rattle.definitions.specs.declared.Quarter.TheVariants.{ReadLeft, SwapLeft, R
 use Rattle.definitions.specs.declared.Probe.{Probe}
 use Rattle.definitions.specs.declared.Probe.TheVariants.{Hit, Next, Miss}
 use Rattle.definitions.specs.declared.Answer.TheVariants.{No}
-use Rattle.definitions.specs.declared.Shared.{Shared}
-use Rattle.definitions.specs.declared.Shared.TheVariants.{Unset, Set}
 use Rattle.definitions.specs.Threads.{Frame, Thread, Turn, Moves}
 use Rattle.definitions.specs.Frames.{tail_of, store_of, in_frame, next_from, adding, found_first, back_in, back}
 use Rattle.definitions.specs.declared.Effect.{Effect}
@@ -153,10 +150,10 @@ module _ (s : Store) (p : Place) (th : Thread) where
     lose Join = ends
     lose Query = tt
 
-    link : (on : Bool) (l : Link) → Turned s p th (join_under on l th)
-    link on Nil = ends
-    link false (To q) = moves _
-    link true (To q) = moves _
+    link : (on : Bool) (l : Option ℕ) → Turned s p th (join_under on l th)
+    link on None = ends
+    link false (Some q) = moves _
+    link true (Some q) = moves _
 
     clear : (a : Action) → Turned s p th (cleared_as a s.stop.on ((sight_of s).nodes th.base) th)
     clear Lookup = ends
@@ -210,9 +207,9 @@ module _ (s : Store) (p : Place) (th : Thread) where
     unfolding adding
     added e c f fs a n = fork _ _ _ (shows e a n _) (nexted f.stack e _ fs a n (λ z _. out z))
 
-    first_found : (l : Link) (n : Node) (f : Frame) (fs : List Frame) → Turned s p th (found_first l n f fs th)
-    first_found Nil n f fs = moves _
-    first_found (To k) n f fs = fork _ _ _ (added Quiet _ _ fs tt (λ y z. z)) (moves _)
+    first_found : (l : Option ℕ) (n : Node) (f : Frame) (fs : List Frame) → Turned s p th (found_first l n f fs th)
+    first_found None n f fs = moves _
+    first_found (Some k) n f fs = fork _ _ _ (added Quiet _ _ fs tt (λ y z. z)) (moves _)
 
     first_reached : (x : ℕ) (l : List ℕ) (f : Frame) (fs : List Frame) → Turned s p th (reached_first (sight_of s).nodes x l f fs th)
     unfolding reached_first
@@ -226,18 +223,18 @@ module _ (s : Store) (p : Place) (th : Thread) where
     popped [] f fs = moves _
     popped (x ∷ l) f fs = moves _
 
-    met : (v : Shared) (n : Node) (f : Frame) (fs : List Frame) → Turned s p th (met_by v n f fs th)
-    met Unset n f fs = fork _ _ _ (added Quiet _ f fs tt (λ y z. z)) (moves _)
-    met (Set c) n f fs = moves _
+    met : (v : Option ℕ) (n : Node) (f : Frame) (fs : List Frame) → Turned s p th (met_by v n f fs th)
+    met None n f fs = fork _ _ _ (added Quiet _ f fs tt (λ y z. z)) (moves _)
+    met (Some c) n f fs = moves _
 
-    fills : (v : Shared) (f : Frame) → Turned s p th (filling v f th)
-    fills Unset f = shows (Fill (store_of f.store) f.done) tt (λ y z. z) _
-    fills (Set c) f = moves _
+    fills : (v : Option ℕ) (f : Frame) → Turned s p th (filling v f th)
+    fills None f = shows (Fill (store_of f.store) f.done) tt (λ y z. z) _
+    fills (Some c) f = moves _
 
-    read_out_lem : (v : Shared) (fs : List Frame) → Turned s p th (read_out v fs th)
-    read_out_lem Unset fs = tt
-    read_out_lem (Set r) [] = fork _ _ _ out (moves _)
-    read_out_lem (Set r) (f ∷ fs) = backed (f ∷ fs) Quiet tt (λ y z. z) (λ z _. out z)
+    read_out_lem : (v : Option ℕ) (fs : List Frame) → Turned s p th (read_out v fs th)
+    read_out_lem None fs = tt
+    read_out_lem (Some r) [] = fork _ _ _ out (moves _)
+    read_out_lem (Some r) (f ∷ fs) = backed (f ∷ fs) Quiet tt (λ y z. z) (λ z _. out z)
 
     by_opening : (o : Probe) (n : Node) (f : Frame) (fs : List Frame) → Turned s p th (opened_by o n (sight_of s) f fs th)
     by_opening (Hit v) n f fs = fork _ _ _ (fork _ _ _ (added _ _ _ fs tt (λ y z. z)) tt) tt
@@ -268,37 +265,37 @@ module _ (s : Store) (p : Place) (th : Thread) where
   marks : (r i j : ℕ) → tending (place_of i) ≡ true → tending (place_of j) ≡ true → Turned s p th (marking (sight_of s).nodes r i j th)
   marks r i j a c = fork _ _ _ (tt, λ y z. absurd z, tends _ a refl refl) (goes_on_lem _ c refl refl)
 
-  grand : (l : Link) → Turned s p th (grand_marking l (sight_of s).nodes th)
-  grand Nil = goes_on_lem _ refl refl refl
-  grand (To g) = marks g _ _ refl refl
+  grand : (l : Option ℕ) → Turned s p th (grand_marking l (sight_of s).nodes th)
+  grand None = goes_on_lem _ refl refl refl
+  grand (Some g) = marks g _ _ refl refl
 
-  backs_out : (l : Link) → tending (place_of (number (back_out l))) ≡ true
-  backs_out Nil = refl
-  backs_out (To g) = refl
+  backs_out : (l : Option ℕ) → tending (place_of (number (back_out l))) ≡ true
+  backs_out None = refl
+  backs_out (Some g) = refl
 
-  unmarks : (l : Link) → Turned s p th (Moves (at p37 th) (unmark l))
-  unmarks Nil = goes_on_lem _ refl refl refl
-  unmarks (To g) = (tt, λ y z. absurd z, tends _ refl refl refl)
+  unmarks : (l : Option ℕ) → Turned s p th (Moves (at p37 th) (unmark l))
+  unmarks None = goes_on_lem _ refl refl refl
+  unmarks (Some g) = (tt, λ y z. absurd z, tends _ refl refl refl)
 
-  voids : (l : Link) → Turned s p th (Moves (at p46 th) (invalid l))
-  voids Nil = goes_on_lem _ refl refl refl
-  voids (To g) = (tt, λ y z. absurd z, tends _ refl refl refl)
+  voids : (l : Option ℕ) → Turned s p th (Moves (at p46 th) (invalid l))
+  voids None = goes_on_lem _ refl refl refl
+  voids (Some g) = (tt, λ y z. absurd z, tends _ refl refl refl)
 
-  at_46 : (l : Link) (m : Node) → Turned s p th (cut_at l m (sight_of s).nodes s.root th)
-  at_46 Nil m = fork _ _ _ (tt, λ y z. absurd z, tends _ refl refl refl) (goes_on_lem _ refl refl refl)
-  at_46 (To g) m = fork _ _ _ (goes_on_lem _ refl refl refl) (goes_on_lem _ refl refl refl)
+  at_46 : (l : Option ℕ) (m : Node) → Turned s p th (cut_at l m (sight_of s).nodes s.root th)
+  at_46 None m = fork _ _ _ (tt, λ y z. absurd z, tends _ refl refl refl) (goes_on_lem _ refl refl refl)
+  at_46 (Some g) m = fork _ _ _ (goes_on_lem _ refl refl refl) (goes_on_lem _ refl refl refl)
 
-  at_47 : (d : Bool) (l : Link) (m : Node) → Turned s p th (cut_on d l m (sight_of s).nodes th)
-  at_47 d Nil m = goes_on_lem _ refl refl refl
-  at_47 d (To g) m = fork _ _ _ (tt, λ y z. absurd z, tends _ refl refl refl) (goes_on_lem _ refl refl refl)
+  at_47 : (d : Bool) (l : Option ℕ) (m : Node) → Turned s p th (cut_on d l m (sight_of s).nodes th)
+  at_47 d None m = goes_on_lem _ refl refl refl
+  at_47 d (Some g) m = fork _ _ _ (tt, λ y z. absurd z, tends _ refl refl refl) (goes_on_lem _ refl refl refl)
 
-  at_48 : (l : Link) (m : Node) → Turned s p th (cut_right l m (sight_of s).nodes th)
-  at_48 Nil m = goes_on_lem _ refl refl refl
-  at_48 (To g) m = fork _ _ _ (goes_on_lem _ refl refl refl) (goes_on_lem _ refl refl refl)
+  at_48 : (l : Option ℕ) (m : Node) → Turned s p th (cut_right l m (sight_of s).nodes th)
+  at_48 None m = goes_on_lem _ refl refl refl
+  at_48 (Some g) m = fork _ _ _ (goes_on_lem _ refl refl refl) (goes_on_lem _ refl refl refl)
 
-  at_50 : (l : Link) → Turned s p th (freeing l (sight_of s).nodes th)
-  at_50 Nil = goes_on_lem _ refl refl refl
-  at_50 (To g) = fork _ _ _ (tt, λ y z. absurd z, tends _ refl refl refl) (goes_on_lem _ refl refl refl)
+  at_50 : (l : Option ℕ) → Turned s p th (freeing l (sight_of s).nodes th)
+  at_50 None = goes_on_lem _ refl refl refl
+  at_50 (Some g) = fork _ _ _ (tt, λ y z. absurd z, tends _ refl refl refl) (goes_on_lem _ refl refl refl)
 
   -- the end: the owner's main is aborted or done; a helper owns none
   settles : (v : Stage) → is_over v ≡ true → is_over ((perform (Settle th.main v) s).nodes th.main).stage ≡ true

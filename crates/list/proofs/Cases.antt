@@ -18,6 +18,7 @@ use Rattle.definitions.specs.Bench.{Bench}
 use Rattle.definitions.specs.Tree.{held_below}
 use Rattle.definitions.specs.Versions.{version, text_room}
 use Rattle.definitions.specs.Schedule.{count_of, file_refusal}
+use Rattle.definitions.specs.Refusal.{code_of}
 use Rattle.definitions.specs.Run.{ended, overlay}
 use Rattle.definitions.specs.Listing.{subtree_text, set_line, listing, listed_at, list_refusal, list_report, list_buffer}
 use Rattle.definitions.specs.declared.Listed.{Listed}
@@ -71,8 +72,8 @@ module _ (file text : List ℕ) {t : Shapes} {l : List ℕ} {k : Stores} {s : St
       let root = ap (λ (b : Bench). b.store.root) h.bench in
       w ∙ rw (written file v t (rows l) h.deep s.root (ended file).bench i (λ n. h.depths (whole n)) nodes root) (put_fits _ text (omega (arith, reach_fits file (count_of file))))
 
-  pub ended_report : record { refusal = s.refusal; length = at } ≡ listed_at file (ended file)
-  ended_report = rw (h.refusal, ap (λ (p : Page). p.at) text_at)
+  pub ended_report : {r : ℕ} → r ≡ code_of s.refusal → record { refusal = r; length = at } ≡ listed_at file (ended file)
+  ended_report e = rw (e, h.refusal, ap (λ (p : Page). p.at) text_at)
 
   pub ended_text : text' ≡ overlay (listing file (ended file).bench) text
   ended_text = ap (λ (p : Page). p.bytes) text_at

@@ -1,87 +1,42 @@
 // One record of a schedule: what it asks of its thread, a start, and a step that has been decided.
-#![tactic(auto)]
+#![tactic(auto, using(std::proofs::lemmas::Bool::Decides::nat_tests), unfolding(container::specs::Choice::ite, crate::specs::Asked::asked, crate::specs::Asked::asked_by, crate::specs::Asked::extra_refusal))]
 
 ghost use Rattle.std.specs.Prelude.{◌≡◌, []};
-ghost use Rattle.nodes.specs.Cells.{table};
+ghost use Rattle.nodes.specs.Table.{table};
 ghost use Rattle.depths.specs.Rows.{rows};
 ghost use Rattle.definitions.specs.Threads.{begun, idle};
 ghost use Rattle.effects.specs.Writes.{effect_of};
-ghost use Rattle.effects.specs.Used.{used_after};
-ghost use Rattle.steps.specs.Decision.{thread, written};
-ghost use Rattle.machine.specs.Asked.{asked, action_of, starting, extra_refusal};
-ghost use Rattle.machine.specs.Noted.{Noted, with_grandparent};
+ghost use Rattle.steps.specs.Decision.{thread};
+ghost use Rattle.machine.specs.Asked.{asked, action_of, first_place, extra_refusal};
+ghost use Rattle.machine.specs.Noted.{Noted};
 ghost use Rattle.machine.specs.Enacted.{depth_by, Followed, Enacts};
 
-use definitions::{Action, Answer, Link};
+use definitions::{Action, Answer, Nodes, Refusal};
 use effects::Write;
 use steps::{Note, Notes};
 
-// The refusal of a start's last two bytes, 0 for none: a query's upper end, an insert's depth, or what has to be 0.
-fn extra_refusal(a: u8, y: u8, d: u16) -> u8
+// What a record that is not refused asks of its thread.
+#[derive(Clone, Copy)]
+pub enum Asked {
+    Step,
+    Start(Action),
+}
+
+// A start's last two bytes: a query's upper end, an insert's depth, or what has to be 0. Of a query y is the lower end.
+fn check_extra(a: u8, y: u8, d: u16) -> Result<(), Refusal>
     ensures { result ≡ extra_refusal a y d }
 {
-    if a == 6 {
-        if 63 < d {
-            return 15;
-        }
-        if d < y as u16 {
-            return 15;
-        }
-        return 0;
+    match a {
+        6 if 63 < d || d < y as u16 => Err(Refusal::UpperEnd),
+        2 if 9999 < d => Err(Refusal::Depth),
+        2 | 6 => Ok(()),
+        _ if d == 0 => Ok(()),
+        _ => Err(Refusal::UnusedBytes),
     }
-    if a == 2 {
-        if 9999 < d {
-            return 14;
-        }
-        return 0;
-    }
-    if d == 0 {
-        return 0;
-    }
-    10
 }
 
-// What a record asks of its thread, which is at the given place: 0, a step; 1, a start; 2, a query's start; else the number that it is
-// refused with. `last` is the last action of its version, which has the last two bytes d, or 0 where it has none.
-pub fn ask(last: u8, x: u8, y: u8, d: u16, place: u8) -> u8
-    ensures { result ≡ asked last x y d place }
-{
-    if 3 < x / 16 {
-        return 7;
-    }
-    let a = x % 16;
-    if a == 0 {
-        if y == 0 {
-            if d == 0 {
-                if place == 0 {
-                    return 12;
-                }
-                return 0;
-            }
-        }
-        return 10;
-    }
-    if last < a {
-        return 8;
-    }
-    if 63 < y {
-        return 9;
-    }
-    let wrong = extra_refusal(a, y, d);
-    if wrong == 0 {
-        if place == 0 {
-            if a == 6 {
-                return 2;
-            }
-            return 1;
-        }
-        return 11;
-    }
-    wrong
-}
-
-// The action of a start that is no query's.
-pub fn action_of(a: u8) -> Action
+// The action of a start, by its number. No TryFrom: `ask` has refused what is over the last action of its version.
+fn action_of(a: u8) -> Action
     ensures { result ≡ action_of a }
 {
     match a {
@@ -89,8 +44,40 @@ pub fn action_of(a: u8) -> Action
         2 => Action::Insert,
         3 => Action::Remove,
         4 => Action::Split,
+        6 => Action::Query,
         _ => Action::Join,
     }
+}
+
+// What a record asks of its thread, which is at the given place. `last` is the last action of its version, which has the last two bytes d,
+// or 0 where it has none.
+pub fn ask(last: u8, x: u8, y: u8, d: u16, place: u8) -> Result<Asked, Refusal>
+    ensures { result ≡ asked last x y d place }
+{
+    if 3 < x / 16 {
+        return Err(Refusal::Thread);
+    }
+    let a = x % 16;
+    if a == 0 {
+        if y != 0 || d != 0 {
+            return Err(Refusal::UnusedBytes);
+        }
+        if place == 0 {
+            return Err(Refusal::Idle);
+        }
+        return Ok(Asked::Step);
+    }
+    if last < a {
+        return Err(Refusal::Action);
+    }
+    if 63 < y {
+        return Err(Refusal::Station);
+    }
+    check_extra(a, y, d)?;
+    if place != 0 {
+        return Err(Refusal::Busy);
+    }
+    Ok(Asked::Start(action_of(a)))
 }
 
 // The notes of a thread that has noted an operation, at a place, and nothing else.
@@ -98,10 +85,10 @@ fn notes_at(action: Action, station: u8, extra: u16, place: u8) -> Notes
     ensures { thread result [] ≡ begun action station extra place }
 {
     Notes {
-        action: action,
-        station: station,
-        extra: extra,
-        place: place,
+        action,
+        station,
+        extra,
+        place,
         route: 0,
         read: 0,
         base: 0,
@@ -111,7 +98,7 @@ fn notes_at(action: Action, station: u8, extra: u16, place: u8) -> Notes
         neighbour: 0,
         main: 0,
         owner: false,
-        grandparent: Link::Nil,
+        grandparent: None,
         other: 0,
     }
 }
@@ -124,139 +111,69 @@ pub fn idle_notes() -> Notes
 }
 
 // Those of a thread that has noted an operation: a query at 60, any other at 1. A query's frame lies apart.
-pub fn begin(a: u8, y: u8, d: u16) -> Notes
-    ensures { thread result [] ≡ starting a y d }
+pub fn begin(action: Action, station: u8, extra: u16) -> Notes
+    ensures { thread result [] ≡ begun action station extra (first_place action) }
 {
-    if a == 6 {
-        return notes_at(Action::Query, y, d, 60);
-    }
-    let action = action_of(a);
-    notes_at(action, y, d, 1)
-}
-
-// Notes with another grandparent.
-fn with_grandparent(th: Notes, g: Link) -> Notes
-    ensures { result ≡ with_grandparent g th }
-{
-    let action = th.action;
-    Notes {
-        action: action,
-        station: th.station,
-        extra: th.extra,
-        place: th.place,
-        route: th.route,
-        read: th.read,
-        base: th.base,
-        parent: th.parent,
-        left: th.left,
-        found: th.found,
-        neighbour: th.neighbour,
-        main: th.main,
-        owner: th.owner,
-        grandparent: g,
-        other: th.other,
+    match action {
+        Action::Query => notes_at(action, station, extra, 60),
+        _ => notes_at(action, station, extra, 1),
     }
 }
 
 // The notes at the new place, with what is noted. A new frame lies apart.
-pub fn note(th: Notes, place: u8, note: Note, value: u8) -> Notes
-    ensures { Noted th result note place value }
+pub fn note(th: Notes, place: u8, note: Note) -> Notes
+    ensures { Noted th result note place }
 {
-    let action = th.action;
-    let grandparent = th.grandparent;
-    let mut next = Notes {
-        action: action,
-        station: th.station,
-        extra: th.extra,
-        place: place,
-        route: th.route,
-        read: th.read,
-        base: th.base,
-        parent: th.parent,
-        left: th.left,
-        found: th.found,
-        neighbour: th.neighbour,
-        main: th.main,
-        owner: th.owner,
-        grandparent: grandparent,
-        other: th.other,
-    };
     match note {
-        Note::Nothing => next,
-        Note::Route => {
-            next.route = value;
-            next
-        }
-        Note::Base => {
-            next.base = value;
-            next
-        }
-        Note::Parent => {
-            next.parent = value;
-            next
-        }
-        Note::Left => {
-            next.left = true;
-            next
-        }
-        Note::Right => {
-            next.left = false;
-            next
-        }
-        Note::Found => {
-            next.found = value;
-            next
-        }
-        Note::Neighbour => {
-            next.neighbour = value;
-            next
-        }
-        Note::Owned => {
-            next.main = value;
-            next.owner = true;
-            next
-        }
-        Note::Helped => {
-            next.main = value;
-            next.owner = false;
-            next
-        }
-        Note::Topmost => with_grandparent(next, Link::Nil),
-        Note::Grandparent => with_grandparent(next, Link::To(value)),
-        Note::Other => {
-            next.other = value;
-            next
-        }
-        Note::Opened => next,
+        Note::Nothing | Note::Opened => Notes { place, ..th },
+        Note::Route(route) => Notes { place, route, ..th },
+        Note::Base(base) => Notes { place, base, ..th },
+        Note::Parent(parent) => Notes {
+            place,
+            parent,
+            ..th
+        },
+        Note::Side(left) => Notes { place, left, ..th },
+        Note::Found(found) => Notes { place, found, ..th },
+        Note::Neighbour(neighbour) => Notes {
+            place,
+            neighbour,
+            ..th
+        },
+        Note::Main { main, owner } => Notes {
+            place,
+            main,
+            owner,
+            ..th
+        },
+        Note::Grandparent(grandparent) => Notes {
+            place,
+            grandparent,
+            ..th
+        },
+        Note::Other(other) => Notes { place, other, ..th },
     }
 }
 
 // The depths follow what a step writes, where they are lent. The nodes are those before it.
-fn follow(cells: &[u8; 5120], sets: &[u64; 256], depths: &mut [u16], w: Write)
-    ensures { Followed (table cells.now sets.now) depths.old (effect_of w) depths.new }
+fn follow(nodes: &Nodes, depths: &mut [u16], w: Write)
+    ensures { Followed (table nodes.now) depths.old (effect_of w) depths.new }
 {
-    if depths.len() == 16384 {
-        effects::deepen(cells, sets, depths, w);
+    if let Some(lent) = depths.as_mut_array() {
+        effects::deepen(nodes, lent, w);
     }
 }
 
 // What a step writes is carried out on the nodes, and on the depths where they are lent; gives the root.
-pub fn enact(
-    cells: &mut [u8; 5120],
-    sets: &mut [u64; 256],
-    depths: &mut [u16],
-    root: u8,
-    used: u16,
-    writes: bool,
-    w: Write,
-) -> u8
-    ensures { Enacts (table cells.old sets.old) depths.old root used (written writes w) (table cells.new sets.new) depths.new result }
+pub fn enact(nodes: &mut Nodes, depths: &mut [u16], root: u8, used: u16, w: Write) -> u8
+    ensures { Enacts (table nodes.old) depths.old root used (effect_of w) (table nodes.new) depths.new result }
 {
-    if writes {
-        follow(cells, sets, depths, w);
-        effects::apply(cells, sets, root, used, w)
-    } else {
-        root
+    match w {
+        Write::Quiet => root,
+        _ => {
+            follow(nodes, depths, w);
+            effects::apply(nodes, root, used, w)
+        }
     }
 }
 
@@ -265,25 +182,7 @@ pub fn depth_of(depths: &[u16], answer: Answer, s: u8) -> u16
     ensures { result ≡ depth_by answer (rows depths.now) s }
 {
     match answer {
-        Answer::No => 0,
-        Answer::Yes => 0,
         Answer::At(x) => depths::depth_at(depths, x, s),
-        Answer::Lacking => 0,
-        Answer::Blocked => 0,
-        Answer::Lost => 0,
-        Answer::NeighbourBlocked => 0,
-        Answer::StoodDown => 0,
-        Answer::Stopped => 0,
-    }
-}
-
-// The numbers used after it.
-pub fn used_then(used: u16, writes: bool, w: Write) -> u16
-    ensures { result ≡ used_after used (written writes w) }
-{
-    if writes {
-        effects::used_after(used, w)
-    } else {
-        used
+        _ => 0,
     }
 }

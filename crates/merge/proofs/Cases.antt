@@ -1,10 +1,10 @@
 -- The loops of Merge, one record more at a time, each with the code's own facts as premises. Assumes nothing.
-use mathlib.Core.Path.{◌≡◌, refl, ap, ◌∙◌}
+use mathlib.Core.Path.{◌≡◌, refl, sym, ap, ◌∙◌}
+use mathlib.Core.Bool.{Bool, true, false, not, ◌||◌}
 use mathlib.Core.List.{List, [], ◌∷◌}
 use Prim.Native.Nat.{ℕ, ◌+◌, ◌/◌, ◌≤◌}
 use native.Mathlib.Numerals.{add-one}
 use native.Mathlib.Omega.{arith}
-use borrow.Author.Tests.{eq-eqb, ne_eqb}
 use lib.Dec.{eqb}
 use lib.ListN.{length, set, length-set}
 use Rattle.container.specs.Choice.{ite}
@@ -14,24 +14,25 @@ use Rattle.definitions.specs.Merge.{first_byte, second_byte, foreign, turns}
 
 -- ---- threads that are not the file's
 
--- one record, whose first byte is x
-module _ (x f before : ℕ) where
-  pub refused_own : x / 16 / 2 ≡ f → before ≡ ite (eqb (x / 16 / 2) f) before 17
-  unfolding ite
-  refused_own e = rw (eq-eqb _ _ e)
-
-  pub refused_foreign : (x / 16 / 2 ≡ f → ⊥) → 17 ≡ ite (eqb (x / 16 / 2) f) before 17
-  unfolding ite
-  refused_foreign e = rw (ne_eqb _ _ e)
-
 module _ (f : ℕ) (file : List ℕ) where
-  pub foreign_none : 0 ≡ foreign f file 0
-  unfolding foreign
+  pub foreign_none : foreign f file 0 ≡ ite false 17 0
+  unfolding foreign ite
   foreign_none = refl
 
-  pub foreign_more : (k : ℕ) {r s : ℕ} → r ≡ foreign f file k → s ≡ ite (eqb (first_byte file k / 16 / 2) f) r 17 → s ≡ foreign f file (k + 1)
-  unfolding foreign
-  foreign_more k e h = rw (add-one, ← e) h
+  -- whether one record more is
+  pub foreign_more : (k : ℕ) (o : Bool) → foreign f file k ≡ ite o 17 0 → foreign f file (k + 1) ≡ ite (o || not (eqb (first_byte file k / 16 / 2) f)) 17 0
+  unfolding foreign ite
+  foreign_more k o e = rw (add-one, e) (by o (eqb (first_byte file k / 16 / 2) f))
+    where
+      by : (o t : Bool) → ◌≡◌ {A = ℕ} (ite t (ite o 17 0) 17) (ite (o || not t) 17 0)
+      by true true = refl
+      by true false = refl
+      by false true = refl
+      by false false = refl
+
+  -- after all of them
+  pub foreign_all : {k n : ℕ} (o b : Bool) → k ≤ n → n ≤ k → foreign f file k ≡ ite o 17 0 → o ≡ b → ite b 17 0 ≡ foreign f file n
+  foreign_all {k} {n} o b h i e z = let same : k ≡ n = omega arith in rw (← same, ← z) (sym e)
 
 -- ---- records in turns
 

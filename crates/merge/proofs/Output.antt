@@ -3,17 +3,23 @@ use mathlib.Core.Path.{◌≡◌, refl, ap, ◌∙◌}
 use mathlib.Core.List.{List, [], ◌∷◌}
 use Prim.Native.Nat.{ℕ, zero, suc, ◌+◌, ◌-◌, ◌*◌, ◌/◌, ◌%◌, ◌≤◌, ◌<◌, min}
 use native.Mathlib.Omega.{arith}
-use borrow.Author.Tests.{eq-eqb, ne_eqb, lt-ltb, le-ltb}
+use borrow.Author.Tests.{ne_eqb, lt-ltb, le-ltb}
 use lib.ListN.{length, set, take, drop, length-append, length-set}
+use Rattle.std.specs.Prelude.{Result, IsErrAnd}
+use Rattle.std.specs.Borrow.{Bor}
+use Rattle.std.proofs.lemmas.Result.{err_from_is_err_and}
 use Rattle.container.specs.Choice.{ite}
 use Rattle.buffer.specs.Page.{Page, page, put, put_all}
 use Rattle.buffer.proofs.Laws.{put_room, put_fits}
+use Rattle.definitions.specs.declared.Refusal.{Refusal}
+use Rattle.definitions.specs.Refusal.{refusal_number, code_of}
+use Rattle.definitions.proofs.Refusals.{refused as not_0}
 use Rattle.definitions.specs.Schedule.{count_of}
 use Rattle.definitions.specs.Run.{overlay}
 use Rattle.definitions.specs.Merge.{smaller, needed, turns, merge_refusal, merge_bytes, merge_buffer, left_over, merge_report, part_of}
 use Rattle.schedule.specs.Proper.{Plain}
 use Rattle.merge.specs.Accepted.{Accepted}
-use Rattle.merge.specs.Merging.{Merging}
+use Rattle.merge.specs.Merging.{Merging, rest_of}
 
 -- ---- the bytes
 
@@ -62,11 +68,14 @@ module _ (first second : List ℕ) {a b : ℕ} (h : Plain first × Plain second)
 
 -- ---- both
 
-module _ (first second out : List ℕ) {bad : ℕ} (e : bad ≡ merge_refusal first second (length out)) where
-  pub refused : (bad ≡ 0 → ⊥) → Merging first second out bad out []
+module _ (first second out : List ℕ) where
+  -- where `?` hands on the refusal k
+  pub refused : (k : Refusal) (r : Result (Bor (List ℕ)) Refusal) → refusal_number k ≡ merge_refusal first second (length out) → IsErrAnd r (λ e. e ≡ k) → Merging first second out (code_of r) out (rest_of r)
   unfolding merge_buffer merge_report part_of ite
-  refused i = record { refused = e; output = rw (← e, ne_eqb _ _ i); rest = rw (← e, ne_eqb _ _ i) }
+  refused k r e h =
+      let p = err_from_is_err_and r h in
+      rw (p.1, p.2) (record { refused = e; output = rw (← e, ne_eqb _ _ (not_0 k)); rest = rw (← e, ne_eqb _ _ (not_0 k)) })
 
-  pub merged : {w s : List ℕ} → bad ≡ 0 → w ≡ overlay (merge_bytes first second) out → s ≡ part_of first second (left_over first second) → Merging first second out bad w s
+  pub merged : {w s : List ℕ} → 0 ≡ merge_refusal first second (length out) → w ≡ overlay (merge_bytes first second) out → s ≡ part_of first second (left_over first second) → Merging first second out 0 w s
   unfolding merge_buffer merge_report ite
-  merged z f g = record { refused = e; output = rw (← e, eq-eqb _ _ z) f; rest = rw (← e, eq-eqb _ _ z) g }
+  merged e f g = record { refused = e; output = rw (← e) f; rest = rw (← e) g }

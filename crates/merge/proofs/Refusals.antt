@@ -19,9 +19,12 @@ over : {k : ℕ} (ks : List ℕ) → k ≡ 0 → first_of ks ≡ first_of (k ∷
 unfolding first_of ite
 over ks z = rw (eq-eqb _ _ z)
 
-here : {k : ℕ} (ks : List ℕ) → (k ≡ 0 → ⊥) → k ≡ first_of (k ∷ ks)
+past : (ks : List ℕ) → first_of ks ≡ first_of (0 ∷ ks)
+past ks = over ks refl
+
+here : {k : ℕ} (ks : List ℕ) → 1 ≤ k → k ≡ first_of (k ∷ ks)
 unfolding first_of ite
-here ks z = rw (ne_eqb _ _ z)
+here {k} ks h = rw (ne_eqb k 0 (λ z. omega arith))
 
 none : (k : ℕ) (ks : List ℕ) → first_of (k ∷ ks) ≡ 0 → (k ≡ 0) × (first_of ks ≡ 0)
 unfolding first_of ite
@@ -50,49 +53,46 @@ fits a b k i = by (ltb a b) refl
 
 -- ---- in order
 
--- the refusals that are left once the files are right and have only their own threads; a and b are the counts
-abbrev pub last_two : ℕ → ℕ → ℕ → ℕ
-last_two a b room = first_of (ite (ltb 4096 (a + b)) 3 0 ∷ ite (ltb room (3 + 4 * min a b)) 18 0 ∷ [])
-
-module _ (first second : List ℕ) (room : ℕ) {u : ℕ} (e : u ≡ fault first) where
-  pub by_first : (u ≡ 0 → ⊥) → u ≡ merge_refusal first second room
+module _ (first second : List ℕ) (room : ℕ) where
+  pub by_first : {u : ℕ} → 1 ≤ u → u ≡ fault first → u ≡ merge_refusal first second room
   unfolding merge_refusal
-  by_first i = rw (← e) (here _ i)
+  by_first i e = rw (← e) (here _ i)
 
-  module _ (z : u ≡ 0) {v : ℕ} (f : v ≡ fault second) where
-    pub by_second : (v ≡ 0 → ⊥) → v ≡ merge_refusal first second room
+  module _ (e : 0 ≡ fault first) where
+    pub by_second : {u : ℕ} → 1 ≤ u → u ≡ fault second → u ≡ merge_refusal first second room
     unfolding merge_refusal
-    by_second i = rw (← e, ← f) (here _ i ∙ over _ z)
+    by_second i f = rw (← e, ← f) (here _ i ∙ past _)
 
-    module _ (y : v ≡ 0) {a b s : ℕ} (c : a ≡ count_of first) (d : b ≡ count_of second) (g : s ≡ foreign 0 first a) where
-      pub by_foreign : (s ≡ 0 → ⊥) → s ≡ merge_refusal first second room
+    module _ (f : 0 ≡ fault second) {a b : ℕ} (c : a ≡ count_of first) (d : b ≡ count_of second) where
+      pub by_foreign : {u : ℕ} → 1 ≤ u → u ≡ foreign 0 first a → u ≡ merge_refusal first second room
       unfolding merge_refusal
-      by_foreign i = rw (← e, ← f, ← c, ← g) (here _ i ∙ (over _ y ∙ over _ z))
+      by_foreign i g = rw (← e, ← f, ← c, ← g) (here _ i ∙ (past _ ∙ past _))
 
-      module _ (x : s ≡ 0) {t : ℕ} (h : t ≡ foreign 1 second b) where
-        pub by_foreign_2 : (t ≡ 0 → ⊥) → t ≡ merge_refusal first second room
+      module _ (g : 0 ≡ foreign 0 first a) where
+        pub by_foreign_2 : {u : ℕ} → 1 ≤ u → u ≡ foreign 1 second b → u ≡ merge_refusal first second room
         unfolding merge_refusal
-        by_foreign_2 i = rw (← e, ← f, ← c, ← d, ← g, ← h) (here _ i ∙ (over _ x ∙ (over _ y ∙ over _ z)))
+        by_foreign_2 i h = rw (← e, ← f, ← c, ← d, ← g, ← h) (here _ i ∙ (past _ ∙ (past _ ∙ past _)))
 
-        pub so_far : t ≡ 0 → last_two a b room ≡ merge_refusal first second room
-        unfolding merge_refusal
-        so_far w = rw (← e, ← f, ← c, ← d, ← g, ← h) (over _ w ∙ (over _ x ∙ (over _ y ∙ over _ z)))
+        -- nothing is refused before the total
+        module _ (h : 0 ≡ foreign 1 second b) where
+          last_two : first_of (ite (ltb 4096 (a + b)) 3 0 ∷ ite (ltb room (3 + 4 * min a b)) 18 0 ∷ []) ≡ merge_refusal first second room
+          unfolding merge_refusal
+          last_two = rw (← e, ← f, ← c, ← d, ← g, ← h) (past _ ∙ (past _ ∙ (past _ ∙ past _)))
 
-module _ (a b room : ℕ) {m : ℕ} (e : last_two a b room ≡ m) where
-  pub by_total : 4096 < a + b → 3 ≡ m
-  by_total l = below 4096 (a + b) 3 l ∙ (here _ (λ q. omega (arith, below 4096 (a + b) 3 l ∙ q)) ∙ e)
+          pub by_total : 4096 < a + b → 3 ≡ merge_refusal first second room
+          by_total l = below 4096 (a + b) 3 l ∙ (here _ (omega (arith, below 4096 (a + b) 3 l)) ∙ last_two)
 
-  module _ (l : a + b ≤ 4096) where
-    last : first_of (ite (ltb room (3 + 4 * min a b)) 18 0 ∷ []) ≡ m
-    last = over _ (above 4096 (a + b) 3 l) ∙ e
+          module _ (l : a + b ≤ 4096) {n : ℕ} (q : n ≡ min a b) where
+            last : first_of (ite (ltb room (3 + 4 * min a b)) 18 0 ∷ []) ≡ merge_refusal first second room
+            last = over _ (above 4096 (a + b) 3 l) ∙ last_two
 
-    pub by_short : {n : ℕ} → n ≡ min a b → room < 3 + 4 * n → 18 ≡ m
-    unfolding first_of ite
-    by_short q i = rw (lt-ltb room (3 + 4 * min a b) (rw q at i)) at last
+            pub by_short : room < 3 + 4 * n → 18 ≡ merge_refusal first second room
+            unfolding first_of ite
+            by_short i = rw (lt-ltb room (3 + 4 * min a b) (rw q at i)) at last
 
-    pub by_none : {n : ℕ} → n ≡ min a b → 3 + 4 * n ≤ room → 0 ≡ m
-    unfolding first_of ite
-    by_none q i = rw (le-ltb room (3 + 4 * min a b) (rw q at i)) at last
+            pub by_none : 3 + 4 * n ≤ room → 0 ≡ merge_refusal first second room
+            unfolding first_of ite
+            by_none i = rw (le-ltb room (3 + 4 * min a b) (rw q at i)) at last
 
 -- ---- none
 

@@ -65,19 +65,20 @@ pub extern "C" fn nuxalder_merge<'a>(
 )
     ensures { (report.new ≡ merge_fields (merge_report first.now second.now (length out.old))) × (out.new ≡ merge_buffer first.now second.now out.old) }
 {
-    let mut refusal = 0u64;
-    let part = merge::merge(first, second, out, &mut refusal);
-    let n = part.len();
-    if refusal != 0 {
-        *report = [refusal, 0, 0, 0];
-        return;
+    match merge::merge(first, second, out) {
+        Err(r) => {
+            *report = [u64::from(r), 0, 0, 0];
+        }
+        Ok(part) => {
+            // a part goes to the end of its file
+            let n = part.len();
+            if first.len() < second.len() {
+                *report = [0, 1, (second.len() - n) as u64, n as u64];
+            } else {
+                *report = [0, 0, (first.len() - n) as u64, n as u64];
+            }
+        }
     }
-    // a part goes to the end of its file
-    if first.len() < second.len() {
-        *report = [0, 1, (second.len() - n) as u64, n as u64];
-        return;
-    }
-    *report = [0, 0, (first.len() - n) as u64, n as u64];
 }
 
 // void nuxalder_history(const uint8_t *schedule, size_t length, uint8_t *history, size_t length, uint64_t report[2])

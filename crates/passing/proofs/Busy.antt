@@ -1,4 +1,5 @@
 -- A step that does not finish leaves its thread busy. Assumes nothing.
+use Rattle.std.specs.Prelude.{Option, Some, None}
 use mathlib.Core.Path.{◌≡◌, refl}
 use mathlib.Core.Bool.{Bool, true, false}
 use mathlib.Core.List.{List, [], ◌∷◌}
@@ -9,8 +10,6 @@ use borrow.Author.Tests.{ne_eqb}
 use Rattle.definitions.specs.declared.Quarter.{Quarter}
 use Rattle.definitions.specs.Records.{is_idle}
 use Rattle.container.specs.Choice.{ite}
-use Rattle.definitions.specs.declared.Link.{Link}
-use Rattle.definitions.specs.declared.Link.TheVariants.{Nil, To}
 use Rattle.definitions.specs.declared.Node.{Node}
 use Rattle.definitions.specs.declared.Action.{Action}
 use Rattle.definitions.specs.declared.Action.TheVariants.{Lookup, Insert, Remove, Split, Join, Query}
@@ -18,8 +17,6 @@ use Rattle.definitions.specs.declared.Spot.{Spot}
 use Rattle.definitions.specs.declared.Probe.{Probe}
 use Rattle.definitions.specs.declared.Probe.TheVariants.{Hit, Next, Miss}
 use Rattle.definitions.specs.declared.Check.{Check}
-use Rattle.definitions.specs.declared.Shared.{Shared}
-use Rattle.definitions.specs.declared.Shared.TheVariants.{Unset, Set}
 use Rattle.definitions.specs.declared.Effect.{Effect}
 use Rattle.definitions.specs.declared.Effect.TheVariants.{Quiet}
 use Rattle.definitions.specs.Threads.{Frame, Thread, Turn, Moves, Finishes, Finds, Full, NoStore}
@@ -43,9 +40,9 @@ number_busy united q = ne_eqb (41 + quarter_number q) 0 (λ e. omega arith)
 number_busy opening q = ne_eqb (64 + quarter_number q) 0 (λ e. omega arith)
 number_busy next q = ne_eqb (77 + quarter_number q) 0 (λ e. omega arith)
 
-back_busy : (l : Link) → eqb (number (back_out l)) 0 ≡ false
-back_busy Nil = refl
-back_busy (To g) = refl
+back_busy : (l : Option ℕ) → eqb (number (back_out l)) 0 ≡ false
+back_busy None = refl
+back_busy (Some g) = refl
 
 fork : (th : Thread) (c : Bool) (o o' : Turn) → Stays o → Stays o' → Stays (ite c o o')
 unfolding ite
@@ -70,9 +67,9 @@ added : (e : Effect) (c : ℕ) (f : Frame) (fs : List Frame) (th : Thread) → S
 unfolding adding
 added e c f fs th = fork th _ _ _ refl (nexted f.stack e _ fs th)
 
-first_found : (l : Link) (n : Node) (f : Frame) (fs : List Frame) (th : Thread) → Stays (found_first l n f fs th)
-first_found Nil n f fs th = refl
-first_found (To k) n f fs th = fork th _ _ _ (added Quiet _ f fs th) refl
+first_found : (l : Option ℕ) (n : Node) (f : Frame) (fs : List Frame) (th : Thread) → Stays (found_first l n f fs th)
+first_found None n f fs th = refl
+first_found (Some k) n f fs th = fork th _ _ _ (added Quiet _ f fs th) refl
 
 in_frame_lem : (fs : List Frame) (k : Frame → List Frame → Turn) → ((f : Frame) (gs : List Frame) → Stays (k f gs)) → Stays (in_frame fs k)
 in_frame_lem [] k h = tt
@@ -132,10 +129,10 @@ module _ (s : Sight) (th : Thread) (busy : is_idle th ≡ false) where
   block Join c = tt
   block Query c = tt
 
-  link : (on : Bool) (l : Link) → Stays (join_under on l th)
-  link on Nil = tt
-  link false (To p) = refl
-  link true (To p) = refl
+  link : (on : Bool) (l : Option ℕ) → Stays (join_under on l th)
+  link on None = tt
+  link false (Some p) = refl
+  link true (Some p) = refl
 
   clear : (a : Action) → Stays (cleared_as a s.stop.on (s.nodes th.base) th)
   clear Lookup = tt
@@ -169,25 +166,25 @@ module _ (s : Sight) (th : Thread) (busy : is_idle th ≡ false) where
   by_united (Next q) m = number_busy united q
   by_united Miss m = refl
 
-  grand : (l : Link) → Stays (grand_marking l s.nodes th)
-  grand Nil = refl
-  grand (To g) = fork th _ _ _ refl refl
+  grand : (l : Option ℕ) → Stays (grand_marking l s.nodes th)
+  grand None = refl
+  grand (Some g) = fork th _ _ _ refl refl
 
-  at_46 : (l : Link) (m : Node) → Stays (cut_at l m s.nodes s.root th)
-  at_46 Nil m = fork th _ _ _ refl refl
-  at_46 (To g) m = fork th _ _ _ refl refl
+  at_46 : (l : Option ℕ) (m : Node) → Stays (cut_at l m s.nodes s.root th)
+  at_46 None m = fork th _ _ _ refl refl
+  at_46 (Some g) m = fork th _ _ _ refl refl
 
-  at_47 : (d : Bool) (l : Link) (m : Node) → Stays (cut_on d l m s.nodes th)
-  at_47 d Nil m = refl
-  at_47 d (To g) m = fork th _ _ _ refl refl
+  at_47 : (d : Bool) (l : Option ℕ) (m : Node) → Stays (cut_on d l m s.nodes th)
+  at_47 d None m = refl
+  at_47 d (Some g) m = fork th _ _ _ refl refl
 
-  at_48 : (l : Link) (m : Node) → Stays (cut_right l m s.nodes th)
-  at_48 Nil m = refl
-  at_48 (To g) m = fork th _ _ _ refl refl
+  at_48 : (l : Option ℕ) (m : Node) → Stays (cut_right l m s.nodes th)
+  at_48 None m = refl
+  at_48 (Some g) m = fork th _ _ _ refl refl
 
-  at_50 : (l : Link) → Stays (freeing l s.nodes th)
-  at_50 Nil = refl
-  at_50 (To g) = fork th _ _ _ refl refl
+  at_50 : (l : Option ℕ) → Stays (freeing l s.nodes th)
+  at_50 None = refl
+  at_50 (Some g) = fork th _ _ _ refl refl
 
   -- 60 to 82
   first_reached : (x : ℕ) (l : List ℕ) (f : Frame) (fs : List Frame) → Stays (reached_first s.nodes x l f fs th)
@@ -202,18 +199,18 @@ module _ (s : Sight) (th : Thread) (busy : is_idle th ≡ false) where
   popped [] f fs = refl
   popped (x ∷ l) f fs = refl
 
-  met : (v : Shared) (n : Node) (f : Frame) (fs : List Frame) → Stays (met_by v n f fs th)
-  met Unset n f fs = fork th _ _ _ (added Quiet _ f fs th) refl
-  met (Set c) n f fs = refl
+  met : (v : Option ℕ) (n : Node) (f : Frame) (fs : List Frame) → Stays (met_by v n f fs th)
+  met None n f fs = fork th _ _ _ (added Quiet _ f fs th) refl
+  met (Some c) n f fs = refl
 
-  fills : (v : Shared) (f : Frame) → Stays (filling v f th)
-  fills Unset f = refl
-  fills (Set c) f = refl
+  fills : (v : Option ℕ) (f : Frame) → Stays (filling v f th)
+  fills None f = refl
+  fills (Some c) f = refl
 
-  read_out_lem : (v : Shared) (fs : List Frame) → Stays (read_out v fs th)
-  read_out_lem Unset fs = tt
-  read_out_lem (Set r) [] = fork th _ _ _ tt refl
-  read_out_lem (Set r) (f ∷ fs) = backed (f ∷ fs) Quiet th
+  read_out_lem : (v : Option ℕ) (fs : List Frame) → Stays (read_out v fs th)
+  read_out_lem None fs = tt
+  read_out_lem (Some r) [] = fork th _ _ _ tt refl
+  read_out_lem (Some r) (f ∷ fs) = backed (f ∷ fs) Quiet th
 
   by_opening : (o : Probe) (n : Node) (f : Frame) (fs : List Frame) → Stays (opened_by o n s f fs th)
   by_opening (Hit v) n f fs = fork th _ _ _ (fork th _ _ _ (added _ _ _ fs th) tt) tt

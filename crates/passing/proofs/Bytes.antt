@@ -1,4 +1,6 @@
 -- A list of events written as a file and read back. Assumes nothing.
+use Rattle.std.proofs.lemmas.Bool.{and_parts}
+use Rattle.std.specs.Prelude.{Option, Some, None}
 use mathlib.Core.Path.{◌≡◌, refl, sym, ◌∙◌, ap, subst}
 use mathlib.Core.Bool.{true, false}
 use mathlib.Core.List.{List, [], ◌∷◌}
@@ -9,11 +11,8 @@ use lib.ListN.{get_or, length}
 use borrow.Author.Tests.{eq-eqb, ne_eqb, le-ltb, ltb-true}
 use Rattle.container.specs.Choice.{ite}
 use Rattle.definitions.specs.Schedule.{count_of}
-use Rattle.definitions.specs.declared.Link.{Link}
-use Rattle.definitions.specs.declared.Link.TheVariants.{Nil, To}
 use Rattle.definitions.specs.History.{Event, Events, events_of, Reading, unread, ended_by, noted, in_place, reading, all_in_place, unfinished, reading_of, form_refusal, events_refusal, history_refusal}
 use Rattle.definitions.specs.History.{in_range}
-use Rattle.judge.proofs.Tools.{and_both}
 use Rattle.definitions.specs.Written.{start_of, starts, bytes_of, history_of}
 use Rattle.passing.proofs.Fold.{read_all}
 use Rattle.passing.proofs.Pass.{AllPlaced}
@@ -89,16 +88,16 @@ unfolding ite
 one_more_lem zero e R q = rw (eq-eqb e.mark 0 q) (omega arith)
 one_more_lem (suc m) e R q = rw (ne_eqb e.mark 0 (λ z. omega arith)) (by (R.busy e.thread))
   where
-    by : (l : Link) → (ended_by l e R).all.count ≡ start_of (suc m) + R.all.count
-    by Nil = omega arith
-    by (To i) = omega arith
+    by : (l : Option ℕ) → (ended_by l e R).all.count ≡ start_of (suc m) + R.all.count
+    by None = omega arith
+    by (Some i) = omega arith
 
 count_all : (es : List Event) (R : Reading) → (read_all es R).all.count ≡ starts es + R.all.count
 count_all [] R = omega arith
 count_all (e ∷ es) R = omega (arith, count_all es (noted e R), one_more_lem e.mark e R refl)
 
 -- ---- the whole file
-module _ (es : List Event) (pl : AllPlaced es unread) (few : starts es ≤ 12) (free : (t : ℕ) → (read_all es unread).busy t ≡ Nil) where
+module _ (es : List Event) (pl : AllPlaced es unread) (few : starts es ≤ 12) (free : (t : ℕ) → (read_all es unread).busy t ≡ None) where
   back : (k : ℕ) → k < length es → events_of (history_of es) (0 + k) ≡ nth es k
   back k h = ap (events_of (history_of es)) (let q : 0 + k ≡ k = omega arith in q) ∙ event_back es k h
 
@@ -148,10 +147,10 @@ record Small (e : Event) : Type 0 where
 small : (e : Event) (R : Reading) → in_place e R ≡ true → Small e
 unfolding in_place
 small e R p =
-    let q0 = and_both (ltb e.thread 4) _ (and_both (in_range e) _ p).0 in
-    let q1 = and_both (ltb 0 e.action) _ q0.1 in
-    let q2 = and_both (ltb e.action 4) _ q1.1 in
-    let q3 = and_both (ltb e.station 64) (ltb e.mark 3) q2.1 in
+    let q0 = and_parts (ltb e.thread 4) _ (and_parts (in_range e) _ p).0 in
+    let q1 = and_parts (ltb 0 e.action) _ q0.1 in
+    let q2 = and_parts (ltb e.action 4) _ q1.1 in
+    let q3 = and_parts (ltb e.station 64) (ltb e.mark 3) q2.1 in
     record { thread = ltb-true e.thread 4 q0.0; action = ltb-true e.action 4 q2.0; station = ltb-true e.station 64 q3.0; mark = ltb-true e.mark 3 q3.1 }
 
 event_bytes : (es : List Event) (R : Reading) → AllPlaced es R → (j : ℕ) → get_or (bytes_of es) j 0 < 256

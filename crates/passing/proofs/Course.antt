@@ -1,4 +1,5 @@
 -- Record by record: a start, a step that goes on, a step that ends; then the induction over the list of records. Assumes nothing.
+use Rattle.std.specs.Prelude.{Option, Some, None}
 use mathlib.Core.Path.{◌≡◌, refl, sym, ◌∙◌, ap, subst, fun_ext}
 use mathlib.Core.Logic.{◌≢◌, inl, inr}
 use mathlib.Core.Bool.{Bool, true, false, not}
@@ -8,8 +9,6 @@ use native.Mathlib.Omega.{arith}
 use lib.Dec.{eqb}
 use borrow.Author.Tests.{eq-eqb, ne_eqb, lt-ltb}
 use Rattle.container.specs.Choice.{ite, upd}
-use Rattle.definitions.specs.declared.Link.{Link}
-use Rattle.definitions.specs.declared.Link.TheVariants.{Nil, To}
 use Rattle.definitions.specs.declared.Action.{Action}
 use Rattle.definitions.specs.declared.Action.TheVariants.{Lookup, Insert, Remove, Split, Join, Query}
 use Rattle.definitions.specs.Bench.{Bench}
@@ -50,11 +49,11 @@ mark_says a true e = rw e
 mark_says a false e = rw e
 
 module _ (e : Event) (R : Reading) (t : e.thread < 4) (a : 0 < e.action) (b : e.action ≤ 3) (s : e.station < 64) where
-  start_in : e.mark ≡ 0 → R.busy e.thread ≡ Nil → in_place e R ≡ true
+  start_in : e.mark ≡ 0 → R.busy e.thread ≡ None → in_place e R ≡ true
   unfolding in_place ite
   start_in m f = rw (lt-ltb e.thread 4 t, lt-ltb 0 e.action a, lt-ltb e.action 4 (omega arith), lt-ltb e.station 64 s, lt-ltb e.mark 3 (omega arith), eq-eqb e.mark 0 m, f)
 
-  finish_in : (i : ℕ) → e.mark ≢ 0 → e.mark < 3 → R.busy e.thread ≡ To i → e.action ≡ (R.all.operation i).action → e.station ≡ (R.all.operation i).station → in_place e R ≡ true
+  finish_in : (i : ℕ) → e.mark ≢ 0 → e.mark < 3 → R.busy e.thread ≡ Some i → e.action ≡ (R.all.operation i).action → e.station ≡ (R.all.operation i).station → in_place e R ≡ true
   unfolding in_place ite
   finish_in i m l d x y = rw (lt-ltb e.thread 4 t, lt-ltb 0 e.action a, lt-ltb e.action 4 (omega arith), lt-ltb e.station 64 s, lt-ltb e.mark 3 l, ne_eqb e.mark 0 m, d, eq-eqb e.action (R.all.operation i).action x, eq-eqb e.station (R.all.operation i).station y)
 
@@ -67,7 +66,7 @@ carried_start Split t y P = refl
 carried_start Join t y P = refl
 carried_start Query t y P = refl
 
-first_start : (a : Action) (t k : ℕ) (f : ℕ → Link) → first_steps (action_number a) t k f ≡ upd f t Nil
+first_start : (a : Action) (t k : ℕ) (f : ℕ → Option ℕ) → first_steps (action_number a) t k f ≡ upd f t None
 first_start Lookup t k f = refl
 first_start Insert t k f = refl
 first_start Remove t k f = refl
@@ -89,9 +88,9 @@ event_start Split b r = refl
 event_start Join b r = refl
 event_start Query b r = refl
 
-module _ (H : Hist) (r : Rec) (rs : List Rec) (b b' : Bench) (P : Plain) (f : ℕ → Link) (k : ℕ) (R : Reading) (z : Standing H (r ∷ rs) b P f k) (l : Linked b P R) (tidy : Tidy R) (small : r.first / 16 < 4) where
+module _ (H : Hist) (r : Rec) (rs : List Rec) (b b' : Bench) (P : Plain) (f : ℕ → Option ℕ) (k : ℕ) (R : Reading) (z : Standing H (r ∷ rs) b P f k) (l : Linked b P R) (tidy : Tidy R) (small : r.first / 16 < 4) where
   abbrev Onward : Type 0
-  Onward = (P' : Plain) (f' : ℕ → Link) (R' : Reading) → Standing H rs b' P' f' (suc k) → Linked b' P' R' → Tidy R' → OnlyThree (events_from rs b') → AllFinished (end_from rs b') → Passed H (events_from rs b') R' f' (suc k)
+  Onward = (P' : Plain) (f' : ℕ → Option ℕ) (R' : Reading) → Standing H rs b' P' f' (suc k) → Linked b' P' R' → Tidy R' → OnlyThree (events_from rs b') → AllFinished (end_from rs b') → Passed H (events_from rs b') R' f' (suc k)
 
   abbrev t : ℕ
   t = r.first / 16
@@ -103,7 +102,7 @@ module _ (H : Hist) (r : Rec) (rs : List Rec) (b b' : Bench) (P : Plain) (f : �
   start_case : (n : ℕ) → Started b t r.second n b' → Standing H rs b' (carried_out n t r.second false P) (first_steps n t k f) (suc k)
       → OnlyThree (event_of n b r no_row ++ events_from rs b') → AllFinished (end_from rs b') → Onward → Passed H (event_of n b r no_row ++ events_from rs b') R f k
   start_case n s z' o fin ih = subst (λ v. Passed H (v ++ events_from rs b') R f k) (sym is) (on_start H e (events_from rs b') R f k tidy quiet refl small free (start_in e R small (number_low s.what) three.0 s.low refl free)
-      (ih (start t s.what r.second P) (upd f t Nil) (noted e R) standing linked tidy' three.1 fin))
+      (ih (start t s.what r.second P) (upd f t None) (noted e R) standing linked tidy' three.1 fin))
     where
       e : Event
       e = start_event r s.what
@@ -114,15 +113,15 @@ module _ (H : Hist) (r : Rec) (rs : List Rec) (b b' : Bench) (P : Plain) (f : �
       three : OnlyThree (e ∷ events_from rs b')
       three = subst (λ v. OnlyThree (v ++ events_from rs b')) is o
 
-      free : R.busy t ≡ Nil
+      free : R.busy t ≡ None
       free = rested b P R t l s.rested
 
-      standing : Standing H rs b' (start t s.what r.second P) (upd f t Nil) (suc k)
+      standing : Standing H rs b' (start t s.what r.second P) (upd f t None) (suc k)
       standing = subst (λ v. Standing H rs b' (start t s.what r.second P) v (suc k)) (ap (λ v. first_steps v t k f) s.number ∙ first_start s.what t k f)
           (subst (λ v. Standing H rs b' v (first_steps n t k f) (suc k)) (ap (λ v. carried_out v t r.second false P) s.number ∙ carried_start s.what t r.second P) z')
 
       quiet : H (suc k) ≡ H k
-      quiet = fun_ext (λ v. now_is H rs b' (start t s.what r.second P) (upd f t Nil) (suc k) standing v ∙ sym (set_now v))
+      quiet = fun_ext (λ v. now_is H rs b' (start t s.what r.second P) (upd f t None) (suc k) standing v ∙ sym (set_now v))
 
       linked : Linked b' (start t s.what r.second P) (noted e R)
       linked = subst (λ Q. Linked b' (start t s.what r.second P) Q) (sym (noted_start e R refl)) (linked_start b b' P R l tidy e r.second n s (sym s.number) refl)
@@ -198,14 +197,14 @@ module _ (H : Hist) (r : Rec) (rs : List Rec) (b b' : Bench) (P : Plain) (f : �
       by Join q y = absurd (omega (arith, three.0, ap action_number q))
       by Query q y = absurd (omega (arith, three.0, ap action_number q))
 
-pub pass : (H : Hist) (rs : List Rec) (b : Bench) (P : Plain) (f : ℕ → Link) (k : ℕ) (R : Reading) → Standing H rs b P f k → Linked b P R → Tidy R
+pub pass : (H : Hist) (rs : List Rec) (b : Bench) (P : Plain) (f : ℕ → Option ℕ) (k : ℕ) (R : Reading) → Standing H rs b P f k → Linked b P R → Tidy R
     → OnlyThree (events_from rs b) → AllFinished (end_from rs b) → Passed H (events_from rs b) R f k
 pass H [] b P f k R z l tidy o fin = stops H b P R f k l tidy fin
 pass H (r ∷ rs) b P f k R z l tidy o fin = go (record_step b r.last r.first r.second r.extra) (next H r rs b P f k z) (did b r.last r.first r.second r.extra) o fin (λ b' P' f' R'. pass H rs b' P' f' (suc k) R')
   where
     go : (res : Result) → Next H r rs b P (firsts r k f) k res → Did b (r.first / 16) r.second (r.first % 16) res
         → OnlyThree (events_by res b r (λ b'. events_from rs b')) → AllFinished (end_by res b (λ b'. end_from rs b'))
-        → ((b' : Bench) (P' : Plain) (f' : ℕ → Link) (R' : Reading) → Standing H rs b' P' f' (suc k) → Linked b' P' R' → Tidy R' → OnlyThree (events_from rs b') → AllFinished (end_from rs b') → Passed H (events_from rs b') R' f' (suc k))
+        → ((b' : Bench) (P' : Plain) (f' : ℕ → Option ℕ) (R' : Reading) → Standing H rs b' P' f' (suc k) → Linked b' P' R' → Tidy R' → OnlyThree (events_from rs b') → AllFinished (end_from rs b') → Passed H (events_from rs b') R' f' (suc k))
         → Passed H (events_by res b r (λ b'. events_from rs b')) R f k
     go (refused _) _ _ o fin ih = stops H b P R f k l tidy fin
     go (carried b' no_row) (_, z') (small, inl s) o fin ih = start_case H r rs b b' P f k R z l tidy small (r.first % 16) s z' o fin (ih b')

@@ -1,4 +1,5 @@
 -- A reading goes on over a list of events: what later events leave as it is. Assumes nothing.
+use Rattle.std.specs.Prelude.{Option, Some, None}
 use mathlib.Core.Path.{◌≡◌, refl, sym, ◌∙◌, ap}
 use mathlib.Core.Logic.{◌≢◌}
 use mathlib.Core.Bool.{Bool, true, false}
@@ -8,23 +9,21 @@ use native.Mathlib.Omega.{arith}
 use lib.Dec.{eqb}
 use borrow.Author.Tests.{eq-eqb, ne_eqb}
 use Rattle.container.specs.Choice.{ite}
-use Rattle.definitions.specs.declared.Link.{Link}
-use Rattle.definitions.specs.declared.Link.TheVariants.{Nil, To}
 use Rattle.definitions.specs.History.{Event, Operation, Reading, begun, ended_by, noted}
-use Rattle.judge.proofs.Tools.{◌==?◌, clash}
+use Rattle.judge.proofs.Tools.{◌==?◌}
 
 abbrev pub read_all : List Event → Reading → Reading
 read_all [] R = R
 read_all (e ∷ es) R = read_all es (noted e R)
 
 -- a start, a finish, or (on an idle thread) nothing
-pub noted_case : (P : Reading → Type 0) (e : Event) (R : Reading) → P (begun e R) → ((k : ℕ) → R.busy e.thread ≡ To k → P (ended_by (To k) e R)) → P R → P (noted e R)
+pub noted_case : (P : Reading → Type 0) (e : Event) (R : Reading) → P (begun e R) → ((k : ℕ) → R.busy e.thread ≡ Some k → P (ended_by (Some k) e R)) → P R → P (noted e R)
 unfolding ite
 noted_case P e R p q r = by (eqb e.mark 0)
   where
-    open_by : (k : Link) → R.busy e.thread ≡ k → P (ended_by k e R)
-    open_by Nil h = r
-    open_by (To k) h = q k h
+    open_by : (k : Option ℕ) → R.busy e.thread ≡ k → P (ended_by k e R)
+    open_by None h = r
+    open_by (Some k) h = q k h
 
     by : (c : Bool) → P (ite c (begun e R) (ended_by (R.busy e.thread) e R))
     by true = p
@@ -54,7 +53,7 @@ one_ask e R i h = noted_case (λ Q. SameAsk (Q.all.operation i) (R.all.operation
 -- an operation that no thread has open
 pub record Closed (i : ℕ) (R : Reading) : Type 0 where
   pub low : i < R.all.count
-  pub free : (t : ℕ) → R.busy t ≢ To i
+  pub free : (t : ℕ) → R.busy t ≢ Some i
 
 record Kept (i : ℕ) (R Q : Reading) : Type 0 where
   closed : Closed i Q
@@ -72,9 +71,9 @@ one_closed e R i c = noted_case (λ Q. Kept i R Q) e R
     (λ k h. record {
       closed = record {
         low = c.low;
-        free = λ t. elim (t ==? e.thread) [ yes q ↦ rw (q, eq-eqb e.thread e.thread refl) (λ z. clash (cc)) | no q ↦ rw (ne_eqb t e.thread q) (c.free t) ];
+        free = λ t. elim (t ==? e.thread) [ yes q ↦ rw (q, eq-eqb e.thread e.thread refl) (λ z. cc) | no q ↦ rw (ne_eqb t e.thread q) (c.free t) ];
       };
-      same = rw (ne_eqb i k (λ q. c.free e.thread (h ∙ ap To (sym q))));
+      same = rw (ne_eqb i k (λ q. c.free e.thread (h ∙ ap Some (sym q))));
     })
     (record { closed = c; same = refl })
 

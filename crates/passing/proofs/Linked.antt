@@ -1,11 +1,10 @@
 -- The bench's threads, the plain set's open operations and the reading's open operations are the same ones. Assumes nothing.
+use Rattle.std.specs.Prelude.{Option, Some, None}
 use mathlib.Core.Path.{◌≡◌, refl, sym, ◌∙◌, ap, subst}
 use mathlib.Core.Bool.{Bool, true, false, true≢false}
 use Prim.Native.Nat.{ℕ, ◌<◌}
 use native.Mathlib.Omega.{arith}
 use borrow.Author.Tests.{eq-eqb, ne_eqb}
-use Rattle.definitions.specs.declared.Link.{Link}
-use Rattle.definitions.specs.declared.Link.TheVariants.{Nil, To}
 use Rattle.definitions.specs.Threads.{Thread}
 use Rattle.definitions.specs.Bench.{Bench, fresh}
 use Rattle.definitions.specs.Records.{is_idle, action_number}
@@ -16,9 +15,9 @@ use Rattle.judge.proofs.Tools.{◌==?◌}
 use Rattle.passing.proofs.Did.{Started, Moved, Ended}
 use Rattle.passing.proofs.Tidy.{Tidy, other_op}
 
-pub data Slot (th : Thread) (o : plain.Operation) (k : Link) (ops : ℕ → Operation) : Type 0 where
-  rests : is_idle th ≡ true → k ≡ Nil → o ≡ plain.no_operation → Slot th o k ops
-  works : (i : ℕ) → is_idle th ≡ false → k ≡ To i → (ops i).action ≡ action_number th.action → (ops i).station ≡ th.station → o ≡ doing th.action th.station → th.station < 64 → Slot th o k ops
+pub data Slot (th : Thread) (o : plain.Operation) (k : Option ℕ) (ops : ℕ → Operation) : Type 0 where
+  rests : is_idle th ≡ true → k ≡ None → o ≡ plain.no_operation → Slot th o k ops
+  works : (i : ℕ) → is_idle th ≡ false → k ≡ Some i → (ops i).action ≡ action_number th.action → (ops i).station ≡ th.station → o ≡ doing th.action th.station → th.station < 64 → Slot th o k ops
 
 abbrev pub Linked : Bench → Plain → Reading → Type 0
 Linked b P R = (t : ℕ) → Slot (b.threads t) (P.operation t) (R.busy t) R.all.operation
@@ -29,7 +28,7 @@ linked_fresh on t = rests refl refl refl
 -- what a busy thread has open
 pub record Open (b : Bench) (P : Plain) (R : Reading) (t : ℕ) : Type 0 where
   pub number : ℕ
-  pub busy : R.busy t ≡ To number
+  pub busy : R.busy t ≡ Some number
   pub action : (R.all.operation number).action ≡ action_number (b.threads t).action
   pub station : (R.all.operation number).station ≡ (b.threads t).station
   pub plain : P.operation t ≡ doing (b.threads t).action (b.threads t).station
@@ -43,15 +42,15 @@ module _ (b : Bench) (P : Plain) (R : Reading) (t : ℕ) where
       go (rests q _ _) = absurd (true≢false (sym q ∙ h))
       go (works i _ k a s o h) = record { number = i; busy = k; action = a; station = s; plain = o; low = h }
 
-  pub rested : Linked b P R → is_idle (b.threads t) ≡ true → R.busy t ≡ Nil
+  pub rested : Linked b P R → is_idle (b.threads t) ≡ true → R.busy t ≡ None
   rested l h = go (l t)
     where
-      go : Slot (b.threads t) (P.operation t) (R.busy t) R.all.operation → R.busy t ≡ Nil
+      go : Slot (b.threads t) (P.operation t) (R.busy t) R.all.operation → R.busy t ≡ None
       go (rests _ k _) = k
       go (works i q _ _ _ _ _) = absurd (true≢false (sym h ∙ q))
 
 -- a slot is as before where its operation asks the same
-frame : {th : Thread} {o : plain.Operation} {k : Link} {f : ℕ → Operation} (g : ℕ → Operation) → ((i : ℕ) → k ≡ To i → ((g i).action ≡ (f i).action) × ((g i).station ≡ (f i).station)) → Slot th o k f → Slot th o k g
+frame : {th : Thread} {o : plain.Operation} {k : Option ℕ} {f : ℕ → Operation} (g : ℕ → Operation) → ((i : ℕ) → k ≡ Some i → ((g i).action ≡ (f i).action) × ((g i).station ≡ (f i).station)) → Slot th o k f → Slot th o k g
 frame g h (rests a b c) = rests a b c
 frame g h (works i a b c d e s) = works i a b ((h i b).0 ∙ c) ((h i b).1 ∙ d) e s
 
@@ -70,8 +69,8 @@ module _ (b b' : Bench) (P : Plain) (R : Reading) (l : Linked b P R) (tidy : Tid
     | no q ↦ rw (ne_eqb v t q) (l v)
   ])
 
-  pub linked_ended : (e : Event) (n k : ℕ) (m : Ended b e.thread n b') → R.busy e.thread ≡ To k → Linked b' (finish e.thread P) (ended_by (To k) e R)
+  pub linked_ended : (e : Event) (n k : ℕ) (m : Ended b e.thread n b') → R.busy e.thread ≡ Some k → Linked b' (finish e.thread P) (ended_by (Some k) e R)
   linked_ended e n k m d v = rw m.threads (elim (v ==? e.thread) [
     | yes q ↦ rw (eq-eqb v e.thread q) (rests refl refl refl)
-    | no q ↦ rw (ne_eqb v e.thread q) (frame (ended_by (To k) e R).all.operation (λ i z. rw (ne_eqb i k (other_op R e tidy k d v i q z)) (refl, refl)) (l v))
+    | no q ↦ rw (ne_eqb v e.thread q) (frame (ended_by (Some k) e R).all.operation (λ i z. rw (ne_eqb i k (other_op R e tidy k d v i q z)) (refl, refl)) (l v))
   ])

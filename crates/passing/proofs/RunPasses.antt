@@ -1,5 +1,6 @@
 -- A version 1 run that has only lookups, inserts and removes, at most 12, all finished, is accepted by Judge (02, j), from the answers
 -- rule over the plain set. Assumes nothing.
+use Rattle.std.specs.Prelude.{None}
 use mathlib.Core.Path.{◌≡◌, sym, ◌∙◌, subst, fun_ext}
 use mathlib.Core.Bool.{Bool, true, false}
 use mathlib.Core.List.{List}
@@ -8,7 +9,6 @@ use native.Mathlib.Omega.{arith}
 use native.Mathlib.Decide.{dec_lt}
 use lib.ListN.{get_or, length}
 use borrow.Author.Tests.{lt-ltb, le-ltb}
-use Rattle.definitions.specs.declared.Link.TheVariants.{Nil}
 use Rattle.definitions.specs.Bench.{fresh}
 use Rattle.definitions.specs.PlainSet.{empty}
 use Rattle.definitions.specs.Schedule.{Rec, stop_of, records_of, count_of}
@@ -35,11 +35,11 @@ module _ (on : Bool) (rs : List Rec) (ok : Eligible on rs) where
   abbrev file : List ℕ
   file = history_of (events_from rs (fresh on))
 
-  pub passed : Passed (moments on rs) es unread (λ _. Nil) 0
-  passed = pass (moments on rs) rs (fresh on) empty (λ _. Nil) 0 unread (at_start on rs (set_rule.0 on rs)) (linked_fresh on) tidy_unread ok.three ok.finished
+  pub passed : Passed (moments on rs) es unread (λ _. None) 0
+  passed = pass (moments on rs) rs (fresh on) empty (λ _. None) 0 unread (at_start on rs (set_rule.0 on rs)) (linked_fresh on) tidy_unread ok.three ok.finished
 
   nothing_in : moments on rs 0 ≡ (λ _. false)
-  nothing_in = fun_ext (λ s. now_is (moments on rs) rs (fresh on) empty (λ _. Nil) 0 (at_start on rs (set_rule.0 on rs)) s)
+  nothing_in = fun_ext (λ s. now_is (moments on rs) rs (fresh on) empty (λ _. None) 0 (at_start on rs (set_rule.0 on rs)) s)
 
   pub run_order : Order (read_all es unread).all passed.list
   run_order = record {

@@ -1,4 +1,6 @@
 -- What a reading of events in place has, beyond what the code's proof needs: open operations are apart and not finished. Assumes nothing.
+use Rattle.std.proofs.lemmas.Bool.{cases_Bool}
+use Rattle.std.specs.Prelude.{Some, None}
 use mathlib.Core.Path.{◌≡◌, refl, sym, ◌∙◌, ap}
 use mathlib.Core.Logic.{◌≢◌, ◌⊎◌, inl, inr, ⊎_elim}
 use mathlib.Core.Bool.{true, false, true≢false}
@@ -6,23 +8,22 @@ use Prim.Native.Nat.{ℕ, ◌<◌}
 use native.Mathlib.Omega.{arith}
 use borrow.Author.Tests.{eq-eqb, ne_eqb}
 use Rattle.container.specs.Choice.{upd}
-use Rattle.definitions.specs.declared.Link.TheVariants.{Nil, To}
 use Rattle.definitions.specs.History.{Event, Reading, unread, begun, ended_by}
-use Rattle.judge.proofs.Tools.{on, off, test, ◌==?◌, clash}
+use Rattle.judge.proofs.Tools.{◌==?◌}
 
 pub record Tidy (R : Reading) : Type 0 where
-  pub low : (t i : ℕ) → R.busy t ≡ To i → i < R.all.count
-  pub small : (t i : ℕ) → R.busy t ≡ To i → t < 4
-  pub apart : (t v i : ℕ) → R.busy t ≡ To i → R.busy v ≡ To i → t ≡ v
-  pub running : (t i : ℕ) → R.busy t ≡ To i → R.finished i ≡ false
+  pub low : (t i : ℕ) → R.busy t ≡ Some i → i < R.all.count
+  pub small : (t i : ℕ) → R.busy t ≡ Some i → t < 4
+  pub apart : (t v i : ℕ) → R.busy t ≡ Some i → R.busy v ≡ Some i → t ≡ v
+  pub running : (t i : ℕ) → R.busy t ≡ Some i → R.finished i ≡ false
   pub begun : (j : ℕ) → R.finished j ≡ true → j < R.all.count
   pub before : (i j : ℕ) → i < R.all.count → (R.all.operation i).finished_before j ≡ true → R.finished j ≡ true
 
 pub tidy_unread : Tidy unread
 tidy_unread = record {
-  low = λ t i q. absurd (clash (cc));
-  small = λ t i q. absurd (clash (cc));
-  apart = λ t v i q. absurd (clash (cc));
+  low = λ t i q. cc;
+  small = λ t i q. cc;
+  apart = λ t v i q. cc;
   running = λ t i q. refl;
   begun = λ j q. absurd (true≢false (sym q));
   before = λ i j h q. absurd (true≢false (sym q));
@@ -30,7 +31,7 @@ tidy_unread = record {
 
 -- ---- a start on an idle thread
 module _ (R : Reading) (e : Event) (tidy : Tidy R) (small : e.thread < 4) where
-  private_new : (t i : ℕ) → upd R.busy e.thread (To R.all.count) t ≡ To i → ((t ≡ e.thread) × (i ≡ R.all.count)) ⊎ ((t ≢ e.thread) × (R.busy t ≡ To i))
+  private_new : (t i : ℕ) → upd R.busy e.thread (Some R.all.count) t ≡ Some i → ((t ≡ e.thread) × (i ≡ R.all.count)) ⊎ ((t ≢ e.thread) × (R.busy t ≡ Some i))
   private_new t i = elim (t ==? e.thread) [
     | yes q ↦ rw (eq-eqb t e.thread q) (λ z. inl (q, (let w : R.all.count ≡ i = cc in sym w)))
     | no q ↦ rw (ne_eqb t e.thread q) (λ z. inr (q, z))
@@ -50,21 +51,21 @@ module _ (R : Reading) (e : Event) (tidy : Tidy R) (small : e.thread < 4) where
   }
     where
       not_yet : R.finished R.all.count ≡ false
-      not_yet = elim (test (R.finished R.all.count)) [ on q ↦ absurd (omega (arith, tidy.begun R.all.count q)) | off q ↦ q ]
+      not_yet = elim (cases_Bool (R.finished R.all.count)) [ inl q ↦ absurd (omega (arith, tidy.begun R.all.count q)) | inr q ↦ q ]
 
 -- ---- a finish
-module _ (R : Reading) (e : Event) (tidy : Tidy R) (k : ℕ) (doing : R.busy e.thread ≡ To k) where
-  was_open : (t i : ℕ) → upd R.busy e.thread Nil t ≡ To i → (t ≢ e.thread) × (R.busy t ≡ To i)
+module _ (R : Reading) (e : Event) (tidy : Tidy R) (k : ℕ) (doing : R.busy e.thread ≡ Some k) where
+  was_open : (t i : ℕ) → upd R.busy e.thread None t ≡ Some i → (t ≢ e.thread) × (R.busy t ≡ Some i)
   was_open t i = elim (t ==? e.thread) [
-    | yes q ↦ rw (eq-eqb t e.thread q) (λ z. absurd (clash (cc)))
+    | yes q ↦ rw (eq-eqb t e.thread q) (λ z. cc)
     | no q ↦ rw (ne_eqb t e.thread q) (λ z. (q, z))
   ]
 
   -- another thread's operation is another one
-  pub other_op : (t i : ℕ) → t ≢ e.thread → R.busy t ≡ To i → i ≢ k
-  other_op t i h z q = h (tidy.apart t e.thread i z (doing ∙ ap To (sym q)))
+  pub other_op : (t i : ℕ) → t ≢ e.thread → R.busy t ≡ Some i → i ≢ k
+  other_op t i h z q = h (tidy.apart t e.thread i z (doing ∙ ap Some (sym q)))
 
-  pub tidy_ended : Tidy (ended_by (To k) e R)
+  pub tidy_ended : Tidy (ended_by (Some k) e R)
   tidy_ended = record {
     low = λ t i z. tidy.low t i (was_open t i z).1;
     small = λ t i z. tidy.small t i (was_open t i z).1;
@@ -74,12 +75,12 @@ module _ (R : Reading) (e : Event) (tidy : Tidy R) (k : ℕ) (doing : R.busy e.t
     before = λ i j h z. later j (tidy.before i j h (asked i j z));
   }
     where
-      asked : (i j : ℕ) → ((ended_by (To k) e R).all.operation i).finished_before j ≡ true → (R.all.operation i).finished_before j ≡ true
+      asked : (i j : ℕ) → ((ended_by (Some k) e R).all.operation i).finished_before j ≡ true → (R.all.operation i).finished_before j ≡ true
       asked i j = elim (i ==? k) [ yes q ↦ rw (q, eq-eqb k k refl) (λ z. z) | no q ↦ rw (ne_eqb i k q) (λ z. z) ]
 
       later : (j : ℕ) → R.finished j ≡ true → upd R.finished k true j ≡ true
       later j z = elim (j ==? k) [ yes q ↦ rw (eq-eqb j k q) | no q ↦ rw (ne_eqb j k q) z ]
 
   -- it is closed then
-  pub closed_then : (t : ℕ) → (ended_by (To k) e R).busy t ≢ To k
+  pub closed_then : (t : ℕ) → (ended_by (Some k) e R).busy t ≢ Some k
   closed_then t z = let w = was_open t k z in other_op t k w.0 w.1 refl

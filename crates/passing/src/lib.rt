@@ -6,6 +6,7 @@ ghost use Rattle.std.specs.Prelude.{◌≡◌, ◌+◌, ◌*◌, ◌≤◌};
 ghost use Rattle.passing.specs.Lists.{Enough};
 
 // The length of the buffer that History asks for.
+#[tactic(auto, using(crate::proofs::RunPasses::room_enough))]
 pub fn history_room(count: usize) -> usize
     requires { count ≤ 65535 }
     ensures value { result ≡ 3 + 4 * count }

@@ -1,5 +1,6 @@
 -- A chain of 63 routes, which takes more records than a file holds, and a lookup alone at its end: after 63 steps, with the stop on after 65, it has no
 -- row yet. Computed by the checker, along the list of records, from the definitions alone (Reached.antt has what it means for the claim).
+use Rattle.std.specs.Prelude.{Option, Some, None}
 use mathlib.Core.Path.{◌≡◌, refl}
 use mathlib.Core.Bool.{Bool, true, false, cond}
 use mathlib.Core.List.{List, [], ◌∷◌}
@@ -9,8 +10,6 @@ use lib.Count.{ones_in, count_trailing_zeros}
 use Rattle.container.specs.Choice.{ite}
 use Rattle.container.specs.Container.{has, insert, remove, union, cut, below, from, size, least, drop_least, upper_half, lower_half, split_key}
 use Rattle.container.specs.Depths.{put, lower, upper}
-use Rattle.definitions.specs.declared.Link.{Link}
-use Rattle.definitions.specs.declared.Link.TheVariants.{Nil, To}
 use Rattle.definitions.specs.Nodes.{check, replaceable}
 use Rattle.definitions.specs.Bench.{Bench, fresh}
 use Rattle.definitions.specs.Steps.{reached, onward, followed, blocked, lacks, cleared, lost, probe, replaced, step}
@@ -20,18 +19,18 @@ use Rattle.definitions.specs.Schedule.{Rec}
 -- ---- the steps of one thread's open lookup, along a list
 
 -- one record of the thread; Nil: it has none open
-abbrev pub moves : ℕ → Row → Link → Link
-moves zero w Nil = Nil
-moves zero no_row (To k) = To (suc k)
-moves zero (row _ _ _) (To k) = Nil
-moves (suc zero) w l = To 0
-moves (suc (suc _)) w l = Nil
+abbrev pub moves : ℕ → Row → Option ℕ → Option ℕ
+moves zero w None = None
+moves zero no_row (Some k) = Some (suc k)
+moves zero (row _ _ _) (Some k) = None
+moves (suc zero) w l = Some 0
+moves (suc (suc _)) w l = None
 
-abbrev pub goes_on : Result → (Bench → Row → Link) → Link
-goes_on (refused _) f = Nil
+abbrev pub goes_on : Result → (Bench → Row → Option ℕ) → Option ℕ
+goes_on (refused _) f = None
 goes_on (carried b w) f = f b w
 
-abbrev pub waits : ℕ → List Rec → Bench → Link → Link
+abbrev pub waits : ℕ → List Rec → Bench → Option ℕ → Option ℕ
 waits t [] b l = l
 waits t (r ∷ rs) b l = goes_on (record_step b r.last r.first r.second r.extra) (λ b' w. waits t rs b' (cond (eqb t (r.first / 16)) (moves (r.first % 16) w l) l))
 
@@ -63,10 +62,10 @@ levels on d (suc m) rs = op on 2 (62 - d) (cost on d) (op on 4 (62 - d) (cost on
 abbrev pub chain : Bool → ℕ → List Rec
 chain on k = op on 2 63 3 (op on 2 62 3 (op on 4 62 3 (levels on 1 62 (rec on 17 0 ∷ steps on 16 k []))))
 
-pub open_off : waits 1 (chain false 63) (fresh false) Nil ≡ To 63
+pub open_off : waits 1 (chain false 63) (fresh false) None ≡ Some 63
 unfolding put lower upper check replaceable taken stepped started record_step reached onward followed blocked lacks cleared lost probe replaced step ite has insert remove union cut below from size least drop_least upper_half lower_half split_key ones_in count_trailing_zeros
 open_off = refl
 
-pub open_on : waits 1 (chain true 65) (fresh true) Nil ≡ To 65
+pub open_on : waits 1 (chain true 65) (fresh true) None ≡ Some 65
 unfolding put lower upper check replaceable taken stepped started record_step reached onward followed blocked lacks cleared lost probe replaced step ite has insert remove union cut below from size least drop_least upper_half lower_half split_key ones_in count_trailing_zeros
 open_on = refl

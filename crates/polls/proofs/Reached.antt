@@ -1,4 +1,5 @@
 -- No smaller number than 64, or 66 with the stop on, will do for every list of records: the lookup of Chain.antt has made one step less and has no row.
+use Rattle.std.specs.Prelude.{Option, Some, None}
 use mathlib.Core.Path.{◌≡◌, refl, sym, ◌∙◌, ap}
 use mathlib.Core.Bool.{true, false, cond}
 use mathlib.Core.List.{List, [], ◌∷◌}
@@ -6,8 +7,6 @@ use Prim.Native.Nat.{ℕ, zero, suc, ◌/◌, ◌%◌, ◌<◌}
 use native.Mathlib.Omega.{arith}
 use lib.Dec.{eqb}
 use borrow.Author.Tests.{eqb-true}
-use Rattle.definitions.specs.declared.Link.{Link}
-use Rattle.definitions.specs.declared.Link.TheVariants.{Nil, To}
 use Rattle.definitions.specs.Bench.{Bench, fresh}
 use Rattle.definitions.specs.Records.{Row, no_row, row, Result, refused, carried, record_step}
 use Rattle.definitions.specs.Schedule.{Rec}
@@ -17,11 +16,11 @@ use Rattle.polls.specs.Bound.{NoneSooner}
 use Rattle.polls.proofs.Chain.{moves, goes_on, waits, chain, open_off, open_on}
 
 -- what the claim counts is what Chain.antt counts
-abbrev link : Poll → Link
-link none = Nil
-link (made k) = To k
+abbrev link : Poll → Option ℕ
+link none = None
+link (made k) = Some k
 
-link_made : (p : Poll) (k : ℕ) → link p ≡ To k → p ≡ made k
+link_made : (p : Poll) (k : ℕ) → link p ≡ Some k → p ≡ made k
 link_made none k e = absurd (clash (cc))
 link_made (made j) k e = let z : j ≡ k = cc in ap made z
 
@@ -33,7 +32,7 @@ link_heard (suc zero) w p = refl
 link_heard (suc (suc _)) w p = refl
 
 -- thread t past one record, as Chain.antt counts
-abbrev past : ℕ → Rec → Row → Link → Link
+abbrev past : ℕ → Rec → Row → Option ℕ → Option ℕ
 past t r w l = cond (eqb t (r.first / 16)) (moves (r.first % 16) w l) l
 
 link_counted : (t : ℕ) (r : Rec) (w : Row) (c : ℕ → Poll) → past t r w (link (c t)) ≡ link (counted r w c t)
@@ -42,13 +41,13 @@ link_counted t r w c = elim (test (eqb t (r.first / 16))) [
   | off e ↦ rw e
 ]
 
-fewer : (n t k : ℕ) (rs : List Rec) (b : Bench) (c : ℕ → Poll) → Within n rs b c → waits t rs b (link (c t)) ≡ To k → k < n
+fewer : (n t k : ℕ) (rs : List Rec) (b : Bench) (c : ℕ → Poll) → Within n rs b c → waits t rs b (link (c t)) ≡ Some k → k < n
 fewer n t k [] b c h e = (h t k (link_made (c t) k e)).0
 fewer n t k (r ∷ rs) b c h e = go (record_step b r.last r.first r.second r.extra) h.1 e
     (λ b' w h' e'. fewer n t k rs b' (counted r w c) h' (ap (waits t rs b') (sym (link_counted t r w c)) ∙ e'))
   where
-    go : (res : Result) → Onward res (λ b' w. Within n rs b' (counted r w c)) → goes_on res (λ b' w. waits t rs b' (past t r w (link (c t)))) ≡ To k
-        → ((b' : Bench) (w : Row) → Within n rs b' (counted r w c) → waits t rs b' (past t r w (link (c t))) ≡ To k → k < n) → k < n
+    go : (res : Result) → Onward res (λ b' w. Within n rs b' (counted r w c)) → goes_on res (λ b' w. waits t rs b' (past t r w (link (c t)))) ≡ Some k
+        → ((b' : Bench) (w : Row) → Within n rs b' (counted r w c) → waits t rs b' (past t r w (link (c t))) ≡ Some k → k < n) → k < n
     go (refused _) h' e' ih = absurd (clash (cc))
     go (carried b' w) h' e' ih = ih b' w h' e'
 

@@ -1,6 +1,7 @@
 -- A run makes at most 63 routes (`few_routes`): a live route has a key of its own, which was ever in; a dead one has a closed main of its own; and what
 -- they cost is in Worth.antt. It rests on the invariant's ranges and marks, and on its `linked`: every route was in the tree. So a lookup has its row by its
 -- 64th step: at every step but the first and the last it reads a route with more routes below its number (`lookups_end_sooner`).
+use Rattle.std.specs.Prelude.{Option, Some, None}
 use mathlib.Core.Path.{◌≡◌, refl, sym, ◌∙◌, ap, subst}
 use mathlib.Core.Logic.{◌≢◌, inl, inr}
 use mathlib.Core.Bool.{Bool, true, false, not, ◌&&◌, true≢false, false≢true}
@@ -10,8 +11,6 @@ use native.Mathlib.Decide.{dec_lt}
 use borrow.Author.Tests.{ne_eqb}
 use Rattle.container.specs.Container.{size}
 use Rattle.container.proofs.Laws.{has_none}
-use Rattle.definitions.specs.declared.Link.{Link}
-use Rattle.definitions.specs.declared.Link.TheVariants.{Nil, To}
 use Rattle.definitions.specs.declared.Kind.{Kind}
 use Rattle.definitions.specs.declared.Kind.TheVariants.{Normal, Route, Main, Neighbour, Range}
 use Rattle.definitions.specs.declared.Quarter.{Quarter}
@@ -49,9 +48,9 @@ is_live unborn e = absurd (false≢true e)
 is_live live e = refl
 is_live (dead k) e = absurd (false≢true e)
 
-abbrev target : Link → ℕ
-target Nil = 0
-target (To m) = m
+abbrev target : Option ℕ → ℕ
+target None = 0
+target (Some m) = m
 
 route_is : (k : Kind) → is_route k ≡ true → k ≡ Route
 route_is Normal e = absurd (false≢true e)
@@ -121,8 +120,8 @@ module _ {w : World} {hist : Hist} (mem : Mem w hist) (s : Store) (en : w.nodes 
       (λ x y l l' e i q. let g = dead_of x l e in let h = dead_of y l' i in
       same x y g.m h.m (sym (ap target g.gone.mark) ∙ q ∙ ap target h.gone.mark) g.gone.parent h.gone.parent)
     where
-      same : (x y m m' : ℕ) → m ≡ m' → (w.nodes m).parent ≡ To x → (w.nodes m').parent ≡ To y → x ≡ y
-      same x y m m' e i j = let z : (w.nodes m).parent ≡ To y = ap (λ v. (w.nodes v).parent) e ∙ j in cc
+      same : (x y m m' : ℕ) → m ≡ m' → (w.nodes m).parent ≡ Some x → (w.nodes m').parent ≡ Some y → x ≡ y
+      same x y m m' e i j = let z : (w.nodes m).parent ≡ Some y = ap (λ v. (w.nodes v).parent) e ∙ j in cc
 
   routes_few : s.used ≤ 256 → count s.used (routes s.nodes) ≤ 63
   routes_few f = let a = count_split w.used (routes w.nodes) (λ x. alive (w.life x)) in

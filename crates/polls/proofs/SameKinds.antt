@@ -1,4 +1,5 @@
 -- A node that has its number keeps its kind: no step changes a kind, and new nodes have new numbers. It rests on answers/proofs/StepEffects.antt.
+use Rattle.std.specs.Prelude.{Option}
 use mathlib.Core.Path.{◌≡◌, refl, ◌∙◌}
 use mathlib.Core.Bool.{Bool, true, false, cond}
 use Prim.Native.Nat.{ℕ, suc, ◌+◌, ◌<◌}
@@ -8,7 +9,6 @@ use Rattle.container.specs.Choice.{upd}
 use Rattle.container.specs.Depths.{Container, merge}
 use Rattle.definitions.specs.declared.Kind.{Kind}
 use Rattle.definitions.specs.declared.Kind.TheVariants.{Neighbour}
-use Rattle.definitions.specs.declared.Link.{Link}
 use Rattle.definitions.specs.declared.Content.{Content}
 use Rattle.definitions.specs.declared.Effect.{Effect}
 use Rattle.definitions.specs.declared.Spot.{Spot}
@@ -33,16 +33,16 @@ new_kind n u y v l = rw (ne_eqb y u (λ z. omega arith))
 
 module _ (s : Store) where
   -- the stores with what an effect makes, before it is hung
-  abbrev pub based : Kind → Link → Content → ℕ → Store
+  abbrev pub based : Kind → Option ℕ → Content → ℕ → Store
   based k l c m = push s.used (new_base k l (content_of c s.nodes) m) s
 
   abbrev pub trio : ℕ → Container → Store
   trio k c = store (forked s.used (s.used + 1) (s.used + 2) k c s.nodes) s.root (s.used + 3) s.stores s.shown s.stop
 
-  abbrev pub united : Link → ℕ → ℕ → Store
+  abbrev pub united : Option ℕ → ℕ → ℕ → Store
   united l m n = push s.used (new_base Neighbour l (merge (s.nodes m).container (s.nodes n).container) m) s
 
-  abbrev pub ranged : Link → ℕ → ℕ → ℕ → ℕ → Bool → Store
+  abbrev pub ranged : Option ℕ → ℕ → ℕ → ℕ → ℕ → Bool → Store
   ranged l x a u k new = store (upd s.nodes s.used (new_range l (s.nodes x).container a u k)) s.root (suc s.used) s.stores (cond new (suc k) s.shown) s.stop
 
   trio_kind : (k : ℕ) (c : Container) (y : ℕ) → y < s.used → ((trio k c).nodes y).kind ≡ (s.nodes y).kind

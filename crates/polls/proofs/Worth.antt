@@ -1,5 +1,6 @@
 -- What the numbers are spent on: one for each station that was ever in, three for each route, one for each join that closed. So four for
 -- each route: a live route has a key of its own that was ever in, a dead one a closed main of its own. A range base costs one and adds no station.
+use Rattle.std.specs.Prelude.{Option, Some}
 use mathlib.Core.Path.{◌≡◌, refl, sym, ◌∙◌, ap}
 use mathlib.Core.Logic.{◌≢◌, ◌⊎◌, inl, inr}
 use mathlib.Core.Bool.{Bool, true, false, not, ◌&&◌, ◌||◌, true≢false, false≢true}
@@ -12,8 +13,6 @@ use Rattle.container.specs.Choice.{upd}
 use Rattle.container.specs.Container.{has, size, lower_half, upper_half, split_key}
 use Rattle.container.specs.Depths.{Container, put, take_out, merge, lower, upper}
 use Rattle.container.proofs.Laws.{has_union, insert_other, remove_other, lower_in, lower_out, upper_in, upper_out, split_key_lem, has_none}
-use Rattle.definitions.specs.declared.Link.{Link}
-use Rattle.definitions.specs.declared.Link.TheVariants.{To}
 use Rattle.definitions.specs.declared.Kind.{Kind}
 use Rattle.definitions.specs.declared.Kind.TheVariants.{Normal, Route, Main, Neighbour, Range}
 use Rattle.definitions.specs.declared.Spot.{Spot}
@@ -155,10 +154,10 @@ module _ (s : Store) (k : ℕ) (c : Container) where
   at_x : n' s.used ≡ entry (new_route k l r) c.depth
   at_x = rw (ne_eqb s.used r (λ z. omega arith), ne_eqb s.used l (λ z. omega arith), eq-eqb s.used s.used refl)
 
-  at_l : n' l ≡ new_base Normal (To s.used) (lower c) 0
+  at_l : n' l ≡ new_base Normal (Some s.used) (lower c) 0
   at_l = rw (ne_eqb l r (λ z. omega arith), eq-eqb l l refl)
 
-  at_r : n' r ≡ new_base Normal (To s.used) (upper c) 0
+  at_r : n' r ≡ new_base Normal (Some s.used) (upper c) 0
   at_r = rw (eq-eqb r r refl)
 
   at_old : (y : ℕ) → y ≢ s.used → y ≢ l → y ≢ r → n' y ≡ s.nodes y
@@ -188,8 +187,8 @@ module _ (s : Store) (k : ℕ) (c : Container) where
     sum = rw (three_count (λ u. is_route u.kind), three_count (λ u. is_main u.kind && not (eqb u.union 0)), at_x, at_l, at_r) (omega (arith, w.sum));
   }
     where
-      which : (x : ℕ) (Q : Entry → Type 0) → Q (entry (new_route k l r) c.depth) → Q (new_base Normal (To s.used) (lower c) 0)
-          → Q (new_base Normal (To s.used) (upper c) 0) → Q (s.nodes x) → Q (n' x)
+      which : (x : ℕ) (Q : Entry → Type 0) → Q (entry (new_route k l r) c.depth) → Q (new_base Normal (Some s.used) (lower c) 0)
+          → Q (new_base Normal (Some s.used) (upper c) 0) → Q (s.nodes x) → Q (n' x)
       which x Q a b c d = elim (x ==? s.used) [
         | yes q ↦ rw (q, at_x) a
         | no q ↦ elim (x ==? l) [ yes q' ↦ rw (q', at_l) b | no q' ↦ elim (x ==? r) [ yes q'' ↦ rw (q'', at_r) c | no q'' ↦ rw (at_old x q q' q'') d ] ]
@@ -197,7 +196,7 @@ module _ (s : Store) (k : ℕ) (c : Container) where
 
 -- ---- 35: a new union node, and its main is closed
 
-module _ (s : Store) (m n o : ℕ) (pr g : Link) where
+module _ (s : Store) (m n o : ℕ) (pr g : Option ℕ) where
   abbrev v : Entry
   v = new_base Neighbour pr (merge (s.nodes m).container (s.nodes n).container) m
 
@@ -285,5 +284,5 @@ worths s p th z two w = record {
       (same_worth (push s.used (new_range l (s.nodes y).container a u s.shown) s) _ refl (alike_self _) (asked_worth l y a u s.shown));
 }
   where
-    asked_worth : (l : Link) (y a u k : ℕ) → Worth (push s.used (new_range l (s.nodes y).container a u k) s)
+    asked_worth : (l : Option ℕ) (y a u k : ℕ) → Worth (push s.used (new_range l (s.nodes y).container a u k) s)
     asked_worth l y a u k = push_worth s (new_range l (s.nodes y).container a u k) 0 z refl refl (λ st i. inl (y, i)) w

@@ -1,5 +1,6 @@
 -- What the memory invariant gives where nothing else is pending: reachable bases are replaceable and hang on their parent, live routes bear no mark,
 -- and the walk of 31 and 32 ends at the parent.
+use Rattle.std.specs.Prelude.{Option, Some, None}
 use mathlib.Core.Path.{◌≡◌, refl, sym, ◌∙◌, subst}
 use mathlib.Core.Logic.{◌≢◌, ◌⊎◌, inl, inr}
 use mathlib.Core.Bool.{Bool, true, false, cond}
@@ -7,8 +8,6 @@ use Prim.Native.Nat.{ℕ, ◌<◌, ◌≤◌}
 use native.Mathlib.Omega.{arith}
 use lib.Dec.{ltb}
 use borrow.Author.Tests.{ltb-true, ltb-false}
-use Rattle.definitions.specs.declared.Link.{Link}
-use Rattle.definitions.specs.declared.Link.TheVariants.{Nil, To}
 use Rattle.definitions.specs.declared.Kind.{Kind}
 use Rattle.definitions.specs.declared.Kind.TheVariants.{Normal, Route, Main, Neighbour, Range}
 use Rattle.definitions.specs.declared.Stage.TheVariants.{Done}
@@ -21,12 +20,12 @@ use Rattle.profile.proofs.Tidy.{Tidy}
 
 -- where base x hangs
 abbrev pub At : Nodes → ℕ → ℕ → Spot → ℕ → Type 0
-At n root u Root x = ((n x).parent ≡ Nil) × (root ≡ x)
-At n root u (Under p f) x = ((n x).parent ≡ To p) × (kid_at f (n p) ≡ x) × (p < u)
+At n root u Root x = ((n x).parent ≡ None) × (root ≡ x)
+At n root u (Under p f) x = ((n x).parent ≡ Some p) × (kid_at f (n p) ≡ x) × (p < u)
 
 module _ {w : World} {hist : Hist} (mem : Mem w hist) where
   -- a done main's parent is dead
-  done_dead : (m r : ℕ) → kind_of w m ≡ Main → Born w m → (w.nodes m).stage ≡ Done → (w.nodes m).parent ≡ To r → Dead w r
+  done_dead : (m r : ℕ) → kind_of w m ≡ Main → Born w m → (w.nodes m).stage ≡ Done → (w.nodes m).parent ≡ Some r → Dead w r
   done_dead m r k bo e p = let (P, R, d, j) = mem.mains.joint m k bo (inr e) in go P R d j j.phase
     where
       go : (P R : ℕ) (d : Bool) → Joint w hist m P R d → Phase w hist m P R d → Dead w r
@@ -34,11 +33,11 @@ module _ {w : World} {hist : Hist} (mem : Mem w hist) where
       go P R d j (swung c _ _ _ _ _ _ _ _ _) = absurd (clash (cc))
       go P R d j (cut _ dp _ _ _) = let z : P ≡ r = (let v = j.parent in cc) in subst (Dead w) z dp
 
-  module _ (t : Tidy w.nodes w.used Nil Nil) where
+  module _ (t : Tidy w.nodes w.used None None) where
     main_done : (m : ℕ) → kind_of w m ≡ Main → (w.nodes m).stage ≡ Done
     main_done m k = go (t.mains m k).1
       where
-        go : (◌≡◌ {A = Link} Nil (To m)) ⊎ ((w.nodes m).stage ≡ Done) → (w.nodes m).stage ≡ Done
+        go : (◌≡◌ {A = Option ℕ} None (Some m)) ⊎ ((w.nodes m).stage ≡ Done) → (w.nodes m).stage ≡ Done
         go (inl e) = absurd (clash (cc))
         go (inr e) = e
 
@@ -56,9 +55,9 @@ module _ {w : World} {hist : Hist} (mem : Mem w hist) where
         ib : IsBase w x
         ib e = clash (cc)
 
-        go : (p : Link) → (w.nodes x).parent ≡ p → ⊥
-        go Nil e = let (P, R, d, j) = mem.mains.joint x k (lives l) (inr (main_done x k)) in clash (let a = j.parent in cc)
-        go (To p) e = alive (mem.shape.child x p l (up_parent x ib l ∙ e)).0 (done_dead x p k (lives l) (main_done x k) e)
+        go : (p : Option ℕ) → (w.nodes x).parent ≡ p → ⊥
+        go None e = let (P, R, d, j) = mem.mains.joint x k (lives l) (inr (main_done x k)) in clash (let a = j.parent in cc)
+        go (Some p) e = alive (mem.shape.child x p l (up_parent x ib l ∙ e)).0 (done_dead x p k (lives l) (main_done x k) e)
 
     pub base_ready : (x : ℕ) → IsBase w x → Live w x → replaceable (λ z. shape (w.nodes z)) w.stores x ≡ true
     unfolding replaceable check
@@ -74,22 +73,22 @@ module _ {w : World} {hist : Hist} (mem : Mem w hist) where
     pub base_hangs : (x : ℕ) → IsBase w x → Live w x → (v : Spot) × At w.nodes w.root w.used v x
     base_hangs x ib l = go (w.nodes x).parent refl
       where
-        go : (p : Link) → (w.nodes x).parent ≡ p → (v : Spot) × At w.nodes w.root w.used v x
-        go Nil e = (Root, (e, sym (mem.shape.top x l (up_parent x ib l ∙ e))))
-        go (To p) e = let (lp, _, d, q) = mem.shape.child x p l (up_parent x ib l ∙ e) in (Under p d, (e, q, mem.shape.low p (lives lp)))
+        go : (p : Option ℕ) → (w.nodes x).parent ≡ p → (v : Spot) × At w.nodes w.root w.used v x
+        go None e = (Root, (e, sym (mem.shape.top x l (up_parent x ib l ∙ e))))
+        go (Some p) e = let (lp, _, d, q) = mem.shape.child x p l (up_parent x ib l ∙ e) in (Under p d, (e, q, mem.shape.low p (lives lp)))
 
   -- a live route bears no mark but that of l
-  pub unmarked : {l : Link} (t : Tidy w.nodes w.used l Nil) (r : ℕ) → kind_of w r ≡ Route → Live w r → ((m : ℕ) → l ≡ To m → (w.nodes r).mark ≢ To m) → (w.nodes r).mark ≡ Nil
+  pub unmarked : {l : Option ℕ} (t : Tidy w.nodes w.used l None) (r : ℕ) → kind_of w r ≡ Route → Live w r → ((m : ℕ) → l ≡ Some m → (w.nodes r).mark ≢ Some m) → (w.nodes r).mark ≡ None
   unmarked {l} t r k lr h = go (w.nodes r).mark refl
     where
-      not_done : (m : ℕ) → (w.nodes r).mark ≡ To m → kind_of w m ≡ Main → ((w.nodes m).parent ≡ To r) ⊎ ((l ≡ To m) × (◌≡◌ {A = Link} Nil (To r))) → (l ≡ To m) ⊎ ((w.nodes m).stage ≡ Done) → ⊥
+      not_done : (m : ℕ) → (w.nodes r).mark ≡ Some m → kind_of w m ≡ Main → ((w.nodes m).parent ≡ Some r) ⊎ ((l ≡ Some m) × (◌≡◌ {A = Option ℕ} None (Some r))) → (l ≡ Some m) ⊎ ((w.nodes m).stage ≡ Done) → ⊥
       not_done m e km (inr (_, z)) _ = clash (cc)
       not_done m e km (inl p) (inl z) = h m z e
       not_done m e km (inl p) (inr z) = alive lr (done_dead m r km (mem.marks.main r m k (lives lr) e).1 z p)
 
-      go : (v : Link) → (w.nodes r).mark ≡ v → (w.nodes r).mark ≡ Nil
-      go Nil e = e
-      go (To m) e = let (km, o) = t.marks r m e in absurd (not_done m e km o (t.mains m km).1)
+      go : (v : Option ℕ) → (w.nodes r).mark ≡ v → (w.nodes r).mark ≡ None
+      go None e = e
+      go (Some m) e = let (km, o) = t.marks r m e in absurd (not_done m e km o (t.mains m km).1)
 
   -- ---- 31, 32: down by the key of the live route P, with that key strictly inside
 

@@ -1,12 +1,11 @@
 -- The one writer's places 40 to 51: its join, once its main's stage is a node number.
+use Rattle.std.specs.Prelude.{Option, Some, None}
 use mathlib.Core.Path.{◌≡◌, refl, sym, ◌∙◌, ap, subst}
 use mathlib.Core.Logic.{◌≢◌}
 use mathlib.Core.Bool.{Bool, true, false}
 use Prim.Native.Nat.{ℕ, suc}
 use borrow.Author.Tests.{eq-eqb, ne_eqb, eqb-true, eqb-false}
 use mathlib.Core.Logic.{inl}
-use Rattle.definitions.specs.declared.Link.{Link}
-use Rattle.definitions.specs.declared.Link.TheVariants.{Nil, To}
 use Rattle.definitions.specs.declared.Stage.TheVariants.{Done}
 use Rattle.definitions.specs.declared.Action.{Action}
 use Rattle.definitions.specs.declared.Quarter.{Quarter}
@@ -31,13 +30,13 @@ grand_hang Root c s x = refl
 grand_hang (Under r d) c s x = elim (x ==? r) [ yes e ↦ rw (eq-eqb x r e, e) refl | no e ↦ rw (ne_eqb x r e) refl ]
 
 -- a link that names a node
-pub names_it : (l : Link) (P x : ℕ) → l ≡ To P → x ≡ P → names l x ≡ true
+pub names_it : (l : Option ℕ) (P x : ℕ) → l ≡ Some P → x ≡ P → names l x ≡ true
 names_it l P x e i = rw e (eq-eqb x P i)
 
-named : (l : Link) (P x : ℕ) → l ≡ To P → names l x ≡ true → x ≡ P
+named : (l : Option ℕ) (P x : ℕ) → l ≡ Some P → names l x ≡ true → x ≡ P
 named l P x e i = eqb-true x P (rw e at i)
 
-not_named : (l : Link) (P x : ℕ) → l ≡ To P → names l x ≡ false → x ≢ P
+not_named : (l : Option ℕ) (P x : ℕ) → l ≡ Some P → names l x ≡ false → x ≢ P
 not_named l P x e i = eqb-false x P (rw e at i)
 
 close_hang : (v : Spot) (x : ℕ) (s : Store) {a : Action} {o : Bool} {m P : ℕ} → Close s a o m P → Close (hang v x s) a o m P
@@ -51,9 +50,9 @@ close_hang v x s {m = m} {P = P} k = record {
   route = (alike_hang v x s P).kind ∙ k.route;
 }
 
-over_hang : (v : Spot) (x : ℕ) (s : Store) (m P : ℕ) (g : Link) → occupant v s ≢ P → Over s m P g → Over (hang v x s) m P g
-over_hang v x s m P Nil h i = keep_root v x s P h i
-over_hang v x s m P (To G) h (f, (i, j, l)) = (f, (keep_kid v x s f G P h i, (alike_hang v x s G).mark ∙ j, rw (used_hang v x s) l))
+over_hang : (v : Spot) (x : ℕ) (s : Store) (m P : ℕ) (g : Option ℕ) → occupant v s ≢ P → Over s m P g → Over (hang v x s) m P g
+over_hang v x s m P None h i = keep_root v x s P h i
+over_hang v x s m P (Some G) h (f, (i, j, l)) = (f, (keep_kid v x s f G P h i, (alike_hang v x s G).mark ∙ j, rw (used_hang v x s) l))
 
 module _ (s : Store) (th : Thread) (c : ℕ) where
   abbrev Ok : Turn → Type 0
@@ -111,17 +110,17 @@ module _ (s : Store) (th : Thread) (c : ℕ) where
       same : (x : ℕ) → Alike ((voided P).nodes x) (s.nodes x)
       same = alike_upd s.nodes P (over (with_valid false) (s.nodes P)) (record { kind = refl; mark = refl; parent = refl; stage = refl })
 
-      over : (g : Link) → Over s th.main P g → Over (voided P) th.main P g
-      over Nil i = i
-      over (To G) (f, (i, j, l)) = (f, (kid_45 P G f ∙ i, (same G).mark ∙ j, l))
+      over : (g : Option ℕ) → Over s th.main P g → Over (voided P) th.main P g
+      over None i = i
+      over (Some G) (f, (i, j, l)) = (f, (kid_45 P G f ∙ i, (same G).mark ∙ j, l))
 
   pub at_46 : Mine p46 s th c → Ok (step p46 (sight_of s) th)
   unfolding step
   at_46 (P, k, o) = go (s.nodes th.main).grandparent refl o
     where
-      go : (l : Link) → (s.nodes th.main).grandparent ≡ l → Over s th.main P l → Ok (cut_at l (shape (s.nodes th.main)) (λ z. shape (s.nodes z)) s.root th)
-      go Nil e i = pick_true Ok _ _ _ (names_it (s.nodes th.main).parent P s.root k.parent i) (record { act = k.act; owner = k.owner; tidy = tidy_hang Root (replacement (shape (s.nodes th.main))) s (rw e at k.tidy) })
-      go (To G) e (f, (i, j, l)) = fork s th c _ _ _ (λ z. (P, G, k, e, (named (s.nodes th.main).parent P (s.nodes G).left k.parent z, j, l))) (λ z. (P, G, k, e, (other f i (not_named (s.nodes th.main).parent P (s.nodes G).left k.parent z), j, l)))
+      go : (l : Option ℕ) → (s.nodes th.main).grandparent ≡ l → Over s th.main P l → Ok (cut_at l (shape (s.nodes th.main)) (λ z. shape (s.nodes z)) s.root th)
+      go None e i = pick_true Ok _ _ _ (names_it (s.nodes th.main).parent P s.root k.parent i) (record { act = k.act; owner = k.owner; tidy = tidy_hang Root (replacement (shape (s.nodes th.main))) s (rw e at k.tidy) })
+      go (Some G) e (f, (i, j, l)) = fork s th c _ _ _ (λ z. (P, G, k, e, (named (s.nodes th.main).parent P (s.nodes G).left k.parent z, j, l))) (λ z. (P, G, k, e, (other f i (not_named (s.nodes th.main).parent P (s.nodes G).left k.parent z), j, l)))
         where
           other : (f : Bool) → kid_at f (s.nodes G) ≡ P → (s.nodes G).left ≢ P → (s.nodes G).right ≡ P
           other true i z = absurd (z i)
@@ -129,7 +128,7 @@ module _ (s : Store) (th : Thread) (c : ℕ) where
 
   -- ---- 47 to 50
 
-  cuts : (d : Bool) (P G : ℕ) → Close s th.action th.owner th.main P → (s.nodes th.main).grandparent ≡ To G → OnSide s th.main P G d → Ok (cut_on d (s.nodes th.main).grandparent (shape (s.nodes th.main)) (λ z. shape (s.nodes z)) th)
+  cuts : (d : Bool) (P G : ℕ) → Close s th.action th.owner th.main P → (s.nodes th.main).grandparent ≡ Some G → OnSide s th.main P G d → Ok (cut_on d (s.nodes th.main).grandparent (shape (s.nodes th.main)) (λ z. shape (s.nodes z)) th)
   cuts d P G k e (i, j, l) = subst (λ z. Ok (cut_on d z (shape (s.nodes th.main)) (λ z. shape (s.nodes z)) th)) (sym e) (pick_true Ok _ _ _ (names_it _ P _ k.parent i) (
     G,
     record {

@@ -1,4 +1,5 @@
 -- The one writer's places 1 to 24: nothing is written but by a swap that finishes.
+use Rattle.std.specs.Prelude.{Option, Some, None}
 use mathlib.Core.Path.{◌≡◌, refl, sym, ◌∙◌, ap, subst}
 use mathlib.Core.Logic.{◌≢◌, inl, inr}
 use mathlib.Core.Bool.{Bool, true, false, not, false≢true}
@@ -8,8 +9,6 @@ use lib.Dec.{ltb}
 use borrow.Author.Tests.{eq-eqb, eqb-true, eqb-false, ltb-true}
 use Rattle.container.specs.Choice.{ite}
 use Rattle.container.specs.Depths.{Container}
-use Rattle.definitions.specs.declared.Link.{Link}
-use Rattle.definitions.specs.declared.Link.TheVariants.{Nil, To}
 use Rattle.definitions.specs.declared.Kind.{Kind}
 use Rattle.definitions.specs.declared.Kind.TheVariants.{Normal, Route, Main, Range}
 use Rattle.definitions.specs.declared.Action.{Action}
@@ -67,11 +66,11 @@ unfolding ite
 pick_false P k o o' e h = rw e h
 
 -- a new base that is no main, put where another was
-pub quiet_base : (s : Store) (v : Spot) (k : Kind) (p : Link) (x : Container) (m : ℕ) {l g : Link} → k ≢ Main → k ≢ Range → Tidy s.nodes s.used l g
+pub quiet_base : (s : Store) (v : Spot) (k : Kind) (p : Option ℕ) (x : Container) (m : ℕ) {l g : Option ℕ} → k ≢ Main → k ≢ Range → Tidy s.nodes s.used l g
     → Tidy (hang v s.used (push s.used (new_base k p x m) s)).nodes (hang v s.used (push s.used (new_base k p x m) s)).used l g
 quiet_base s v k p x m h ra t = tidy_hang v s.used (push s.used (new_base k p x m) s) (tidy_used (tidy_fill t s.used (new_base k p x m) (omega arith) h refl (λ z. clash (cc)) ra) (suc s.used) (omega arith))
 
-module _ {b : Bench} {hist : Hist} {now : ℕ} {first : ℕ → Link} (inv : Inv b hist now first) (c : ℕ) where
+module _ {b : Bench} {hist : Hist} {now : ℕ} {first : ℕ → Option ℕ} (inv : Inv b hist now first) (c : ℕ) where
   abbrev th : Thread
   th = b.threads 0
 
@@ -126,10 +125,10 @@ module _ {b : Bench} {hist : Hist} {now : ℕ} {first : ℕ → Link} (inv : Inv
   abbrev Above : ℕ → ℕ → Type 0
   Above p x = Spotted s p × ((s.nodes p).kind ≡ Route) × (f : Bool) × (kid_at f (s.nodes p) ≡ x)
 
-  above : (x p : ℕ) → Quiet s → (q : Spotted s x) → (s.nodes x).kind ≢ Route → (s.nodes x).parent ≡ To p → Above p x
+  above : (x p : ℕ) → Quiet s → (q : Spotted s x) → (s.nodes x).kind ≢ Route → (s.nodes x).parent ≡ Some p → Above p x
   above x p t q ib e = go q.path
     where
-      up : w.up x ≡ To p
+      up : w.up x ≡ Some p
       up = up_parent mem t x ib (live_of x q) ∙ e
 
       go : {d lo hi : ℕ} → Reached s.nodes s.root d x lo hi → Above p x
@@ -147,9 +146,9 @@ module _ {b : Bench} {hist : Hist} {now : ℕ} {first : ℕ → Link} (inv : Inv
   lacking Query i p e = absurd (false≢true e)
   lacking Join i p e = ((λ _. inr (refl, p, none (s.nodes th.base).parent e)), (λ z. absurd (clash (cc))))
     where
-      none : (l : Link) → is_nil l ≡ true → l ≡ Nil
-      none Nil e = refl
-      none (To p) e = absurd (false≢true e)
+      none : (l : Option ℕ) → is_nil l ≡ true → l ≡ None
+      none None e = refl
+      none (Some p) e = absurd (false≢true e)
 
   pub at_3 : s.stop.on ≡ false → Stands b 0 p3 → Mine p3 s th c → Ok (step p3 (sight_of s) th)
   unfolding step cleared lacks
@@ -159,9 +158,9 @@ module _ {b : Bench} {hist : Hist} {now : ℕ} {first : ℕ → Link} (inv : Inv
       swaps : Ok (goes (at (swap own ReadLeft) th))
       swaps = let (v, o) = base_hangs mem t th.base ib (live_of th.base q) in (t, v, o, tt, omega (arith, reached_depth mem q.depth th.base q.lo q.hi q.path))
 
-      link : (l : Link) → (s.nodes th.base).parent ≡ l → th.action ≡ Join → Ok (join_under false l th)
-      link Nil z i = (t, ((λ _. inr (refl, number_of th.place p3 e (omega arith), z)), (λ y. absurd (clash (cc)))))
-      link (To p) z i = let (r, k, f, h) = above th.base p t q ib z in (f, record { act = i; quiet = t; reach = r; route = k; here = h })
+      link : (l : Option ℕ) → (s.nodes th.base).parent ≡ l → th.action ≡ Join → Ok (join_under false l th)
+      link None z i = (t, ((λ _. inr (refl, number_of th.place p3 e (omega arith), z)), (λ y. absurd (clash (cc)))))
+      link (Some p) z i = let (r, k, f, h) = above th.base p t q ib z in (f, record { act = i; quiet = t; reach = r; route = k; here = h })
 
       go : (a : Action) → th.action ≡ a → Ok (cleared_as a s.stop.on (shape (s.nodes th.base)) th)
       go Lookup i = (t, neither s th _ (λ z. clash (cc)) (λ z. clash (cc)))

@@ -1,12 +1,11 @@
 -- The writer's places put together: each turn keeps `Mine`, no comparison fails, no main is aborted, an update is brief.
+use Rattle.std.specs.Prelude.{Option, Some, None}
 use mathlib.Core.Path.{◌≡◌, refl, sym, ◌∙◌, ap, subst}
 use mathlib.Core.Logic.{◌≢◌}
 use mathlib.Core.Bool.{Bool, true, false, not, true≢false, false≢true}
 use Prim.Native.Nat.{ℕ, suc, ◌≤◌}
 use native.Mathlib.Omega.{arith}
 use borrow.Author.Tests.{eq-eqb}
-use Rattle.definitions.specs.declared.Link.{Link}
-use Rattle.definitions.specs.declared.Link.TheVariants.{Nil, To}
 use Rattle.definitions.specs.declared.Stage.TheVariants.{Aborted}
 use Rattle.definitions.specs.declared.Action.TheVariants.{Join}
 use Rattle.definitions.specs.declared.Quarter.{Quarter}
@@ -89,7 +88,7 @@ upright p82 s th c m = absurd m
 upright (swap opening q) s th c m = absurd m
 upright (swap next_of q) s th c m = absurd m
 
-module _ {b : Bench} {hist : Hist} {now : ℕ} {first : ℕ → Link} (inv : Inv b hist now first) (c : ℕ) where
+module _ {b : Bench} {hist : Hist} {now : ℕ} {first : ℕ → Option ℕ} (inv : Inv b hist now first) (c : ℕ) where
   abbrev th : Thread
   th = b.threads 0
 
@@ -149,7 +148,7 @@ module _ {b : Bench} {hist : Hist} {now : ℕ} {first : ℕ → Link} (inv : Inv
   turn off (swap opening q) e h m = absurd m
   turn off (swap next_of q) e h m = absurd m
 
-  side_found : (d : Bool) (P G : ℕ) → Close s th.action th.owner th.main P → (s.nodes th.main).grandparent ≡ To G → OnSide s th.main P G d → side_lost d (s.nodes th.main).grandparent (shape (s.nodes th.main)) (sight_of s) ≡ false
+  side_found : (d : Bool) (P G : ℕ) → Close s th.action th.owner th.main P → (s.nodes th.main).grandparent ≡ Some G → OnSide s th.main P G d → side_lost d (s.nodes th.main).grandparent (shape (s.nodes th.main)) (sight_of s) ≡ false
   side_found d P G k e i = subst (λ z. side_lost d z (shape (s.nodes th.main)) (sight_of s) ≡ false) (sym e) (ap not (names_it (s.nodes th.main).parent P (kid_at d (s.nodes G)) k.parent i.0))
 
   -- no swap fails
@@ -186,9 +185,9 @@ module _ {b : Bench} {hist : Hist} {now : ℕ} {first : ℕ → Link} (inv : Inv
   finds p45 e m = refl
   finds p46 e (P, k, o) = go (s.nodes th.main).grandparent o
     where
-      go : (l : Link) → Over s th.main P l → root_lost l (shape (s.nodes th.main)) (sight_of s) ≡ false
-      go Nil i = ap not (names_it (s.nodes th.main).parent P s.root k.parent i)
-      go (To G) i = refl
+      go : (l : Option ℕ) → Over s th.main P l → root_lost l (shape (s.nodes th.main)) (sight_of s) ≡ false
+      go None i = ap not (names_it (s.nodes th.main).parent P s.root k.parent i)
+      go (Some G) i = refl
   finds p47 e (P, G, k, i, o) = side_found true P G k i o
   finds p48 e (P, G, k, i, o) = side_found false P G k i o
   finds p49 e (P, G, k, i, o) = side_found false P G k i o

@@ -1,5 +1,6 @@
 -- Failing is exactly the way out that 01 names: where a comparison fails the step is that way out, and where it does not fail the step is another.
 -- Of every place, store and thread; but a query has no step at 10 to 13. Assumes nothing.
+use Rattle.std.specs.Prelude.{Option, Some, None}
 use Prim.Native.Nat.{ℕ, ◌+◌, ◌≤◌}
 use mathlib.Core.Path.{◌≡◌, refl, sym, ◌∙◌, ap}
 use mathlib.Core.Logic.{◌≢◌}
@@ -8,8 +9,6 @@ use mathlib.Core.List.{List, [], ◌∷◌}
 use native.Mathlib.Omega.{arith}
 use lib.Dec.{leb}
 use Rattle.container.specs.Choice.{ite}
-use Rattle.definitions.specs.declared.Link.{Link}
-use Rattle.definitions.specs.declared.Link.TheVariants.{Nil, To}
 use Rattle.definitions.specs.declared.Stage.TheVariants.{Aborted}
 use Rattle.definitions.specs.declared.Quarter.{Quarter}
 use Rattle.definitions.specs.declared.Quarter.TheVariants.{ReadLeft, SwapLeft, ReadRight, SwapRight}
@@ -155,15 +154,15 @@ module _ (s : Sight) (th : Thread) where
 
   -- ---- 33 to 50
 
-  grand_out : (l : Link) → Exactly (grand_taken l s) (grand_marking l s.nodes th) (goes (at p37 th))
+  grand_out : (l : Option ℕ) → Exactly (grand_taken l s) (grand_marking l s.nodes th) (goes (at p37 th))
   unfolding leads
-  grand_out Nil = always _
-  grand_out (To g) = tested _ _ _ (λ e. omega (arith, ap leads e))
+  grand_out None = always _
+  grand_out (Some g) = tested _ _ _ (λ e. omega (arith, ap leads e))
 
-  back_apart : (l : Link) (o : Turn) → (leads o ≡ 36 → ⊥) → (leads o ≡ 37 → ⊥) → Apart o (goes (at (back_out l) th))
+  back_apart : (l : Option ℕ) (o : Turn) → (leads o ≡ 36 → ⊥) → (leads o ≡ 37 → ⊥) → Apart o (goes (at (back_out l) th))
   unfolding leads
-  back_apart Nil o a b = λ e. b (ap leads e)
-  back_apart (To g) o a b = λ e. a (ap leads e)
+  back_apart None o a b = λ e. b (ap leads e)
+  back_apart (Some g) o a b = λ e. a (ap leads e)
 
   -- 46 reads the grandparent's left
   left_read : (c : Bool) → Apart (ite c (goes (at p47 th)) (goes (at p48 th))) (goes (at p51 th))
@@ -171,25 +170,25 @@ module _ (s : Sight) (th : Thread) where
   left_read true = λ e. omega (arith, ap leads e)
   left_read false = λ e. omega (arith, ap leads e)
 
-  root_out : (l : Link) (m : Node) → Exactly (root_lost l m s) (cut_at l m s.nodes s.root th) (goes (at p51 th))
+  root_out : (l : Option ℕ) (m : Node) → Exactly (root_lost l m s) (cut_at l m s.nodes s.root th) (goes (at p51 th))
   unfolding wrote writes
-  root_out Nil m = tested _ _ _ (λ e. omega (arith, ap wrote e))
-  root_out (To g) m = never _ _ (left_read (names m.parent (s.nodes g).left))
+  root_out None m = tested _ _ _ (λ e. omega (arith, ap wrote e))
+  root_out (Some g) m = never _ _ (left_read (names m.parent (s.nodes g).left))
 
-  side_out : (d : Bool) (l : Link) (m : Node) → Exactly (side_lost d l m s) (cut_on d l m s.nodes th) (goes (at (cut_to l) th))
+  side_out : (d : Bool) (l : Option ℕ) (m : Node) → Exactly (side_lost d l m s) (cut_on d l m s.nodes th) (goes (at (cut_to l) th))
   unfolding wrote writes
-  side_out d Nil m = always _
-  side_out d (To g) m = tested _ _ _ (λ e. omega (arith, ap wrote e))
+  side_out d None m = always _
+  side_out d (Some g) m = tested _ _ _ (λ e. omega (arith, ap wrote e))
 
-  right_out : (l : Link) (m : Node) → Exactly (side_lost false l m s) (cut_right l m s.nodes th) (goes (at (cut_to l) th))
+  right_out : (l : Option ℕ) (m : Node) → Exactly (side_lost false l m s) (cut_right l m s.nodes th) (goes (at (cut_to l) th))
   unfolding leads
-  right_out Nil m = always _
-  right_out (To g) m = tested _ _ _ (λ e. omega (arith, ap leads e))
+  right_out None m = always _
+  right_out (Some g) m = tested _ _ _ (λ e. omega (arith, ap leads e))
 
-  mark_out : (l : Link) → Exactly (mark_lost l th.main s) (freeing l s.nodes th) (goes (at p51 th))
+  mark_out : (l : Option ℕ) → Exactly (mark_lost l th.main s) (freeing l s.nodes th) (goes (at p51 th))
   unfolding wrote writes
-  mark_out Nil = always _
-  mark_out (To g) = tested _ _ _ (λ e. omega (arith, ap wrote e))
+  mark_out None = always _
+  mark_out (Some g) = tested _ _ _ (λ e. omega (arith, ap wrote e))
 
 -- ---- every place
 

@@ -1,4 +1,5 @@
 -- The one writer's places 25 to 35: its join, up to the swap that makes its main's stage a node number.
+use Rattle.std.specs.Prelude.{Option, Some, None}
 use mathlib.Core.Path.{◌≡◌, refl, sym, ◌∙◌, ap, subst}
 use mathlib.Core.Logic.{◌≢◌, ◌⊎◌, inl, inr}
 use mathlib.Core.Bool.{Bool, true, false, cond}
@@ -8,8 +9,6 @@ use lib.Dec.{eqb, ltb}
 use borrow.Author.Tests.{eq-eqb, ne_eqb, eqb-true, eqb-false}
 use Rattle.container.specs.Choice.{upd}
 use Rattle.container.specs.Depths.{Container}
-use Rattle.definitions.specs.declared.Link.{Link}
-use Rattle.definitions.specs.declared.Link.TheVariants.{Nil, To}
 use Rattle.definitions.specs.declared.Kind.TheVariants.{Main, Neighbour}
 use Rattle.definitions.specs.declared.Action.{Action}
 use Rattle.definitions.specs.declared.Quarter.{Quarter}
@@ -59,7 +58,7 @@ frame_upd n i v a x = elim (x ==? i) [
 abbrev pub Framed : Store → Store → Type 0
 Framed s s' = (x : ℕ) → x < s.used → Frame (s'.nodes x) (s.nodes x)
 
-pub framed_mark : (s : Store) (r : ℕ) (k : Link) → Framed s (write r (over (with_mark k) (s.nodes r)) s)
+pub framed_mark : (s : Store) (r : ℕ) (k : Option ℕ) → Framed s (write r (over (with_mark k) (s.nodes r)) s)
 framed_mark s r k x _ = frame_upd s.nodes r _ (record { kind = refl; parent = refl; left = refl; right = refl }) x
 
 module _ (s s' : Store) (fr : Framed s s') (u : s.used ≤ s'.used) where
@@ -70,7 +69,7 @@ module _ (s s' : Store) (fr : Framed s s') (u : s.used ≤ s'.used) where
       go Root (e, i) = ((fr x h.low).parent ∙ e, r ∙ i)
       go (Under p f) (e, i, l) = ((fr x h.low).parent ∙ e, frame_kid _ _ (fr p l) f ∙ i, omega arith)
 
-  pub work_on : {a : Action} {o : Bool} {m P : ℕ} {g g' : Link} → Work s a o m P g → Tidy s'.nodes s'.used (To m) g' → (s'.nodes m).stage ≡ (s.nodes m).stage → Work s' a o m P g'
+  pub work_on : {a : Action} {o : Bool} {m P : ℕ} {g g' : Option ℕ} → Work s a o m P g → Tidy s'.nodes s'.used (Some m) g' → (s'.nodes m).stage ≡ (s.nodes m).stage → Work s' a o m P g'
   work_on {m = m} {P = P} k t e = let l = (k.tidy.mains m k.kind).0 in record {
     act = k.act;
     owner = k.owner;
@@ -82,11 +81,11 @@ module _ (s s' : Store) (fr : Framed s s') (u : s.used ≤ s'.used) where
     low = omega (arith, k.low);
   }
 
-  pub over_on : s'.root ≡ s.root → ((x : ℕ) → x < s.used → (s'.nodes x).mark ≡ (s.nodes x).mark) → (m P : ℕ) (g : Link) → Over s m P g → Over s' m P g
-  over_on r k m P Nil h = r ∙ h
-  over_on r k m P (To G) (f, (i, j, l)) = (f, (frame_kid _ _ (fr G l) f ∙ i, k G l ∙ j, omega arith))
+  pub over_on : s'.root ≡ s.root → ((x : ℕ) → x < s.used → (s'.nodes x).mark ≡ (s.nodes x).mark) → (m P : ℕ) (g : Option ℕ) → Over s m P g → Over s' m P g
+  over_on r k m P None h = r ∙ h
+  over_on r k m P (Some G) (f, (i, j, l)) = (f, (frame_kid _ _ (fr G l) f ∙ i, k G l ∙ j, omega arith))
 
-module _ {b : Bench} {hist : Hist} {now : ℕ} {first : ℕ → Link} (inv : Inv b hist now first) (c : ℕ) where
+module _ {b : Bench} {hist : Hist} {now : ℕ} {first : ℕ → Option ℕ} (inv : Inv b hist now first) (c : ℕ) where
   abbrev th : Thread
   th = b.threads 0
 
@@ -111,7 +110,7 @@ module _ {b : Bench} {hist : Hist} {now : ℕ} {first : ℕ → Link} (inv : Inv
 
   -- a route's mark set
   abbrev marked : ℕ → Store
-  marked r = write r (over (with_mark (To th.main)) (s.nodes r)) s
+  marked r = write r (over (with_mark (Some th.main)) (s.nodes r)) s
 
   stage_mark : (r x : ℕ) → ((marked r).nodes x).stage ≡ (s.nodes x).stage
   stage_mark r x = elim (x ==? r) [ yes e ↦ rw (eq-eqb x r e, e) refl | no e ↦ rw (ne_eqb x r e) refl ]
@@ -167,7 +166,7 @@ module _ {b : Bench} {hist : Hist} {now : ℕ} {first : ℕ → Link} (inv : Inv
   unfolding step
   at_found_lem q (k, um, v, o, h, l, ib) = by _ (probed s th.found q v o h)
     where
-      neigh : (v : Spot) → Sits s v th.found → Work (hang v s.used s1) th.action th.owner th.main th.parent Nil × Unmarked (hang v s.used s1) th.main × Hung (hang v s.used s1) s.used
+      neigh : (v : Spot) → Sits s v th.found → Work (hang v s.used s1) th.action th.owner th.main th.parent None × Unmarked (hang v s.used s1) th.main × Hung (hang v s.used s1) s.used
       neigh v o = let u = s.used in
           let lm : th.main < u = (k.tidy.mains th.main k.kind).0 in
           let zm : s1.nodes th.main ≡ s.nodes th.main = at_other_lem s.nodes u th.main N (λ z. omega arith) in
@@ -193,7 +192,7 @@ module _ {b : Bench} {hist : Hist} {now : ℕ} {first : ℕ → Link} (inv : Inv
             },
           )
         where
-          none : (r : ℕ) → (s1.nodes r).mark ≢ To th.main
+          none : (r : ℕ) → (s1.nodes r).mark ≢ Some th.main
           none r = elim (r ==? s.used) [ yes e ↦ rw (eq-eqb r s.used e) (λ z. clash (cc)) | no e ↦ rw (ne_eqb r s.used e) (um r) ]
 
       by : (p : Probe) → Probed s th.found q p → Ok (found_by p (shape (s.nodes th.found)) s.used th)
@@ -203,17 +202,17 @@ module _ {b : Bench} {hist : Hist} {now : ℕ} {first : ℕ → Link} (inv : Inv
   -- ---- 30 to 33
 
   -- the parent is live as long as the main is preparing
-  live_parent : Born W th.main → Work s th.action th.owner th.main th.parent Nil → Live W th.parent
+  live_parent : Born W th.main → Work s th.action th.owner th.main th.parent None → Live W th.parent
   live_parent bo k = ((mem inv c).mains.prep th.main th.parent k.kind bo k.stage k.parent).0
 
-  pub free_30 : Stands b 0 p30 → Mine p30 s th c → (s.nodes th.parent).mark ≡ Nil
+  pub free_30 : Stands b 0 p30 → Mine p30 s th c → (s.nodes th.parent).mark ≡ None
   free_30 e (k, um, h) = unmarked (mem inv c) k.tidy th.parent k.route (live_parent (know_now inv 0 p30 e).0.owns.born k) (λ m z i. um th.parent (i ∙ sym z))
 
   pub at_30 : Stands b 0 p30 → Mine p30 s th c → Ok (step p30 (sight_of s) th)
   unfolding step
   at_30 e (k, um, h) = pick_true Ok _ _ _ (ap is_nil (free_30 e (k, um, h))) (
-    work_on s (marked th.parent) (framed_mark s th.parent (To th.main)) (omega arith) k (tidy_parent s.nodes s.used th.main k.kind th.parent k.tidy k.parent) (stage_mark th.parent th.main),
-    hung_on s (marked th.parent) (framed_mark s th.parent (To th.main)) (omega arith) refl th.neighbour h,
+    work_on s (marked th.parent) (framed_mark s th.parent (Some th.main)) (omega arith) k (tidy_parent s.nodes s.used th.main k.kind th.parent k.tidy k.parent) (stage_mark th.parent th.main),
+    hung_on s (marked th.parent) (framed_mark s th.parent (Some th.main)) (omega arith) refl th.neighbour h,
   )
 
   pub at_31 : Stands b 0 p31 → Mine p31 s th c → Ok (step p31 (sight_of s) th)
@@ -260,19 +259,19 @@ module _ {b : Bench} {hist : Hist} {now : ℕ} {first : ℕ → Link} (inv : Inv
       climbs z = let (_, i, j, _) = reached_live (mem inv c) there.depth x there.lo there.hi there.path in let (_, (p, q)) = next in
           record { reach = there; route = kind_route _ next.0; apart = eqb-false _ _ z; from_lo = omega arith; to_hi = omega arith }
 
-  pub free_33 : (o : Mine p33 s th c) → (s.nodes o.2).mark ≡ Nil
+  pub free_33 : (o : Mine p33 s th c) → (s.nodes o.2).mark ≡ None
   free_33 (k, h, G, e, a) = unmarked (mem inv c) k.tidy G a.route (live_of inv c G a.reach) (λ m z i. go m z i (k.tidy.marks G m i).1)
     where
-      go : (m : ℕ) → ◌≡◌ {A = Link} (To th.main) (To m) → (s.nodes G).mark ≡ To m → ((s.nodes m).parent ≡ To G) ⊎ ((◌≡◌ {A = Link} (To th.main) (To m)) × (◌≡◌ {A = Link} Nil (To G))) → ⊥
+      go : (m : ℕ) → ◌≡◌ {A = Option ℕ} (Some th.main) (Some m) → (s.nodes G).mark ≡ Some m → ((s.nodes m).parent ≡ Some G) ⊎ ((◌≡◌ {A = Option ℕ} (Some th.main) (Some m)) × (◌≡◌ {A = Option ℕ} None (Some G))) → ⊥
       go m z i (inl p) = a.apart (let v = k.parent in let y : th.main ≡ m = cc in cc)
       go m z i (inr (_, p)) = clash (cc)
 
   pub at_33 : Mine p33 s th c → Ok (step p33 (sight_of s) th)
   unfolding step
   at_33 (k, h, G, e, a) = rw e (pick_true Ok _ _ _ (ap is_nil (free_33 (k, h, G, e, a))) (rw e (
-    work_on s (marked G) (framed_mark s G (To th.main)) (omega arith) k (tidy_grand s.nodes s.used th.main k.kind G k.tidy) (stage_mark G th.main),
-    hung_on s (marked G) (framed_mark s G (To th.main)) (omega arith) refl th.neighbour h,
-    (a.side, (frame_kid _ _ (framed_mark s G (To th.main) G lg) a.side ∙ a.here, ap (λ z. z.mark) (at_same s.nodes G (over (with_mark (To th.main)) (s.nodes G))), lg)),
+    work_on s (marked G) (framed_mark s G (Some th.main)) (omega arith) k (tidy_grand s.nodes s.used th.main k.kind G k.tidy) (stage_mark G th.main),
+    hung_on s (marked G) (framed_mark s G (Some th.main)) (omega arith) refl th.neighbour h,
+    (a.side, (frame_kid _ _ (framed_mark s G (Some th.main) G lg) a.side ∙ a.here, ap (λ z. z.mark) (at_same s.nodes G (over (with_mark (Some th.main)) (s.nodes G))), lg)),
   )))
     where
       lg : G < s.used
@@ -285,25 +284,25 @@ module _ {b : Bench} {hist : Hist} {now : ℕ} {first : ℕ → Link} (inv : Inv
   at_34 k = k
 
   -- the union node U, and the main closed
-  abbrev united : Link → Container → Entry
+  abbrev united : Option ℕ → Container → Entry
   united p x = new_base Neighbour p x th.main
 
-  abbrev s2 : Link → Container → Store
+  abbrev s2 : Option ℕ → Container → Store
   s2 p x = push s.used (united p x) s
 
-  abbrev C : Link → Container → Entry
+  abbrev C : Option ℕ → Container → Entry
   C p x = over (committed s.used th.neighbour th.grandparent th.other) ((s2 p x).nodes th.main)
 
-  abbrev s3 : Link → Container → Store
+  abbrev s3 : Option ℕ → Container → Store
   s3 p x = write th.main (C p x) (s2 p x)
 
-  closes : (p : Link) (x : Container) → Mine p35 s th c → Mine p40 (s3 p x) (at p40 th) (suc c)
+  closes : (p : Option ℕ) (x : Container) → Mine p35 s th c → Mine p40 (s3 p x) (at p40 th) (suc c)
   closes p x (k, h, o) = (
     th.parent,
     record {
       act = k.act;
       owner = k.owner;
-      tidy = subst (λ z. Tidy (s3 p x).nodes (s3 p x).used (To th.main) z) (sym (ap (λ z. z.grandparent) zm)) (tidy_close (s2 p x).nodes (suc s.used) th.main (C p x) (record { kind = refl; mark = refl; parent = refl })
+      tidy = subst (λ z. Tidy (s3 p x).nodes (s3 p x).used (Some th.main) z) (sym (ap (λ z. z.grandparent) zm)) (tidy_close (s2 p x).nodes (suc s.used) th.main (C p x) (record { kind = refl; mark = refl; parent = refl })
           (tidy_used (tidy_fill k.tidy s.used (united p x) (omega arith) (λ z. clash (cc)) refl (λ z. clash (cc)) (λ z. clash (cc))) (suc s.used) (omega arith)) (λ z. clash (cc)));
       kind = (fr th.main lm).kind ∙ k.kind;
       stage = ap (λ z. z.stage) zm;

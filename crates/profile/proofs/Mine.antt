@@ -1,5 +1,6 @@
 -- What holds at each place of the one writer (`Mine`): the memory is tidy but for what its own operation has written, and each comparison to come
 -- finds what it looks for. No ghosts: other threads' steps leave the store as it is, so nothing has to be shown to outlive them.
+use Rattle.std.specs.Prelude.{Option, Some, None}
 use mathlib.Core.Path.{◌≡◌, refl, sym, ◌∙◌}
 use mathlib.Core.Logic.{◌≢◌}
 use mathlib.Core.Bool.{Bool, true, false, false≢true}
@@ -8,8 +9,6 @@ use native.Mathlib.Omega.{arith}
 use lib.Dec.{eqb}
 use borrow.Author.Tests.{eq-eqb, ne_eqb, eqb-true, eqb-false}
 use Rattle.container.specs.Choice.{ite, upd}
-use Rattle.definitions.specs.declared.Link.{Link}
-use Rattle.definitions.specs.declared.Link.TheVariants.{Nil, To}
 use Rattle.definitions.specs.declared.Kind.TheVariants.{Route, Main}
 use Rattle.definitions.specs.declared.Stage.TheVariants.{Preparing, Completing}
 use Rattle.definitions.specs.declared.Action.{Action}
@@ -139,19 +138,19 @@ pub record Seek (s : Store) (a : Action) (par base : ℕ) (f : Bool) : Type 0 wh
   pub here : kid_at f (s.nodes par) ≡ base
 
 -- 26-35: its main m under P is preparing, all others are done; g is the grandparent that it has marked
-pub record Work (s : Store) (a : Action) (o : Bool) (m P : ℕ) (g : Link) : Type 0 where
+pub record Work (s : Store) (a : Action) (o : Bool) (m P : ℕ) (g : Option ℕ) : Type 0 where
   pub act : a ≡ Join
   pub owner : o ≡ true
-  pub tidy : Tidy s.nodes s.used (To m) g
+  pub tidy : Tidy s.nodes s.used (Some m) g
   pub kind : (s.nodes m).kind ≡ Main
   pub stage : (s.nodes m).stage ≡ Preparing
-  pub parent : (s.nodes m).parent ≡ To P
+  pub parent : (s.nodes m).parent ≡ Some P
   pub route : (s.nodes P).kind ≡ Route
   pub low : P < s.used
 
 -- 26-30: no route bears its mark
 abbrev pub Unmarked : Store → ℕ → Type 0
-Unmarked s m = (r : ℕ) → (s.nodes r).mark ≢ To m
+Unmarked s m = (r : ℕ) → (s.nodes r).mark ≢ Some m
 
 -- a base that sits where its parent says; 30-41
 pub record Hung (s : Store) (x : ℕ) : Type 0 where
@@ -178,38 +177,38 @@ pub record Grand (s : Store) (G P : ℕ) : Type 0 where
 
 -- 34-46: where P hangs; 47-49: on which side
 abbrev pub OnSide : Store → ℕ → ℕ → ℕ → Bool → Type 0
-OnSide s m P G f = (kid_at f (s.nodes G) ≡ P) × ((s.nodes G).mark ≡ To m) × (G < s.used)
+OnSide s m P G f = (kid_at f (s.nodes G) ≡ P) × ((s.nodes G).mark ≡ Some m) × (G < s.used)
 
-abbrev pub Over : Store → ℕ → ℕ → Link → Type 0
-Over s m P Nil = s.root ≡ P
-Over s m P (To G) = (f : Bool) × OnSide s m P G f
+abbrev pub Over : Store → ℕ → ℕ → Option ℕ → Type 0
+Over s m P None = s.root ≡ P
+Over s m P (Some G) = (f : Bool) × OnSide s m P G f
 
 -- 40-49: its main is a node number
 pub record Close (s : Store) (a : Action) (o : Bool) (m P : ℕ) : Type 0 where
   pub act : a ≡ Join
   pub owner : o ≡ true
-  pub tidy : Tidy s.nodes s.used (To m) (s.nodes m).grandparent
+  pub tidy : Tidy s.nodes s.used (Some m) (s.nodes m).grandparent
   pub kind : (s.nodes m).kind ≡ Main
   pub stage : (s.nodes m).stage ≡ Completing
-  pub parent : (s.nodes m).parent ≡ To P
+  pub parent : (s.nodes m).parent ≡ Some P
   pub route : (s.nodes P).kind ≡ Route
 
 -- 50
 pub record Leaves (s : Store) (a : Action) (o : Bool) (m G : ℕ) : Type 0 where
   pub act : a ≡ Join
   pub owner : o ≡ true
-  pub tidy : Tidy s.nodes s.used (To m) (To G)
+  pub tidy : Tidy s.nodes s.used (Some m) (Some G)
   pub kind : (s.nodes m).kind ≡ Main
-  pub grand : (s.nodes m).grandparent ≡ To G
-  pub mark : (s.nodes G).mark ≡ To m
+  pub grand : (s.nodes m).grandparent ≡ Some G
+  pub mark : (s.nodes G).mark ≡ Some m
 
 -- 51
 pub record Ends (s : Store) (a : Action) (o : Bool) (m : ℕ) : Type 0 where
   pub act : a ≡ Join
   pub owner : o ≡ true
-  pub tidy : Tidy s.nodes s.used (To m) Nil
+  pub tidy : Tidy s.nodes s.used (Some m) None
 
-abbrev WorkOf : Store → Thread → Link → Type 0
+abbrev WorkOf : Store → Thread → Option ℕ → Type 0
 WorkOf s th g = Work s th.action th.owner th.main th.parent g
 
 abbrev SeekOf : Store → Thread → Bool → Type 0
@@ -236,11 +235,11 @@ Mine p22 s th c = SeekOf s th th.left
 Mine p23 s th c = SeekOf s th th.left × Spotted s th.route × ((s.nodes th.route).kind ≡ Route)
 Mine p24 s th c = SeekOf s th th.left × Spotted s th.found × ((s.nodes th.found).kind ≢ Route)
 Mine p25 s th c = SeekOf s th th.left × Spotted s th.found × ((s.nodes th.found).kind ≢ Route)
-Mine (swap found q) s th c = WorkOf s th Nil × Unmarked s th.main × (v : Spot) × Sits s v th.found × Here q v × (th.found < s.used) × ((s.nodes th.found).kind ≢ Route)
-Mine p30 s th c = WorkOf s th Nil × Unmarked s th.main × Hung s th.neighbour
-Mine p31 s th c = WorkOf s th Nil × Hung s th.neighbour
-Mine p32 s th c = WorkOf s th Nil × Hung s th.neighbour × Climb s th.route th.parent
-Mine p33 s th c = WorkOf s th Nil × Hung s th.neighbour × (G : ℕ) × (th.grandparent ≡ To G) × Grand s G th.parent
+Mine (swap found q) s th c = WorkOf s th None × Unmarked s th.main × (v : Spot) × Sits s v th.found × Here q v × (th.found < s.used) × ((s.nodes th.found).kind ≢ Route)
+Mine p30 s th c = WorkOf s th None × Unmarked s th.main × Hung s th.neighbour
+Mine p31 s th c = WorkOf s th None × Hung s th.neighbour
+Mine p32 s th c = WorkOf s th None × Hung s th.neighbour × Climb s th.route th.parent
+Mine p33 s th c = WorkOf s th None × Hung s th.neighbour × (G : ℕ) × (th.grandparent ≡ Some G) × Grand s G th.parent
 Mine p34 s th c = WorkOf s th th.grandparent × Hung s th.neighbour × Over s th.main th.parent th.grandparent
 Mine p35 s th c = WorkOf s th th.grandparent × Hung s th.neighbour × Over s th.main th.parent th.grandparent
 Mine p36 s th c = ⊥
@@ -251,9 +250,9 @@ Mine (swap united q) s th c = (P : ℕ) × CloseOf s th P × Over s th.main P (s
     × (v : Spot) × Sits s v (s.nodes th.main).neighbour × Here q v × ((s.nodes (s.nodes th.main).neighbour).kind ≢ Route)
 Mine p45 s th c = (P : ℕ) × CloseOf s th P × Over s th.main P (s.nodes th.main).grandparent
 Mine p46 s th c = (P : ℕ) × CloseOf s th P × Over s th.main P (s.nodes th.main).grandparent
-Mine p47 s th c = (P G : ℕ) × CloseOf s th P × ((s.nodes th.main).grandparent ≡ To G) × OnSide s th.main P G true
-Mine p48 s th c = (P G : ℕ) × CloseOf s th P × ((s.nodes th.main).grandparent ≡ To G) × OnSide s th.main P G false
-Mine p49 s th c = (P G : ℕ) × CloseOf s th P × ((s.nodes th.main).grandparent ≡ To G) × OnSide s th.main P G false
+Mine p47 s th c = (P G : ℕ) × CloseOf s th P × ((s.nodes th.main).grandparent ≡ Some G) × OnSide s th.main P G true
+Mine p48 s th c = (P G : ℕ) × CloseOf s th P × ((s.nodes th.main).grandparent ≡ Some G) × OnSide s th.main P G false
+Mine p49 s th c = (P G : ℕ) × CloseOf s th P × ((s.nodes th.main).grandparent ≡ Some G) × OnSide s th.main P G false
 Mine p50 s th c = (G : ℕ) × Leaves s th.action th.owner th.main G
 Mine p51 s th c = Ends s th.action th.owner th.main
 Mine p60 s th c = ⊥

@@ -1,5 +1,6 @@
 -- The one-writer profile, over every list of records (definitions/specs/Profile.antt, `OneWriter`): only thread 0 writes, the others look up and
 -- leave the store as it is.
+use Rattle.std.specs.Prelude.{Option, None}
 use mathlib.Core.Path.{◌≡◌, refl, sym, ◌∙◌, ap, subst}
 use mathlib.Core.Logic.{◌≢◌}
 use mathlib.Core.Bool.{Bool, true, false, ◌&&◌, ◌||◌, true≢false, false≢true}
@@ -9,8 +10,6 @@ use native.Mathlib.Omega.{arith}
 use lib.Dec.{eqb, leb}
 use borrow.Author.Tests.{eq-eqb, ne_eqb, eqb-true, ltb-false, lt-ltb, le-leb}
 use Rattle.container.specs.Choice.{ite, upd}
-use Rattle.definitions.specs.declared.Link.{Link}
-use Rattle.definitions.specs.declared.Link.TheVariants.{Nil}
 use Rattle.definitions.specs.declared.Action.{Action}
 use Rattle.definitions.specs.declared.Action.TheVariants.{Lookup, Insert, Remove, Split, Join, Query}
 use Rattle.definitions.specs.declared.Spot.TheVariants.{Root, Under}
@@ -138,7 +137,7 @@ roams_straight n (resting e) = rw e
 roams_straight n (first e) = rw e
 roams_straight n (walking e) = rw e
 
-calm : {b : Bench} {hist : Hist} {now : ℕ} {f : ℕ → Link} (inv : Inv b hist now f) (c : ℕ → ℕ) → Solo b c → Calm b
+calm : {b : Bench} {hist : Hist} {now : ℕ} {f : ℕ → Option ℕ} (inv : Inv b hist now f) (c : ℕ → ℕ) → Solo b c → Calm b
 unfolding fails compares
 calm {b} inv c z = record {
   swaps = λ t. elim (t ==? 0) [
@@ -164,7 +163,7 @@ both_off : (a b : Bool) → a || b ≡ false → (a ≡ false) × (b ≡ false)
 both_off true b e = absurd (true≢false e)
 both_off false b e = (refl, e)
 
-module _ {b : Bench} {hist : Hist} {now : ℕ} {f : ℕ → Link} (inv : Inv b hist now f) (c : ℕ → ℕ) (z : Solo b c) (y d : ℕ) where
+module _ {b : Bench} {hist : Hist} {now : ℕ} {f : ℕ → Option ℕ} (inv : Inv b hist now f) (c : ℕ → ℕ) (z : Solo b c) (y d : ℕ) where
   abbrev Kept : ℕ → ℕ → Result → Type 0
   Kept n t (refused _) = Unit {0}
   Kept n t (carried b' w) = Brief (b.threads t) (counted n t c t) × Joined w b.store (b.threads t) × Solo b' (counted n t c)
@@ -275,7 +274,7 @@ module _ {b : Bench} {hist : Hist} {now : ℕ} {f : ℕ → Link} (inv : Inv b h
 
 -- ---- the list
 
-module _ (H : Hist) (r : Rec) (rs : List Rec) (b : Bench) (P : Plain) (f : ℕ → Link) (k : ℕ) (c : ℕ → ℕ) (z : Standing H (r ∷ rs) b P f k) (s : Solo b c) where
+module _ (H : Hist) (r : Rec) (rs : List Rec) (b : Bench) (P : Plain) (f : ℕ → Option ℕ) (k : ℕ) (c : ℕ → ℕ) (z : Standing H (r ∷ rs) b P f k) (s : Solo b c) where
   abbrev c' : ℕ → ℕ
   c' = counted (r.first % 16) (r.first / 16) c
 
@@ -291,7 +290,7 @@ module _ (H : Hist) (r : Rec) (rs : List Rec) (b : Bench) (P : Plain) (f : ℕ �
   choose true e ih = tt
   choose false e ih = past (record_step b r.last r.first r.second r.extra) (next H r rs b P f k z) (one z.inv c s r.second r.extra r.last r.first e) ih
 
-through : (H : Hist) (rs : List Rec) (b : Bench) (P : Plain) (f : ℕ → Link) (k : ℕ) (c : ℕ → ℕ) → Standing H rs b P f k → Solo b c → Throughout rs b c
+through : (H : Hist) (rs : List Rec) (b : Bench) (P : Plain) (f : ℕ → Option ℕ) (k : ℕ) (c : ℕ → ℕ) → Standing H rs b P f k → Solo b c → Throughout rs b c
 unfolding profile_step
 through H [] b P f k c z s = calm z.inv c s
 through H (r ∷ rs) b P f k c z s = (
@@ -301,4 +300,4 @@ through H (r ∷ rs) b P f k c z s = (
 
 -- request l
 pub one_writer : OneWriter
-one_writer rs = through (moments false rs) rs (fresh false) empty (λ _. Nil) 0 (λ _. 0) (at_start false rs) fresh_solo
+one_writer rs = through (moments false rs) rs (fresh false) empty (λ _. None) 0 (λ _. 0) (at_start false rs) fresh_solo

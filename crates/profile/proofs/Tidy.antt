@@ -1,12 +1,11 @@
 -- What one writer leaves behind it, of the node table alone and with no ghost (`Tidy`), and that each effect keeps it.
+use Rattle.std.specs.Prelude.{Option, Some, None}
 use mathlib.Core.Path.{◌≡◌, refl, sym, ◌∙◌, ap}
 use mathlib.Core.Logic.{◌≢◌, ◌⊎◌, inl, inr}
 use Prim.Native.Nat.{ℕ, suc, ◌<◌, ◌≤◌}
 use native.Mathlib.Omega.{arith}
 use borrow.Author.Tests.{eq-eqb, ne_eqb}
 use Rattle.container.specs.Choice.{upd}
-use Rattle.definitions.specs.declared.Link.{Link}
-use Rattle.definitions.specs.declared.Link.TheVariants.{Nil, To}
 use Rattle.definitions.specs.declared.Kind.TheVariants.{Main, Range}
 use Rattle.definitions.specs.declared.Stage.TheVariants.{Aborted, Done}
 use Rattle.definitions.specs.declared.Spot.{Spot}
@@ -18,15 +17,15 @@ use Rattle.answers.proofs.Tools.{◌==?◌, clash}
 
 -- every main but l is done; a join mark is that of a route's own main, or l's on its grandparent g; no main is aborted;
 -- there is no range base
-pub record Tidy (n : Nodes) (u : ℕ) (l g : Link) : Type 0 where
-  pub mains : (x : ℕ) → (n x).kind ≡ Main → (x < u) × ((l ≡ To x) ⊎ ((n x).stage ≡ Done))
-  pub marks : (r m : ℕ) → (n r).mark ≡ To m → ((n m).kind ≡ Main) × (((n m).parent ≡ To r) ⊎ ((l ≡ To m) × (g ≡ To r)))
+pub record Tidy (n : Nodes) (u : ℕ) (l g : Option ℕ) : Type 0 where
+  pub mains : (x : ℕ) → (n x).kind ≡ Main → (x < u) × ((l ≡ Some x) ⊎ ((n x).stage ≡ Done))
+  pub marks : (r m : ℕ) → (n r).mark ≡ Some m → ((n m).kind ≡ Main) × (((n m).parent ≡ Some r) ⊎ ((l ≡ Some m) × (g ≡ Some r)))
   pub upright : (x : ℕ) → (n x).stage ≢ Aborted
   pub rangeless : (x : ℕ) → (n x).kind ≢ Range
 
 -- nothing pending
 abbrev pub Quiet : Store → Type 0
-Quiet s = Tidy s.nodes s.used Nil Nil
+Quiet s = Tidy s.nodes s.used None None
 
 -- ---- one entry replaced
 
@@ -43,7 +42,7 @@ pub record Alike (v v' : Entry) : Type 0 where
   pub parent : v.parent ≡ v'.parent
   pub stage : v.stage ≡ v'.stage
 
-pub tidy_alike : {n n' : Nodes} {u : ℕ} {l g : Link} → ((x : ℕ) → Alike (n' x) (n x)) → Tidy n u l g → Tidy n' u l g
+pub tidy_alike : {n n' : Nodes} {u : ℕ} {l g : Option ℕ} → ((x : ℕ) → Alike (n' x) (n x)) → Tidy n u l g → Tidy n' u l g
 tidy_alike {n} {n'} {u} {l} {g} a t = record {
   mains = λ x e. let (i, o) = t.mains x (sym (a x).kind ∙ e) in (i, rw (a x).stage o);
   marks = λ r m e. let (i, o) = t.marks r m (sym (a r).mark ∙ e) in ((a m).kind ∙ i, rw (a m).parent o);
@@ -68,19 +67,19 @@ pub used_hang : (v : Spot) (c : ℕ) (s : Store) → (hang v c s).used ≡ s.use
 used_hang Root c s = refl
 used_hang (Under r d) c s = refl
 
-pub tidy_hang : (v : Spot) (c : ℕ) (s : Store) {l g : Link} → Tidy s.nodes s.used l g → Tidy (hang v c s).nodes (hang v c s).used l g
+pub tidy_hang : (v : Spot) (c : ℕ) (s : Store) {l g : Option ℕ} → Tidy s.nodes s.used l g → Tidy (hang v c s).nodes (hang v c s).used l g
 tidy_hang v c s t = rw (used_hang v c s) (tidy_alike (alike_hang v c s) t)
 
 -- ---- a number not used before
 
-module _ {n : Nodes} {u : ℕ} {l g : Link} (t : Tidy n u l g) where
+module _ {n : Nodes} {u : ℕ} {l g : Option ℕ} (t : Tidy n u l g) where
   pub tidy_used : (u' : ℕ) → u ≤ u' → Tidy n u' l g
   tidy_used u' h = record { mains = λ x e. let (i, o) = t.mains x e in (omega arith, o); marks = t.marks; upright = t.upright; rangeless = t.rangeless }
 
   old : (i x : ℕ) → u ≤ i → (n x).kind ≡ Main → x ≢ i
   old i x h e z = let (o, _) = t.mains x e in omega arith
 
-  pub tidy_fill : (i : ℕ) (v : Entry) → u ≤ i → v.kind ≢ Main → v.mark ≡ Nil → v.stage ≢ Aborted → v.kind ≢ Range → Tidy (upd n i v) u l g
+  pub tidy_fill : (i : ℕ) (v : Entry) → u ≤ i → v.kind ≢ Main → v.mark ≡ None → v.stage ≢ Aborted → v.kind ≢ Range → Tidy (upd n i v) u l g
   tidy_fill i v h k m a ra = record {
     mains = λ x. elim (x ==? i) [ yes e ↦ rw (eq-eqb x i e) (λ z. absurd (k z)) | no e ↦ rw (ne_eqb x i e) (t.mains x) ];
     marks = λ r m'. elim (r ==? i) [
@@ -92,10 +91,10 @@ module _ {n : Nodes} {u : ℕ} {l g : Link} (t : Tidy n u l g) where
   }
 
 -- 25: a new main
-pub tidy_main : {n : Nodes} {u : ℕ} → Tidy n u Nil Nil → (v : Entry) → v.mark ≡ Nil → v.stage ≢ Aborted → v.kind ≢ Range → Tidy (upd n u v) (suc u) (To u) Nil
+pub tidy_main : {n : Nodes} {u : ℕ} → Tidy n u None None → (v : Entry) → v.mark ≡ None → v.stage ≢ Aborted → v.kind ≢ Range → Tidy (upd n u v) (suc u) (Some u) None
 tidy_main {n} {u} t v m a ra = record {
   mains = λ x. elim (x ==? u) [
-    | yes e ↦ rw (eq-eqb x u e) (λ _. (omega arith, inl (ap To (sym e))))
+    | yes e ↦ rw (eq-eqb x u e) (λ _. (omega arith, inl (ap Some (sym e))))
     | no e ↦ rw (ne_eqb x u e) (λ z. let (i, o) = t.mains x z in (omega arith, inr (only x o)))
   ];
   marks = λ r m'. elim (r ==? u) [
@@ -106,16 +105,16 @@ tidy_main {n} {u} t v m a ra = record {
   rangeless = λ x. elim (x ==? u) [ yes e ↦ rw (eq-eqb x u e) ra | no e ↦ rw (ne_eqb x u e) (t.rangeless x) ];
 }
   where
-    only : (x : ℕ) → (◌≡◌ {A = Link} Nil (To x)) ⊎ ((n x).stage ≡ Done) → (n x).stage ≡ Done
+    only : (x : ℕ) → (◌≡◌ {A = Option ℕ} None (Some x)) ⊎ ((n x).stage ≡ Done) → (n x).stage ≡ Done
     only x (inl e) = absurd (clash (cc))
     only x (inr e) = e
 
-    its : (r m' : ℕ) → ((n m').parent ≡ To r) ⊎ ((◌≡◌ {A = Link} Nil (To m')) × (◌≡◌ {A = Link} Nil (To r))) → ((n m').parent ≡ To r) ⊎ ((◌≡◌ {A = Link} (To u) (To m')) × (◌≡◌ {A = Link} Nil (To r)))
+    its : (r m' : ℕ) → ((n m').parent ≡ Some r) ⊎ ((◌≡◌ {A = Option ℕ} None (Some m')) × (◌≡◌ {A = Option ℕ} None (Some r))) → ((n m').parent ≡ Some r) ⊎ ((◌≡◌ {A = Option ℕ} (Some u) (Some m')) × (◌≡◌ {A = Option ℕ} None (Some r)))
     its r m' (inl e) = inl e
     its r m' (inr (e, _)) = absurd (clash (cc))
 
 -- no mark names it
-pub new_unmarked : {n : Nodes} {u : ℕ} → Tidy n u Nil Nil → (v : Entry) → v.mark ≡ Nil → (r : ℕ) → (upd n u v r).mark ≢ To u
+pub new_unmarked : {n : Nodes} {u : ℕ} → Tidy n u None None → (v : Entry) → v.mark ≡ None → (r : ℕ) → (upd n u v r).mark ≢ Some u
 new_unmarked {n} {u} t v m r = elim (r ==? u) [
   | yes e ↦ rw (eq-eqb r u e) (λ z. clash (cc))
   | no e ↦ rw (ne_eqb r u e) (λ z. let o = t.mains u (t.marks r u z).0 in omega (arith, o.0))
@@ -124,11 +123,11 @@ new_unmarked {n} {u} t v m r = elim (r ==? u) [
 -- ---- marks
 
 module _ (n : Nodes) (u m : ℕ) (km : (n m).kind ≡ Main) (r : ℕ) where
-  fields : (k : Link) (x : ℕ) → ((upd n r (over (with_mark k) (n r)) x).kind ≡ (n x).kind) × ((upd n r (over (with_mark k) (n r)) x).parent ≡ (n x).parent) × ((upd n r (over (with_mark k) (n r)) x).stage ≡ (n x).stage)
+  fields : (k : Option ℕ) (x : ℕ) → ((upd n r (over (with_mark k) (n r)) x).kind ≡ (n x).kind) × ((upd n r (over (with_mark k) (n r)) x).parent ≡ (n x).parent) × ((upd n r (over (with_mark k) (n r)) x).stage ≡ (n x).stage)
   fields k x = elim (x ==? r) [ yes e ↦ rw (eq-eqb x r e, e) (refl, refl, refl) | no e ↦ rw (ne_eqb x r e) (refl, refl, refl) ]
 
-  remark : (k : Link) {g g' : Link} → Tidy n u (To m) g
-      → ((r' m' : ℕ) → (upd n r (over (with_mark k) (n r)) r').mark ≡ To m' → ((n m').kind ≡ Main) × (((n m').parent ≡ To r') ⊎ ((◌≡◌ {A = Link} (To m) (To m')) × (g' ≡ To r')))) → Tidy (upd n r (over (with_mark k) (n r))) u (To m) g'
+  remark : (k : Option ℕ) {g g' : Option ℕ} → Tidy n u (Some m) g
+      → ((r' m' : ℕ) → (upd n r (over (with_mark k) (n r)) r').mark ≡ Some m' → ((n m').kind ≡ Main) × (((n m').parent ≡ Some r') ⊎ ((◌≡◌ {A = Option ℕ} (Some m) (Some m')) × (g' ≡ Some r')))) → Tidy (upd n r (over (with_mark k) (n r))) u (Some m) g'
   remark k t f = record {
     mains = λ x e. let (a, _, c) = fields k x in let (i, o) = t.mains x (sym a ∙ e) in (i, rw c o);
     marks = λ r' m' e. let (i, o) = f r' m' e in let (a, b, _) = fields k m' in (a ∙ i, rw b o);
@@ -137,31 +136,31 @@ module _ (n : Nodes) (u m : ℕ) (km : (n m).kind ≡ Main) (r : ℕ) where
   }
 
   -- 30: the parent's
-  pub tidy_parent : Tidy n u (To m) Nil → (n m).parent ≡ To r → Tidy (upd n r (over (with_mark (To m)) (n r))) u (To m) Nil
-  tidy_parent t p = remark (To m) t (λ r' m'. elim (r' ==? r) [
+  pub tidy_parent : Tidy n u (Some m) None → (n m).parent ≡ Some r → Tidy (upd n r (over (with_mark (Some m)) (n r))) u (Some m) None
+  tidy_parent t p = remark (Some m) t (λ r' m'. elim (r' ==? r) [
     | yes e ↦ rw (eq-eqb r' r e) (λ z. let i : m ≡ m' = cc in rw (← i, e) (km, inl p))
     | no e ↦ rw (ne_eqb r' r e) (t.marks r' m')
   ])
 
   -- 33: the grandparent's
-  pub tidy_grand : Tidy n u (To m) Nil → Tidy (upd n r (over (with_mark (To m)) (n r))) u (To m) (To r)
-  tidy_grand t = remark (To m) t (λ r' m'. elim (r' ==? r) [
-    | yes e ↦ rw (eq-eqb r' r e) (λ z. let i : m ≡ m' = cc in (rw (← i) km, inr (z, ap To (sym e))))
+  pub tidy_grand : Tidy n u (Some m) None → Tidy (upd n r (over (with_mark (Some m)) (n r))) u (Some m) (Some r)
+  tidy_grand t = remark (Some m) t (λ r' m'. elim (r' ==? r) [
+    | yes e ↦ rw (eq-eqb r' r e) (λ z. let i : m ≡ m' = cc in (rw (← i) km, inr (z, ap Some (sym e))))
     | no e ↦ rw (ne_eqb r' r e) (λ z. let (i, o) = t.marks r' m' z in (i, own r' m' o))
   ])
     where
-      own : (r' m' : ℕ) → ((n m').parent ≡ To r') ⊎ ((◌≡◌ {A = Link} (To m) (To m')) × (◌≡◌ {A = Link} Nil (To r'))) → ((n m').parent ≡ To r') ⊎ ((◌≡◌ {A = Link} (To m) (To m')) × (◌≡◌ {A = Link} (To r) (To r')))
+      own : (r' m' : ℕ) → ((n m').parent ≡ Some r') ⊎ ((◌≡◌ {A = Option ℕ} (Some m) (Some m')) × (◌≡◌ {A = Option ℕ} None (Some r'))) → ((n m').parent ≡ Some r') ⊎ ((◌≡◌ {A = Option ℕ} (Some m) (Some m')) × (◌≡◌ {A = Option ℕ} (Some r) (Some r')))
       own r' m' (inl e) = inl e
       own r' m' (inr (_, e)) = absurd (clash (cc))
 
   -- 50: cleared
-  pub tidy_clear : Tidy n u (To m) (To r) → Tidy (upd n r (over (with_mark Nil) (n r))) u (To m) Nil
-  tidy_clear t = remark Nil t (λ r' m'. elim (r' ==? r) [
+  pub tidy_clear : Tidy n u (Some m) (Some r) → Tidy (upd n r (over (with_mark None) (n r))) u (Some m) None
+  tidy_clear t = remark None t (λ r' m'. elim (r' ==? r) [
     | yes e ↦ rw (eq-eqb r' r e) (λ z. absurd (clash (cc)))
     | no e ↦ rw (ne_eqb r' r e) (λ z. let (i, o) = t.marks r' m' z in (i, own r' m' e o))
   ])
     where
-      own : (r' m' : ℕ) → r' ≢ r → ((n m').parent ≡ To r') ⊎ ((◌≡◌ {A = Link} (To m) (To m')) × (◌≡◌ {A = Link} (To r) (To r'))) → ((n m').parent ≡ To r') ⊎ ((◌≡◌ {A = Link} (To m) (To m')) × (◌≡◌ {A = Link} Nil (To r')))
+      own : (r' m' : ℕ) → r' ≢ r → ((n m').parent ≡ Some r') ⊎ ((◌≡◌ {A = Option ℕ} (Some m) (Some m')) × (◌≡◌ {A = Option ℕ} (Some r) (Some r'))) → ((n m').parent ≡ Some r') ⊎ ((◌≡◌ {A = Option ℕ} (Some m) (Some m')) × (◌≡◌ {A = Option ℕ} None (Some r')))
       own r' m' h (inl e) = inl e
       own r' m' h (inr (_, e)) = absurd (h (cc))
 
@@ -181,10 +180,10 @@ module _ (n : Nodes) (u m : ℕ) (v : Entry) (a : Staged v (n m)) where
   upright_on t h x = elim (x ==? m) [ yes e ↦ rw (eq-eqb x m e) h | no e ↦ rw (ne_eqb x m e) (t x) ]
 
   -- 35: the main closes
-  pub tidy_close : {g : Link} → Tidy n u (To m) g → v.stage ≢ Aborted → Tidy (upd n m v) u (To m) g
+  pub tidy_close : {g : Option ℕ} → Tidy n u (Some m) g → v.stage ≢ Aborted → Tidy (upd n m v) u (Some m) g
   tidy_close {g} t h = record {
     mains = λ x. elim (x ==? m) [
-      | yes e ↦ rw (eq-eqb x m e) (λ z. ((t.mains x (rw (e, ← a.kind) z)).0, inl (ap To (sym e))))
+      | yes e ↦ rw (eq-eqb x m e) (λ z. ((t.mains x (rw (e, ← a.kind) z)).0, inl (ap Some (sym e))))
       | no e ↦ rw (ne_eqb x m e) (t.mains x)
     ];
     marks = λ r m' e. let (i, o) = t.marks r m' (sym (staged r).mark ∙ e) in ((staged m').kind ∙ i, rw (staged m').parent o);
@@ -193,7 +192,7 @@ module _ (n : Nodes) (u m : ℕ) (v : Entry) (a : Staged v (n m)) where
   }
 
   -- 51: it is done
-  pub tidy_done : Tidy n u (To m) Nil → v.stage ≡ Done → Tidy (upd n m v) u Nil Nil
+  pub tidy_done : Tidy n u (Some m) None → v.stage ≡ Done → Tidy (upd n m v) u None None
   tidy_done t h = record {
     mains = λ x. elim (x ==? m) [
       | yes e ↦ rw (eq-eqb x m e) (λ z. ((t.mains x (rw (e, ← a.kind) z)).0, inr h))
@@ -204,10 +203,10 @@ module _ (n : Nodes) (u m : ℕ) (v : Entry) (a : Staged v (n m)) where
     rangeless = λ x e. t.rangeless x (sym (staged x).kind ∙ e);
   }
     where
-      other : (x : ℕ) → x ≢ m → (◌≡◌ {A = Link} (To m) (To x)) ⊎ ((n x).stage ≡ Done) → (n x).stage ≡ Done
+      other : (x : ℕ) → x ≢ m → (◌≡◌ {A = Option ℕ} (Some m) (Some x)) ⊎ ((n x).stage ≡ Done) → (n x).stage ≡ Done
       other x d (inl e) = absurd (d (cc))
       other x d (inr e) = e
 
-      its : (r m' : ℕ) → ((n m').parent ≡ To r) ⊎ ((◌≡◌ {A = Link} (To m) (To m')) × (◌≡◌ {A = Link} Nil (To r))) → (n m').parent ≡ To r
+      its : (r m' : ℕ) → ((n m').parent ≡ Some r) ⊎ ((◌≡◌ {A = Option ℕ} (Some m) (Some m')) × (◌≡◌ {A = Option ℕ} None (Some r))) → (n m').parent ≡ Some r
       its r m' (inl e) = e
       its r m' (inr (_, e)) = absurd (clash (cc))

@@ -1,6 +1,6 @@
 -- What is claimed of every profile run (02, request l), a run being a list of records from the fresh bench. There is a moment at the start and
 -- one after each record. `OneWriter` is of lists (proofs/OneWriter.antt), `OneWriterFiles` of files (proofs/ProfileRun.antt).
-use Rattle.std.specs.Prelude.{ℕ, zero, suc, ◌+◌, ◌*◌, ◌/◌, ◌%◌, ◌<◌, ◌≤◌, ◌≡◌, ◌≢◌, ◌⊎◌, Bool, true, false, not, ◌||◌, List, [], ◌∷◌, eqb, length, get_or}
+use Rattle.std.specs.Prelude.{ℕ, zero, suc, ◌+◌, ◌*◌, ◌/◌, ◌%◌, ◌<◌, ◌≤◌, ◌≡◌, ◌≢◌, ◌⊎◌, Bool, true, false, not, ◌||◌, List, [], ◌∷◌, eqb, length, get_or, Option, Some, None}
 use Rattle.container.specs.Choice.{upd}
 use Rattle.container.specs.Container.{size}
 use Rattle.definitions.specs.Nodes.{kid_of, is_preparing}
@@ -13,8 +13,6 @@ use Rattle.definitions.specs.Schedule.{Rec, count_of, record_at, records_of}
 use Rattle.definitions.specs.Run.{Progress, after, row_width, report_of, overlay}
 use Rattle.profile.specs.Cut.{stopped_run}
 use Rattle.definitions.specs.Profile.{barred, profile_step, profile_after, profile_refusal, profile_report, profile_buffer}
-use Rattle.definitions.specs.declared.Link.{Link}
-use Rattle.definitions.specs.declared.Link.TheVariants.{Nil, To}
 use Rattle.definitions.specs.declared.Stage.TheVariants.{Aborted}
 use Rattle.definitions.specs.declared.Quarter.{Quarter}
 use Rattle.definitions.specs.declared.Effect.TheVariants.{Quiet}
@@ -36,26 +34,26 @@ missed Miss = true
 
 -- 33: the grandparent's join mark is not none; 46, with no grandparent: the root is not the parent;
 -- 47 to 49: that side of the grandparent is not the parent; 50: its join mark is not this main
-abbrev pub grand_taken : Link → Sight → Bool
-grand_taken Nil s = true
-grand_taken (To g) s = not (is_nil (s.nodes g).mark)
+abbrev pub grand_taken : Option ℕ → Sight → Bool
+grand_taken None s = true
+grand_taken (Some g) s = not (is_nil (s.nodes g).mark)
 
-abbrev pub root_lost : Link → Node → Sight → Bool
-root_lost Nil m s = not (names m.parent s.root)
-root_lost (To g) m s = false
+abbrev pub root_lost : Option ℕ → Node → Sight → Bool
+root_lost None m s = not (names m.parent s.root)
+root_lost (Some g) m s = false
 
-abbrev pub side_lost : Bool → Link → Node → Sight → Bool
-side_lost d Nil m s = true
-side_lost d (To g) m s = not (names m.parent (kid_of d (s.nodes g)))
+abbrev pub side_lost : Bool → Option ℕ → Node → Sight → Bool
+side_lost d None m s = true
+side_lost d (Some g) m s = not (names m.parent (kid_of d (s.nodes g)))
 
-abbrev pub mark_lost : Link → ℕ → Sight → Bool
-mark_lost Nil x s = true
-mark_lost (To g) x s = not (names (s.nodes g).mark x)
+abbrev pub mark_lost : Option ℕ → ℕ → Sight → Bool
+mark_lost None x s = true
+mark_lost (Some g) x s = not (names (s.nodes g).mark x)
 
 -- 47 to 49: "then 50"; no thread comes there without a grandparent
-abbrev pub cut_to : Link → Place
-cut_to Nil = p46
-cut_to (To _) = p50
+abbrev pub cut_to : Option ℕ → Place
+cut_to None = p46
+cut_to (Some _) = p50
 
 -- what the step that is taken next compares: nothing, or something, and then whether that fails and the step that 01 names for it, its way out
 pub data Comparison : Type 0 where
@@ -175,7 +173,7 @@ Brief th n = updates th.action ≡ true → n ≤ 68
 abbrev pub Joined : Row → Store → Thread → Type 0
 Joined no_row s th = Unit {0}
 Joined (row a d c) s th =
-    (th.action ≡ Join → (a ≡ Yes) ⊎ ((a ≡ Lacking) × (th.place ≡ 3) × ((s.nodes th.base).parent ≡ Nil)))
+    (th.action ≡ Join → (a ≡ Yes) ⊎ ((a ≡ Lacking) × (th.place ≡ 3) × ((s.nodes th.base).parent ≡ None)))
     × (th.action ≡ Split → (a ≡ Yes) ⊎ ((a ≡ Lacking) × (th.place ≡ 3) × (size (s.nodes th.base).container.set < 2)))
 
 -- c is each thread's own steps after the record

@@ -1,5 +1,3 @@
-pub mod Looks
-pub mod Reaches
 pub mod Places
 pub mod Dispatch
 pub mod Fits

@@ -1,123 +1,62 @@
 // 60 to 62: the way to the first base, and its check.
-ghost use Rattle.std.specs.Prelude.{◌≡◌, ◌<◌};
-ghost use Rattle.definitions.specs.Nodes.{child_for};
-ghost use Rattle.nodes.specs.Cells.{table};
-ghost use Rattle.frames.specs.View.{held, stack_length};
+#![tactic(auto, using(std::proofs::lemmas::Bool::Decides::nat_tests), unfolding(container::specs::Choice::ite, definitions::specs::Queries::reached_first, definitions::specs::Steps::step, frames::specs::Outcomes::step_at, frames::specs::Turns::found_turn, crate::specs::Turns::first_turn))]
+
+ghost use Rattle.std.specs.Prelude.{◌<◌, length};
+ghost use Rattle.nodes.specs.Table.{table};
+ghost use Rattle.nodes.specs.View.{seen};
+ghost use Rattle.frames.specs.View.{held_frame};
 ghost use Rattle.frames.specs.Turns.{Goes};
 ghost use Rattle.frames.specs.Outcomes.{Acts, step_at};
-ghost use Rattle.queries.specs.Seen.{seen, first_turn};
+ghost use Rattle.queries.specs.Turns.{first_turn};
 
-use definitions::Effect;
+use definitions::{Effect, Nodes};
 use frames::Outcome;
-
-// The child of route y on the way to station s.
-fn child(cells: &[u8; 5120], sets: &[u64; 256], s: u8, y: u8) -> u8
-    ensures { result ≡ child_for s (table cells.now sets.now y) }
-{
-    if s < nodes::key_at(cells, sets, y) {
-        return nodes::left_at(cells, sets, y);
-    }
-    nodes::right_at(cells, sets, y)
-}
+use frames::frame::Frame;
+use nodes::View;
 
 // Node x is reached on the way to the first base, and pushed.
-fn reach(
-    cells: &[u8; 5120],
-    sets: &[u64; 256],
-    stacks: &mut [u8; 1408],
-    backups: &mut [u8; 1408],
-    notes: &mut [u8; 128],
-    words: &mut [u64; 64],
-    j: usize,
-    x: u8,
-) -> u8
-    requires { (j < 16) × (stack_length words.old j < 88) }
-    ensures { Goes (held stacks.old backups.old notes.old words.old) (held stacks.new backups.new notes.new words.new) j result (first_turn (table cells.now sets.now) x) }
+fn reach(nodes: &Nodes, frame: &mut Frame, x: u8) -> u8
+    requires { length (held_frame frame.old).stack < 88 }
+    ensures { Goes (held_frame frame.old) (held_frame frame.new) result (first_turn (table nodes.now) x) }
 {
-    let kind = nodes::kind_at(cells, sets, x);
-    if nodes::is_route(kind) {
-        frames::stack::push(stacks, backups, notes, words, j, x);
+    let node = nodes::node_at(nodes, x);
+    if nodes::is_route(node.kind) {
+        frame.stack.push(x);
         return 61;
     }
-    frames::stack::push_base(stacks, backups, notes, words, j, x);
-    let store = nodes::store_at(cells, sets, x);
-    let c = nodes::container_at(cells, sets, x);
-    frames::turn::found_first(stacks, backups, notes, words, j, kind, store, c)
+    frame.push_base(x);
+    frames::turn::found_first(frame, node)
 }
 
 // 60: the stack is emptied, and the root is read.
-pub fn read_root(
-    cells: &[u8; 5120],
-    sets: &[u64; 256],
-    flags: &[u8; 256],
-    results: &[u64],
-    root: u8,
-    used: u16,
-    shown: u16,
-    stacks: &mut [u8; 1408],
-    backups: &mut [u8; 1408],
-    notes: &mut [u8; 128],
-    words: &mut [u64; 64],
-    j: usize,
-) -> Outcome
-    requires { j < 16 }
-    ensures { Acts (held stacks.old backups.old notes.old words.old) (held stacks.new backups.new notes.new words.new) j result (step_at 60 (seen cells.now sets.now flags.now results.now root used shown)) }
+pub fn read_root(view: &View, frame: &mut Frame) -> Outcome
+    ensures { Acts (held_frame frame.old) (held_frame frame.new) result (step_at 60 (seen view.now)) }
 {
-    frames::stack::clear(stacks, backups, notes, words, j);
-    let p = reach(cells, sets, stacks, backups, notes, words, j, root);
+    frame.stack.clear();
     Outcome::Onward {
-        place: p,
+        place: reach(view.nodes, frame, view.root),
         effect: Effect::Quiet,
     }
 }
 
 // 61: the child of the top route by the lower end.
-pub fn go_down(
-    cells: &[u8; 5120],
-    sets: &[u64; 256],
-    flags: &[u8; 256],
-    results: &[u64],
-    root: u8,
-    used: u16,
-    shown: u16,
-    stacks: &mut [u8; 1408],
-    backups: &mut [u8; 1408],
-    notes: &mut [u8; 128],
-    words: &mut [u64; 64],
-    j: usize,
-) -> Outcome
-    requires { (j < 16) × (stack_length words.old j < 88) }
-    ensures { Acts (held stacks.old backups.old notes.old words.old) (held stacks.new backups.new notes.new words.new) j result (step_at 61 (seen cells.now sets.now flags.now results.now root used shown)) }
+pub fn go_down(view: &View, frame: &mut Frame) -> Outcome
+    requires { length (held_frame frame.old).stack < 88 }
+    ensures { Acts (held_frame frame.old) (held_frame frame.new) result (step_at 61 (seen view.now)) }
 {
-    let y = frames::stack::top(stacks, backups, notes, words, j);
-    let l = frames::frame::lower_at(stacks, backups, notes, words, j);
-    let x = child(cells, sets, l, y);
-    let p = reach(cells, sets, stacks, backups, notes, words, j, x);
+    let route = nodes::node_at(view.nodes, frame.stack.top());
+    let x = nodes::child_for(frame.lower, route);
     Outcome::Onward {
-        place: p,
+        place: reach(view.nodes, frame, x),
         effect: Effect::Quiet,
     }
 }
 
 // 62: is the base in hand replaceable?
-pub fn check_first(
-    cells: &[u8; 5120],
-    sets: &[u64; 256],
-    flags: &[u8; 256],
-    results: &[u64],
-    root: u8,
-    used: u16,
-    shown: u16,
-    stacks: &[u8; 1408],
-    backups: &[u8; 1408],
-    notes: &mut [u8; 128],
-    words: &[u64; 64],
-    j: usize,
-) -> Outcome
-    requires { j < 16 }
-    ensures { Acts (held stacks.now backups.now notes.old words.now) (held stacks.now backups.now notes.new words.now) j result (step_at 62 (seen cells.now sets.now flags.now results.now root used shown)) }
+#[tactic(auto, using(crate::proofs::Places::at_62))]
+pub fn check_first(view: &View, frame: &mut Frame) -> Outcome
+    ensures { Acts (held_frame frame.old) (held_frame frame.new) result (step_at 62 (seen view.now)) }
 {
-    let b = frames::frame::base_at(stacks, backups, notes, words, j);
-    let c = nodes::check(cells, sets, flags, results, b);
-    frames::swap::ride(stacks, backups, notes, words, j, c)
+    let check = nodes::check(view.nodes, view.results, frame.base);
+    frames::swap::ride(frame, check)
 }

@@ -1,4 +1,7 @@
 -- The cases of a row and of a file's refusal, each with the code's own facts as premises. Assumes nothing.
+use Rattle.std.specs.Int.{to_be_bytes}
+use Rattle.std.proofs.Common.{w64}
+use Rattle.std.proofs.Math.Nat.{div-div-eq-div-mul}
 use mathlib.Core.Path.{◌≡◌, refl, ap, ◌∙◌}
 use mathlib.Core.Bool.{not}
 use mathlib.Core.List.{List, [], ◌∷◌}
@@ -38,18 +41,20 @@ shown_number StoodDown = refl
 shown_number Stopped = refl
 
 -- the depth and the empty set after its four bytes
-pub wide_put : (p a b : Page) (d : ℕ) {q : Page} → a ≡ put_all p (d / 256 ∷ d % 256 ∷ []) → b ≡ put_all a (0 ∷ 0 ∷ 0 ∷ 0 ∷ []) → q ≡ put_all b (0 ∷ 0 ∷ 0 ∷ 0 ∷ []) → q ≡ put_all p (wider_row d 0)
+pub depth_bytes : (d : ℕ) → d / 256 ∷ d % 256 ∷ 0 ∷ 0 ∷ 0 ∷ 0 ∷ 0 ∷ 0 ∷ 0 ∷ 0 ∷ [] ≡ wider_row d 0
 unfolding bytes_of
-wide_put p a b d e f g = g ∙ rw (f, e, ← put_all_append, ← put_all_append)
+depth_bytes d = refl
 
-module _ (p : Page) (v t : ℕ) (th : Notes) (b : Answer) (d : ℕ) {a y : ℕ} (f : a ≡ action_number th.action) (g : y ≡ answer_number b) where
-  pub row_put : {q : Page} → v ≡ 1 → q ≡ put_all p (t ∷ a ∷ th.station ∷ y ∷ []) → q ≡ put_all p (row_of v t th b d)
+-- what is written on a page: its buffer's name stays
+module _ {N : Type 0} {a₁ a₂ : N} (p : Page) (v t : ℕ) (th : Notes) (b : Answer) (d : ℕ) {a y : ℕ} (f : a ≡ action_number th.action) (g : y ≡ answer_number b) where
+  pub row_put : {q : Page} → v ≡ 1 → (a₂ ≡ a₁) × (q ≡ put_all p (t ∷ a ∷ th.station ∷ y ∷ [])) → (a₂ ≡ a₁) × (q ≡ put_all p (row_of v t th b d))
   unfolding ite
-  row_put z h = h ∙ rw (f, g, shown_number b, eq-eqb v 1 z)
+  row_put z h = (h.0, h.1 ∙ rw (f, g, shown_number b, eq-eqb v 1 z))
 
-  pub wide_row_put : {q r : Page} {w : ℕ} → (v ≡ 1 → ⊥) → q ≡ put_all p (t ∷ a ∷ th.station ∷ y ∷ []) → w ≡ d → r ≡ put_all q (wider_row w 0) → r ≡ put_all p (row_of v t th b d)
+  pub wide_row_put : {a₃ : N} {q r : Page} {w : ℕ} → (v ≡ 1 → ⊥) → (a₂ ≡ a₁) × (q ≡ put_all p (t ∷ a ∷ th.station ∷ y ∷ [])) → w ≡ d → (a₃ ≡ a₂) × (r ≡ put_all q (wider_row w 0))
+      → (a₃ ≡ a₁) × (r ≡ put_all p (row_of v t th b d))
   unfolding ite
-  wide_row_put z h j i = i ∙ rw (h, j, ← put_all_append, f, g, shown_number b, ne_eqb v 1 z)
+  wide_row_put z h j i = (i.0 ∙ h.0, i.1 ∙ rw (h.1, j, ← put_all_append, f, g, shown_number b, ne_eqb v 1 z))
 
 -- a row's bytes depend on the file's version alone, and on no frame: in version 1 the depth is not among them
 pub row_as : (file : List ℕ) (v t : ℕ) (th : Notes) (fs : List Frame) (b : Answer) (d d' : ℕ) → v ≡ version file → ((version file ≡ 1 → ⊥) → d ≡ d') → row_of v t th b d ≡ row_bytes file t (thread th fs) (row (shown b) d' 0)
@@ -61,13 +66,10 @@ row_as file v t th fs b d d' w f = elim (ℕ_discrete (version file) 1) [
 
 -- ---- the row of a query
 
--- a set's eight bytes
-pub set_put : (p : Page) (c : ℕ) {q r : Page} {b7 b6 b5 b4 b3 b2 b1 b0 : ℕ}
-    → b7 ≡ c / 256 / 256 / 256 / 256 / 256 / 256 / 256 % 256 → b6 ≡ c / 256 / 256 / 256 / 256 / 256 / 256 % 256 → b5 ≡ c / 256 / 256 / 256 / 256 / 256 % 256 → b4 ≡ c / 256 / 256 / 256 / 256 % 256
-    → b3 ≡ c / 256 / 256 / 256 % 256 → b2 ≡ c / 256 / 256 % 256 → b1 ≡ c / 256 % 256 → b0 ≡ c % 256
-    → q ≡ put_all p (b7 ∷ b6 ∷ b5 ∷ b4 ∷ []) → r ≡ put_all q (b3 ∷ b2 ∷ b1 ∷ b0 ∷ []) → r ≡ put_all p (bytes_of 8 c)
+-- no depth, and a set's eight bytes
+pub set_bytes : (c : ℕ) → 0 ∷ 0 ∷ to_be_bytes w64 c ≡ wider_row 0 c
 unfolding bytes_of
-set_put p c e7 e6 e5 e4 e3 e2 e1 e0 f g = g ∙ rw (f, ← put_all_append, e7, e6, e5, e4, e3, e2, e1, e0)
+set_bytes c = simp div-div-eq-div-mul
 
 -- whether it has a station
 pub found_none : (c : ℕ) → c ≡ 0 → 0 ≡ found_number c
@@ -78,14 +80,15 @@ found_some c e = rw (ne_eqb c 0 e)
 
 pub ruleset found_cases = (found_none, found_some)
 
-module _ (p : Page) (v t : ℕ) (th : Notes) (c : ℕ) {a y : ℕ} {q : Page} (f : a ≡ action_number th.action) (g : y ≡ found_number c) (h : q ≡ put_all p (t ∷ a ∷ th.station ∷ y ∷ [])) where
-  pub found_put : v ≡ 1 → q ≡ put_all p (found_row v t th c)
+module _ {N : Type 0} {a₁ a₂ : N} (p : Page) (v t : ℕ) (th : Notes) (c : ℕ) {a y : ℕ} {q : Page} (f : a ≡ action_number th.action) (g : y ≡ found_number c)
+    (h : (a₂ ≡ a₁) × (q ≡ put_all p (t ∷ a ∷ th.station ∷ y ∷ []))) where
+  pub found_put : v ≡ 1 → (a₂ ≡ a₁) × (q ≡ put_all p (found_row v t th c))
   unfolding ite
-  found_put z = h ∙ rw (f, g, eq-eqb v 1 z)
+  found_put z = (h.0, h.1 ∙ rw (f, g, eq-eqb v 1 z))
 
-  pub wide_found_put : {i j : Page} → (v ≡ 1 → ⊥) → i ≡ put_all q (0 ∷ 0 ∷ []) → j ≡ put_all i (bytes_of 8 c) → j ≡ put_all p (found_row v t th c)
+  pub wide_found_put : {a₃ : N} {r : Page} → (v ≡ 1 → ⊥) → (a₃ ≡ a₂) × (r ≡ put_all q (wider_row 0 c)) → (a₃ ≡ a₁) × (r ≡ put_all p (found_row v t th c))
   unfolding ite
-  wide_found_put z k l = l ∙ (ap (λ (w : Page). put_all w (bytes_of 8 c)) (k ∙ ap (λ (w : Page). put_all w (0 ∷ 0 ∷ [])) h) ∙ rw (f, g, ne_eqb v 1 z, ← put_all_append, ← put_all_append))
+  wide_found_put z k = (k.0 ∙ h.0, k.1 ∙ (ap (λ (w : Page). put_all w (wider_row 0 c)) h.1 ∙ rw (f, g, ne_eqb v 1 z, ← put_all_append)))
 
 pub found_as : (file : List ℕ) (v t : ℕ) (th : Notes) (fs : List Frame) (c : ℕ) → v ≡ version file → found_row v t th c ≡ row_bytes file t (thread th fs) (row (said (not (eqb c 0))) 0 c)
 found_as file v t th fs c w = rw w

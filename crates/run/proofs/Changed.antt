@@ -3,12 +3,10 @@
 use mathlib.Core.Path.{◌≡◌, refl, ap, subst}
 use mathlib.Core.Bool.{Bool, true, false}
 use mathlib.Core.List.{List}
-use Prim.Native.Nat.{ℕ, ◌+◌, ◌-◌, ◌<◌}
-use native.Mathlib.Omega.{arith}
-use native.Mathlib.Decide.{ℕ_discrete}
-use borrow.Author.Tests.{eq-eqb, ne_eqb}
+use Prim.Native.Nat.{ℕ, ◌<◌}
+use borrow.Author.Tests.{ne_eqb}
 use lib.ListN.{length, get_or, set, length-set}
-use lib.Seq.{set-set, get_or-set_same, get_or-set_other}
+use lib.Seq.{set-set, get_or-set_same}
 use Rattle.definitions.specs.Nodes.{Shapes, Stores}
 use Rattle.definitions.specs.Bench.{stop, Sight, sight}
 use Rattle.steps.specs.declared.Notes.{Notes}
@@ -29,44 +27,9 @@ reread_none t end threads = record { own = refl; puts = λ v. refl; size = refl 
 pub reread_one : (t r : ℕ) (end : Notes) (threads : List Notes) → t < length threads → Rereads t r end threads (set threads t (reread r (get_or threads t end)))
 reread_one t r end threads i = record { own = get_or-set_same threads t (reread r (get_or threads t end)) end i; puts = λ v. set-set threads t _ v; size = length-set threads t _ }
 
-pub reread_place : (t r : ℕ) (end : Notes) (threads : List Notes) {threads' : List Notes} → t < length threads → threads' ≡ set threads t (reread r (get_or threads t end))
-    → (get_or threads' t end).place ≡ (get_or threads t end).place
-reread_place t r end threads i e = rw e (ap (λ (v : Notes). v.place) (get_or-set_same threads t (reread r (get_or threads t end)) end i))
-
--- the count after a step at the place p
-module _ (p c : ℕ) where
-  pub count_four : p ≡ 4 → c + 1 ≡ recounted p c
-  count_four e = rw (eq-eqb p 4 e)
-
-  pub count_five : p ≡ 5 → c - 1 ≡ recounted p c
-  count_five e = rw e
-
-  pub count_other : (p ≡ 4 → ⊥) → (p ≡ 5 → ⊥) → c ≡ recounted p c
-  count_other g h = rw (ne_eqb p 4 g, ne_eqb p 5 h)
-
--- after a step at the place p the count in c' is the one in c, one more or one less; the numbers of frames stay
-pub record Recounts (p : ℕ) (c c' : List ℕ) : Type 0 where
-  pub size : length c' ≡ length c
-  pub each : (u : ℕ) → u < 4 → get_or c' u 0 ≡ get_or c u 0
-  pub count : get_or c' 4 0 ≡ recounted p (get_or c 4 0)
-
-module _ (p : ℕ) (c : List ℕ) where
-  pub recount_none : (p ≡ 4 → ⊥) → (p ≡ 5 → ⊥) → Recounts p c c
-  recount_none g h = record { size = refl; each = λ u i. refl; count = rw (ne_eqb p 4 g, ne_eqb p 5 h) }
-
-  module _ (i : length c ≡ 5) where
-    apart : (m u : ℕ) → u < 4 → get_or (set c 4 m) u 0 ≡ get_or c u 0
-    apart m u j = get_or-set_other c 4 u m 0 (λ e. omega arith)
-
-    pub recount_put : Recounts p c (set c 4 (recounted p (get_or c 4 0)))
-    recount_put = record { size = length-set c 4 _; each = apart _; count = get_or-set_same c 4 (recounted p (get_or c 4 0)) 0 (omega arith) }
-
--- the same with m frames for thread t
-pub recount_set : {p : ℕ} {c c' : List ℕ} → Recounts p c c' → (t m : ℕ) → t < length c → (u : ℕ) → u < 4 → get_or (set c' t m) u 0 ≡ get_or (set c t m) u 0
-recount_set {p} {c} {c'} r t m i u j = elim (ℕ_discrete u t) [
-  | yes e ↦ rw (e, get_or-set_same c' t m 0 (omega (arith, r.size)), get_or-set_same c t m 0 i)
-  | no e ↦ rw (get_or-set_other c' t u m 0 e, get_or-set_other c t u m 0 e, r.each u j)
-]
+-- the count after a step at the place p, where it is neither of two
+pub count_other : (p c : ℕ) → (p ≡ 4 → ⊥) → (p ≡ 5 → ⊥) → c ≡ recounted p c
+count_other p c g h = rw (ne_eqb p 4 g, ne_eqb p 5 h)
 
 -- ---- the notes and the decision together
 

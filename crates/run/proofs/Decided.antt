@@ -18,12 +18,13 @@ use Rattle.definitions.specs.Places.{place_of}
 use Rattle.definitions.specs.Steps.{at_leaf, onward, released, step}
 use Rattle.definitions.specs.declared.Action.{Action}
 use Rattle.definitions.specs.declared.Action.TheVariants.{Lookup, Insert, Remove, Split, Join, Query}
-use Rattle.definitions.specs.declared.Answer.{Answer}
 use Rattle.definitions.specs.declared.Effect.{Effect}
 use Rattle.definitions.specs.declared.Effect.TheVariants.{Quiet, Raise, Lower}
 use Rattle.steps.specs.declared.Notes.{Notes}
+use Rattle.effects.specs.Writes.{effect_of}
 use Rattle.steps.specs.declared.Decision.{Decision}
-use Rattle.steps.specs.Decision.{thread, written, turn_by, turn_of, top_after, Decides, read_at, finding, counting}
+use Rattle.steps.specs.declared.Decision.TheVariants.{Goes, Answers, NodesOut, Back}
+use Rattle.steps.specs.Decision.{thread, turn_of, top_after, Decides, read_at, finding, counting}
 use Rattle.run.specs.Threads.{recounted}
 use Rattle.run.proofs.Numbers.{back_moves}
 
@@ -49,6 +50,13 @@ reread k th = record {
   other = th.other;
 }
 
+-- what is written
+abbrev pub written : Decision → Effect
+written (Goes e p n) = effect_of e
+written (Answers e a) = effect_of e
+written NodesOut = Quiet
+written (Back e) = effect_of e
+
 -- what a step at the place p does to the count besides writing e
 abbrev pub counted : ℕ → Effect → Effect
 counted p e = cond (eqb p 4) Raise (cond (eqb p 5) Lower e)
@@ -66,7 +74,7 @@ Counting p = (p ≡ 4) ⊎ (p ≡ 5)
 -- the step of a thread with the notes th is what d decides of them with k routes read; where the count changes nothing else is written
 pub record Decided (s : Sight) (th : Notes) (k : ℕ) (d : Decision) : Type 0 where
   pub turn : (fs : List Frame) → step (place_of th.place) s (thread th fs) ≡ tallied th.place (turn_of (top_after (step (place_of th.place) s (thread th fs))) (thread (reread k th) fs) d)
-  pub quiet : Counting th.place → (d.what ≡ 2 → ⊥) → written d.writes d.effect ≡ Quiet
+  pub quiet : Counting th.place → written d ≡ Quiet
 
 -- ---- by what the code says
 
@@ -77,11 +85,11 @@ effect_in (Finds c) = Quiet
 effect_in Full = Quiet
 effect_in NoStore = Quiet
 
-effect_by : (m : ℕ) (th v : Thread) (e : Effect) (a : Answer) → (m ≡ 2 → ⊥) → effect_in (turn_by m th v e a) ≡ e
-effect_by zero th v e a o = refl
-effect_by (suc zero) th v e a o = refl
-effect_by (suc (suc zero)) th v e a o = absurd (o refl)
-effect_by (suc (suc (suc m))) th v e a o = back_moves (λ t. effect_in t ≡ e) e th (λ w i. refl)
+effect_by : (f : Frame) (th : Thread) (d : Decision) → effect_in (turn_of f th d) ≡ written d
+effect_by f th (Goes e p n) = refl
+effect_by f th (Answers e a) = refl
+effect_by f th NodesOut = refl
+effect_by f th (Back e) = back_moves (λ t. effect_in t ≡ effect_of e) (effect_of e) th (λ w i. refl)
 
 top_tallied : (p : ℕ) (t : Turn) → top_after (tallied p t) ≡ top_after t
 top_tallied p (Moves th e) = refl
@@ -97,7 +105,7 @@ decide {s} {th} {k} {d} f i b q = record {
   turn = λ fs. b fs
       ∙ (ap (tallied th.place) (sym (i.turn fs))
       ∙ ap (λ (g : Frame). tallied th.place (turn_of g (thread (reread k th) fs) d)) (sym (ap top_after (b fs) ∙ top_tallied th.place (f (thread (reread k th) fs)))));
-  quiet = λ e o. sym (effect_by d.what _ _ _ _ o) ∙ (ap effect_in (i.turn []) ∙ q e);
+  quiet = λ e. sym (effect_by _ _ d) ∙ (ap effect_in (i.turn []) ∙ q e);
 }
 
 -- no count is changed

@@ -1,20 +1,20 @@
 -- Where a run begins and where it has ended: what the code then holds is what 01 says of the file and the row buffer. Assumes nothing.
-use mathlib.Core.Path.{◌≡◌, refl, sym, ap, ◌∙◌, fun_ext}
-use mathlib.Core.Logic.{inl, inr}
-use mathlib.Core.List.{List, [], ◌∷◌}
+use Rattle.frames.specs.View.{held}
+use Rattle.std.specs.Prelude.{None, Result as Outcome, Ok, Err, Option}
+use mathlib.Core.Path.{◌≡◌, refl, sym, ap, ◌∙◌}
+use mathlib.Core.Logic.{inl, inr, ⊎_elim}
+use mathlib.Core.List.{List, []}
 use Prim.Native.Nat.{ℕ, zero, suc, ◌+◌, ◌-◌, ◌≤◌, ◌<◌}
 use native.Mathlib.Omega.{arith}
 use borrow.Author.Tests.{eq-eqb, ne_eqb}
-use lib.ListN.{length, get_or, replicate, length-replicate}
+use lib.ListN.{length, replicate, length-replicate}
 use Rattle.container.specs.Choice.{ite}
 use Rattle.container.specs.Container.{all}
 use Rattle.answers.specs.Reachable.{Unasked}
 use Rattle.buffer.specs.Page.{Page, put_all}
-use Rattle.buffer.proofs.Laws.{put_fits, put_all_length}
+use Rattle.buffer.proofs.Laws.{put_fits}
 use Rattle.depths.specs.Rows.{rows, full}
 use Rattle.depths.proofs.Fresh.{blank}
-use Rattle.nodes.specs.Stores.{shared_of, stores}
-use Rattle.nodes.proofs.Fresh.{unset}
 use Rattle.tree.specs.Below.{set_below, count_below}
 use Rattle.tree.proofs.Held.{held_set, held_stored}
 use Rattle.steps.specs.declared.Notes.{Notes}
@@ -24,34 +24,33 @@ use Rattle.definitions.specs.Threads.{Frame, Thread, idle}
 use Rattle.definitions.specs.Bench.{stop, Bench, bench, store}
 use Rattle.definitions.specs.Tree.{held_below, tree_held, tree_set, stored_below, stored}
 use Rattle.definitions.specs.Versions.{version, stop_of, row_room}
+use Rattle.definitions.specs.Refusal.{code_of}
 use Rattle.definitions.specs.Schedule.{Rec, record_at, count_of, file_refusal}
 use Rattle.definitions.specs.Run.{Progress, advance, after, ended, report_of, overlay, run_refusal, run_report, run_buffer}
+use Rattle.definitions.specs.declared.Refusal.{Refusal}
 use Rattle.definitions.specs.declared.Report.{Report}
-use Rattle.definitions.specs.declared.Shared.TheVariants.{Unset}
 use Rattle.definitions.specs.declared.Stop.{Stop}
-use Rattle.run.specs.Threads.{threads_of, held_in}
-use Rattle.run.specs.Standing.{Lent, Spare, Stands, Carried, Handed}
+use Rattle.definitions.proofs.Refusals.{refused}
+use Rattle.run.specs.Threads.{threads_of}
+use Rattle.run.specs.Standing.{Lent, Spare, Enough, Stands, Carried, Handed}
 use Rattle.run.specs.declared.Standing.{Standing}
 use Rattle.run.proofs.Threads.{all_idle}
 use Rattle.run.proofs.Turn.{stand}
 use Rattle.run.proofs.Rows.{rows_fit}
 use Rattle.run.proofs.Room.{has_room}
-
--- the lent buffer keeps its length
-pub same_room : {n : Shapes} {l : List ℕ} {k : Stores} {z : Stop} {threads : ℕ → Thread} {s : Standing} {first buffer : List ℕ} (p : Progress) → Stands n l k z threads s first buffer p → length buffer ≡ length first
-same_room p h = ap (λ (q : Page). length q.bytes) h.rows ∙ put_all_length _ p.rows
+use Rattle.frames.specs.declared.frame.Frame.{Frame as Kept}
 
 -- rows that fit stand in the buffer
 overlaid : {n : Shapes} {l : List ℕ} {k : Stores} {z : Stop} {threads : ℕ → Thread} {s : Standing} {first buffer : List ℕ} (p : Progress) → Stands n l k z threads s first buffer p → length p.rows ≤ length first → buffer ≡ overlay p.rows first
 overlaid p h f = ap (λ (q : Page). q.bytes) (h.rows ∙ put_fits p.rows _ f)
 
 -- ---- before the first record, and after the last
-pub none_yet : (file first : List ℕ) (h : ℕ → Frame) {n : Shapes} {l : List ℕ} {s : Stores} {th : Notes} → n ≡ (λ _. shape empty_base) → s ≡ (λ _. Unset) → (length l ≡ 16384 → rows l ≡ (λ _ _. 0)) → thread th [] ≡ idle
-    → Stands n l s (stop (stop_of file) (get_or (replicate 5 0) 4 0)) (threads_of (replicate 4 th) (replicate 5 0) h) (stand 0 1 0 0 0 0 0) first first (after file 0)
+pub none_yet : (file first : List ℕ) (h : ℕ → Frame) {n : Shapes} {l : List ℕ} {s : Stores} {th : Notes} → n ≡ (λ _. shape empty_base) → s ≡ (λ _. None) → (length l ≡ 16384 → rows l ≡ (λ _ _. 0)) → thread th [] ≡ idle
+    → Stands n l s (stop (stop_of file) 0) (threads_of (replicate 4 th) (replicate 4 0) h) (stand 0 1 0 (Ok tt) 0 0 0) first first (after file 0)
 unfolding after put_all
 none_yet file first h {th = th} e f b g = record {
   deep = λ _ _. 0;
-  bench = rw (e, f) (ap (λ (t : ℕ → Thread). bench (store (λ _. empty_base) 0 1 (λ _. Unset) 0 (stop (stop_of file) 0)) t) (all_idle h th g));
+  bench = rw (e, f) (ap (λ (t : ℕ → Thread). bench (store (λ _. empty_base) 0 1 (λ _. None) 0 (stop (stop_of file) 0)) t) (all_idle h th g));
   depths = b;
   refusal = refl;
   done = refl;
@@ -60,18 +59,20 @@ none_yet file first h {th = th} e f b g = record {
 }
 
 -- a standing does not say which threads it stands over, nor which stop: they are handed out beside it
-abbrev pub handing : ℕ → ℕ → ℕ → ℕ → ℕ → ℕ → ℕ → List Notes → List ℕ → Standing
-handing root used shown refusal done finished at threads frames =
-    record { root = root; used = used; shown = shown; refusal = refusal; done = done; finished = finished; at = at; threads = threads; frames = frames }
+abbrev pub handing : ℕ → ℕ → ℕ → Outcome (Unit {0}) Refusal → ℕ → ℕ → ℕ → List Notes → List ℕ → ℕ → Standing
+handing root used shown refusal done finished at threads frames count =
+    record { root = root; used = used; shown = shown; refusal = refusal; done = done; finished = finished; at = at; threads = threads; frames = frames; count = count }
 
-module _ (file : List ℕ) (k count : ℕ) {n : Shapes} {l : List ℕ} {s : Stores} {root used shown refusal done finished at : ℕ} {threads : List Notes} {frames : List ℕ} {stacks backups notes words : List (List ℕ)} {first buffer : List ℕ} where
-  pub all_done : after file k ≡ after file count
-      → Stands n l s (stop (stop_of file) (get_or frames 4 0)) (threads_of threads frames (held_in stacks backups notes words)) (stand root used shown refusal done finished at) first buffer (after file k)
-      → Carried file count n l s (handing root used shown refusal done finished at threads frames) first buffer × Handed file (after file count).bench (handing root used shown refusal done finished at threads frames) stacks backups notes words
+module _ (file : List ℕ) (k last : ℕ) {n : Shapes} {l : List ℕ} {s : Stores} {root used shown done finished at count : ℕ} {refusal : Outcome (Unit {0}) Refusal} {threads : List Notes} {frames : List ℕ}
+    {lent : List Kept} {first buffer : List ℕ} where
+  pub all_done : after file k ≡ after file last
+      → Stands n l s (stop (stop_of file) count) (threads_of threads frames (held lent)) (stand root used shown refusal done finished at) first buffer (after file k)
+      → Carried file last n l s (handing root used shown refusal done finished at threads frames count) first buffer
+      × Handed file (after file last).bench (handing root used shown refusal done finished at threads frames count) lent
   all_done e h =
-      let table : threads_of threads frames (held_in stacks backups notes words) ≡ (after file count).bench.threads = ap (λ (b : Bench). b.threads) h.bench ∙ ap (λ (p : Progress). p.bench.threads) e in
-      let switch : stop (stop_of file) (get_or frames 4 0) ≡ (after file count).bench.store.stop = ap (λ (b : Bench). b.store.stop) h.bench ∙ ap (λ (p : Progress). p.bench.store.stop) e in
-      let g : Stands n l s (after file count).bench.store.stop (after file count).bench.threads (stand root used shown refusal done finished at) first buffer (after file count) = rw (table, switch, e) at h in (
+      let table : threads_of threads frames (held lent) ≡ (after file last).bench.threads = ap (λ (b : Bench). b.threads) h.bench ∙ ap (λ (p : Progress). p.bench.threads) e in
+      let switch : stop (stop_of file) count ≡ (after file last).bench.store.stop = ap (λ (b : Bench). b.store.stop) h.bench ∙ ap (λ (p : Progress). p.bench.store.stop) e in
+      let g : Stands n l s (after file last).bench.store.stop (after file last).bench.threads (stand root used shown refusal done finished at) first buffer (after file last) = rw (table, switch, e) at h in (
         record { deep = g.deep; bench = g.bench; depths = g.depths; refusal = g.refusal; done = g.done; finished = g.finished; rows = g.rows },
         record { threads = table; stop = switch },
       )
@@ -91,15 +92,16 @@ stays file k (suc j) m e z =
     let next : m ≡ suc (k + j) = omega arith in
     ap (after file) next ∙ (onward file (k + j) ∙ (ap (λ (p : Progress). advance file p (record_at file (k + j))) (stays file k j (k + j) refl z) ∙ still file (after file k) _ z))
 
-ended_early : (file : List ℕ) (k count : ℕ) {n : Shapes} {l : List ℕ} {s : Stores} {z : Stop} {threads : ℕ → Thread} {t : Standing} {first buffer : List ℕ} → k ≤ count → (t.refusal ≡ 0 → ⊥) → Stands n l s z threads t first buffer (after file k) → after file k ≡ after file count
-ended_early file k count i r h = let sum : count ≡ k + (count - k) = omega arith in sym (stays file k (count - k) count sum (λ e. r (h.refusal ∙ e)))
-
 -- the refused record was the last
-module _ (file : List ℕ) (k count : ℕ) {n : Shapes} {l : List ℕ} {s : Stores} {root used shown refusal done finished at : ℕ} {threads : List Notes} {frames : List ℕ} {stacks backups notes words : List (List ℕ)} {first buffer : List ℕ} where
-  pub stopped : k < count → (refusal ≡ 0 → ⊥)
-      → Stands n l s (stop (stop_of file) (get_or frames 4 0)) (threads_of threads frames (held_in stacks backups notes words)) (stand root used shown refusal done finished at) first buffer (after file (k + 1))
-      → Carried file count n l s (handing root used shown refusal done finished at threads frames) first buffer × Handed file (after file count).bench (handing root used shown refusal done finished at threads frames) stacks backups notes words
-  stopped i r h = all_done file (k + 1) count (ended_early file (k + 1) count (omega arith) r h) h
+module _ (file : List ℕ) (k last : ℕ) {n : Shapes} {l : List ℕ} {s : Stores} {root used shown done finished at count : ℕ} {v : Refusal} {threads : List Notes} {frames : List ℕ}
+    {lent : List Kept} {first buffer : List ℕ} where
+  pub stopped : k < last
+      → Stands n l s (stop (stop_of file) count) (threads_of threads frames (held lent)) (stand root used shown (Err v) done finished at) first buffer (after file (k + 1))
+      → Carried file last n l s (handing root used shown (Err v) done finished at threads frames count) first buffer
+      × Handed file (after file last).bench (handing root used shown (Err v) done finished at threads frames count) lent
+  stopped i h =
+      let sum : last ≡ k + 1 + (last - (k + 1)) = omega arith in
+      all_done file (k + 1) last (sym (stays file (k + 1) (last - (k + 1)) last sum (λ e. refused v (h.refusal ∙ e)))) h
 
 -- ---- the tree
 module _ {n : Shapes} {l : List ℕ} {k : Stores} {z : Stop} {threads : ℕ → Thread} {s : Standing} {first buffer : List ℕ} {p : Progress} (h : Stands n l k z threads s first buffer p) where
@@ -121,32 +123,31 @@ room_for file room = has_room (file_refusal file) room (row_room file (count_of 
 
 -- ---- what is lent, before the first record
 
--- no store is set, whatever its result would be
-unflagged : (f c c' : ℕ) → shared_of f c ≡ Unset → shared_of f c' ≡ Unset
-unflagged zero c c' e = refl
-unflagged (suc f) c c' e = let z : ◌≡◌ {A = ℕ} 0 1 = cc in absurd (omega arith)
-
-pub none_set : (r : List ℕ) → stores (replicate 256 0) r ≡ (λ _. Unset)
-unfolding stores
-none_set r = fun_ext (λ k. unflagged (get_or (replicate 256 0) k 0) (get_or (replicate 256 0) k 0) (get_or r k 0) (ap (λ (s : Stores). s k) unset))
-
 pub lent_none : (file : List ℕ) → version file ≡ 1 → Lent file []
 lent_none file e = record { blank = blank 0; none = λ _. refl; whole = λ n. absurd (n e) }
 
 pub lent_all : (file : List ℕ) → (version file ≡ 1 → ⊥) → Lent file (replicate 16384 0)
 lent_all file n = record { blank = blank 16384; none = λ e. absurd (n e); whole = λ _. length-replicate {A = ℕ} 16384 0 }
 
-pub spare_none : (file : List ℕ) → Unasked file → Spare file [] [] [] [] []
+pub spare_none : (file : List ℕ) → Unasked file → Spare file [] []
 spare_none file o = inl o
 
-pub spare_all : (file : List ℕ) {s b n w : List ℕ} → Spare file (replicate 256 0) (s ∷ []) (b ∷ []) (n ∷ []) (w ∷ [])
-spare_all file = inr (record { results = length-replicate {A = ℕ} 256 0; stacks = refl; backups = refl; notes = refl; words = refl })
+pub spare_all : (file : List ℕ) {f : Kept} → Spare file (replicate 256 None) (replicate 16 f)
+spare_all file {f} = inr (record { results = length-replicate {A = Option ℕ} 256 None; frames = length-replicate {A = Kept} 16 f })
+
+-- by their numbers
+module _ (file : List ℕ) {d r n : ℕ} (e : Enough file d r n) where
+  pub lent_so : Lent file (replicate d 0)
+  lent_so = record { blank = blank d; none = λ v. length-replicate {A = ℕ} d 0 ∙ e.none v; whole = λ v. length-replicate {A = ℕ} d 0 ∙ e.whole v }
+
+  pub spare_so : (f : Kept) → Spare file (replicate r None) (replicate n f)
+  spare_so f = ⊎_elim inl (λ v. inr (record { results = length-replicate {A = Option ℕ} r None ∙ v.0; frames = length-replicate {A = Kept} n f ∙ v.1 })) e.spare
 
 -- ---- all records carried out
 module _ (file first : List ℕ) {n : Shapes} {l : List ℕ} {k : Stores} {s : Standing} {buffer : List ℕ} {count : ℕ} (d : count ≡ count_of file) (h : Carried file count n l k s first buffer) where
-  pub ended_report : {x y : ℕ} → x ≡ set_below 63 n s.root all → y ≡ count_below 63 n s.root all
-      → record { refusal = s.refusal; records = s.done; rows = s.finished; set = x; stored = y; used = s.used } ≡ report_of (ended file)
-  ended_report f g = rw (← d, f, g, set_at h, stored_at h, h.refusal, h.done, h.finished, used_at h)
+  pub ended_report : {v x y : ℕ} → v ≡ code_of s.refusal → x ≡ set_below 63 n s.root all → y ≡ count_below 63 n s.root all
+      → record { refusal = v; records = s.done; rows = s.finished; set = x; stored = y; used = s.used } ≡ report_of (ended file)
+  ended_report e f g = rw (← d, e, f, g, set_at h, stored_at h, h.refusal, h.done, h.finished, used_at h)
 
   pub ended_buffer : row_room file (count_of file) ≤ length first → buffer ≡ overlay (ended file).rows first
   ended_buffer r = let m : row_room file count ≤ length first = rw (← d) at r in rw (← d) (overlaid (after file count) h (omega (arith, rows_fit file count, m)))

@@ -1,5 +1,6 @@
 -- A step at a place below 60: one that finds a depth leaves the depths, so its depth may be read after what it writes; one that puts a frame on
 -- top writes nothing, and the frame is that of the range base which it has reached. Assumes nothing.
+use Rattle.std.specs.Prelude.{Option, Some, None}
 use mathlib.Core.Path.{◌≡◌, refl, sym, ap, ◌∙◌, subst}
 use mathlib.Core.Bool.{Bool, true, false, cond, not, true≢false}
 use mathlib.Core.List.{List, ◌∷◌}
@@ -18,15 +19,11 @@ use Rattle.definitions.specs.declared.Effect.{Effect}
 use Rattle.definitions.specs.declared.Effect.TheVariants.{Quiet, Raise, Lower}
 use Rattle.definitions.specs.declared.Answer.{Answer}
 use Rattle.definitions.specs.declared.Answer.TheVariants.{No, Yes, At, Lacking, Blocked, Lost, NeighbourBlocked, StoodDown, Stopped}
-use Rattle.definitions.specs.declared.Link.{Link}
-use Rattle.definitions.specs.declared.Link.TheVariants.{Nil, To}
 use Rattle.definitions.specs.declared.Node.{Node}
 use Rattle.definitions.specs.declared.Kind.{Kind}
 use Rattle.definitions.specs.declared.Kind.TheVariants.{Normal, Route, Main, Neighbour, Range}
 use Rattle.definitions.specs.declared.Stage.{Stage}
 use Rattle.definitions.specs.declared.Stage.TheVariants.{Preparing, Completing, Aborted, Done}
-use Rattle.definitions.specs.declared.Shared.{Shared}
-use Rattle.definitions.specs.declared.Shared.TheVariants.{Unset, Set}
 use Rattle.definitions.specs.declared.Action.{Action}
 use Rattle.definitions.specs.declared.Action.TheVariants.{Lookup, Insert, Remove, Split, Join, Query}
 use Rattle.definitions.specs.declared.Spot.{Spot}
@@ -41,13 +38,14 @@ use Rattle.definitions.specs.Bench.{Sight}
 use Rattle.definitions.specs.Places.{own, found, united, opening, next, Place, nowhere, p1, p2, p3, p4, p5, p15, p16, p19, p20, p21, p22, p23, p24, p25, p30, p31, p32, p33, p34, p35, p36, p37, p38, p40, p45, p46, p47, p48, p49, p50, p51, p60, p61, p62, p70, p71, p72, p73, p74, p76, p81, p82, swap, place_of, reading}
 use Rattle.definitions.specs.Steps.{looked, at_leaf, reached, onward, one_more, followed, released, lost_as, lost, join_under, cleared_as, cleared, probe, replaced_as, replaced, own_by, found_by, united_by, help_by, blocked_as, blocked, beside, grand_marking, ended, cut_at, cut_on, cut_right, freeing, step}
 use Rattle.steps.specs.declared.Notes.{Notes}
+use Rattle.effects.specs.declared.Write.{Write}
 use Rattle.steps.specs.declared.Note.{Note}
-use Rattle.steps.specs.declared.Note.TheVariants.{Opened}
 use Rattle.steps.specs.declared.Decision.{Decision}
-use Rattle.steps.specs.Decision.{thread, noted, written, turn_by, top_of, top_after}
+use Rattle.steps.specs.declared.Decision.TheVariants.{Goes, Answers}
+use Rattle.steps.specs.Decision.{thread, noted, turn_of, top_of, top_after}
 use Rattle.run.specs.Query.{helping}
 use Rattle.run.proofs.Numbers.{below, below_60, fork, back_moves}
-use Rattle.run.proofs.Decided.{reread, counted, tallied, Decided}
+use Rattle.run.proofs.Decided.{reread, written, counted, tallied, Decided}
 
 -- ---- what is known of a turn
 
@@ -105,7 +103,7 @@ Told b Check.Replaceable = Unit {0}
 Told b (Check.Preparing m) = Unit {0}
 Told b (Check.Completing m) = Unit {0}
 Told b Check.Stale = Unit {0}
-Told b (Check.Unset l h k) = new_frame l h (To k) ≡ helping b
+Told b (Check.Unset l h k) = new_frame l h (Some k) ≡ helping b
 
 told : (n : Shapes) (k : Stores) (x : ℕ) → Told (n x) (check n k x)
 unfolding check
@@ -117,9 +115,9 @@ told n k x = by (n x).kind
     staged Aborted m c q = tt
     staged Done m c q = q
 
-    stored : (r : Shared) → Told (n x) (check_store r (n x))
-    stored Unset = refl
-    stored (Set c) = tt
+    stored : (r : Option ℕ) → Told (n x) (check_store r (n x))
+    stored None = refl
+    stored (Some c) = tt
 
     by : (t : Kind) → Told (n x) (check_as t n k x)
     by Normal = tt
@@ -195,10 +193,10 @@ module _ (s : Sight) (th : Thread) where
   lose Join = tt
   lose Query = tt
 
-  link : (o : Bool) (l : Link) → Here (join_under o l th)
-  link o Nil = tt
-  link false (To p) = inl refl
-  link true (To p) = inl refl
+  link : (o : Bool) (l : Option ℕ) → Here (join_under o l th)
+  link o None = tt
+  link false (Some p) = inl refl
+  link true (Some p) = inl refl
 
   clear : (a : Action) → Here (cleared_as a s.stop.on (s.nodes th.base) th)
   clear Lookup = tt
@@ -232,28 +230,28 @@ module _ (s : Sight) (th : Thread) where
   by_united (Next q) m = inl refl
   by_united Miss m = inl refl
 
-  grand : (l : Link) → Here (grand_marking l s.nodes th)
-  grand Nil = inl refl
-  grand (To g) = either _ _ _ (inl refl) (inl refl)
+  grand : (l : Option ℕ) → Here (grand_marking l s.nodes th)
+  grand None = inl refl
+  grand (Some g) = either _ _ _ (inl refl) (inl refl)
 
   end : (e : Effect) → Here (ended e th)
   end e = either _ _ _ tt (return e)
 
-  at_46 : (l : Link) (m : Node) → Here (cut_at l m s.nodes s.root th)
-  at_46 Nil m = either _ _ _ (inl refl) (inl refl)
-  at_46 (To g) m = either _ _ _ (inl refl) (inl refl)
+  at_46 : (l : Option ℕ) (m : Node) → Here (cut_at l m s.nodes s.root th)
+  at_46 None m = either _ _ _ (inl refl) (inl refl)
+  at_46 (Some g) m = either _ _ _ (inl refl) (inl refl)
 
-  at_47 : (d : Bool) (l : Link) (m : Node) → Here (cut_on d l m s.nodes th)
-  at_47 d Nil m = inl refl
-  at_47 d (To g) m = either _ _ _ (inl refl) (inl refl)
+  at_47 : (d : Bool) (l : Option ℕ) (m : Node) → Here (cut_on d l m s.nodes th)
+  at_47 d None m = inl refl
+  at_47 d (Some g) m = either _ _ _ (inl refl) (inl refl)
 
-  at_48 : (l : Link) (m : Node) → Here (cut_right l m s.nodes th)
-  at_48 Nil m = inl refl
-  at_48 (To g) m = either _ _ _ (inl refl) (inl refl)
+  at_48 : (l : Option ℕ) (m : Node) → Here (cut_right l m s.nodes th)
+  at_48 None m = inl refl
+  at_48 (Some g) m = either _ _ _ (inl refl) (inl refl)
 
-  at_50 : (l : Link) → Here (freeing l s.nodes th)
-  at_50 Nil = inl refl
-  at_50 (To g) = either _ _ _ (inl refl) (inl refl)
+  at_50 : (l : Option ℕ) → Here (freeing l s.nodes th)
+  at_50 None = inl refl
+  at_50 (Some g) = either _ _ _ (inl refl) (inl refl)
 
   finding : (p : Place) → below p ≡ true → Here (step p s th)
   unfolding step beside cleared blocked
@@ -328,36 +326,36 @@ module _ (s : Sight) (th : Notes) (h : th.place < 60) (k : ℕ) (d : Decision) (
   now = thread (reread k th) fs
 
   abbrev effect : Effect
-  effect = written d.writes d.effect
+  effect = written d
 
-  finds : {m : ℕ} → d.what ≡ m → Finding (s.nodes th.base) (thread th fs) (tallied th.place (turn_by m now (noted d.note top d.place d.value now) effect d.answer))
-  finds e = subst (λ (t : Turn). Finding (s.nodes th.base) (thread th fs) t) (q.turn fs ∙ ap (λ (m : ℕ). tallied th.place (turn_by m now (noted d.note top d.place d.value now) effect d.answer)) e) (finding s (thread th fs) (place_of th.place) (below_60 th.place h))
+  finds : {v : Decision} → d ≡ v → Finding (s.nodes th.base) (thread th fs) (tallied th.place (turn_of top now v))
+  finds e = subst (λ (t : Turn). Finding (s.nodes th.base) (thread th fs) t) (q.turn fs ∙ ap (λ (v : Decision). tallied th.place (turn_of top now v)) e) (finding s (thread th fs) (place_of th.place) (below_60 th.place h))
 
   -- where the count changes nothing is written
-  quiet_or : (d.what ≡ 2 → ⊥) → (effect ≡ Quiet) ⊎ (counted th.place effect ≡ effect)
-  quiet_or o = by (eqb th.place 4) (eqb th.place 5) refl refl
+  quiet_or : (effect ≡ Quiet) ⊎ (counted th.place effect ≡ effect)
+  quiet_or = by (eqb th.place 4) (eqb th.place 5) refl refl
     where
       by : (a b : Bool) → eqb th.place 4 ≡ a → eqb th.place 5 ≡ b → (effect ≡ Quiet) ⊎ (cond a Raise (cond b Lower effect) ≡ effect)
-      by true b e f = inl (q.quiet (inl (eqb-true th.place 4 e)) o)
-      by false true e f = inl (q.quiet (inr (eqb-true th.place 5 f)) o)
+      by true b e f = inl (q.quiet (inl (eqb-true th.place 4 e)))
+      by false true e f = inl (q.quiet (inr (eqb-true th.place 5 f)))
       by false false e f = inr refl
 
   -- the depth that it finds
-  pub depth_still : (n : Shapes) (r : Rows) (t : ℕ) → d.what ≡ 1 → depth_by d.answer (deepened effect n r) t ≡ depth_in d.answer (full n r) t
-  depth_still n r t e = by (quiet_or (λ z. omega arith))
+  pub depth_still : {w : Write} {a : Answer} (n : Shapes) (r : Rows) (t : ℕ) → d ≡ Answers w a → depth_by a (deepened effect n r) t ≡ depth_in a (full n r) t
+  depth_still {w} {a} n r t e = by quiet_or
     where
-      by : (effect ≡ Quiet) ⊎ (counted th.place effect ≡ effect) → depth_by d.answer (deepened effect n r) t ≡ depth_in d.answer (full n r) t
-      by (inl i) = found_after d.answer effect n r t (rw i (quiet d.answer))
-      by (inr i) = found_after d.answer effect n r t (subst (λ (v : Effect). FindsBy d.answer v) i (finds e))
+      by : (effect ≡ Quiet) ⊎ (counted th.place effect ≡ effect) → depth_by a (deepened effect n r) t ≡ depth_in a (full n r) t
+      by (inl i) = found_after a effect n r t (rw i (quiet a))
+      by (inr i) = found_after a effect n r t (subst (λ (v : Effect). FindsBy a v) i (rw e (finds e)))
 
   -- the frame that it opens
-  pub opened : d.what ≡ 0 → d.note ≡ Opened → (effect ≡ Quiet) × (top ≡ helping (s.nodes th.base))
-  opened e o = by (subst (λ (n : Note). Framed (s.nodes th.base) (thread th fs) (noted n top d.place d.value now) (counted th.place effect)) o (finds e))
+  pub opened : {w : Write} {p : ℕ} → d ≡ Goes w p Note.Opened → (effect ≡ Quiet) × (top ≡ helping (s.nodes th.base))
+  opened {w} {p} e = by (rw e (finds e))
     where
       still : (effect ≡ Quiet) ⊎ (counted th.place effect ≡ effect) → counted th.place effect ≡ Quiet → effect ≡ Quiet
       still (inl i) j = i
       still (inr i) j = sym i ∙ j
 
-      by : Framed (s.nodes th.base) (thread th fs) (noted Opened top d.place d.value now) (counted th.place effect) → (effect ≡ Quiet) × (top ≡ helping (s.nodes th.base))
+      by : Framed (s.nodes th.base) (thread th fs) (noted Note.Opened top p now) (counted th.place effect) → (effect ≡ Quiet) × (top ≡ helping (s.nodes th.base))
       by (inl i) = absurd (omega arith)
-      by (inr i) = (still (quiet_or (λ z. omega arith)) i.0, ap top_of i.1)
+      by (inr i) = (still quiet_or i.0, ap top_of i.1)

@@ -21,7 +21,7 @@ use Rattle.definitions.specs.Run.{Progress, advance_by, advance, after}
 use Rattle.answers.proofs.SameOperation.{Same, same_op}
 use Rattle.answers.proofs.RunSet.{run_ends}
 use Rattle.answers.proofs.ReadPlaces.{know_now}
-use Rattle.run.proofs.FramedSteps.{Some, Framed, other, Leaves, step_leaves}
+use Rattle.run.proofs.FramedSteps.{HasFrame, Framed, other, Leaves, step_leaves}
 
 -- ---- a record
 abbrev Keeps : Result → Type 0
@@ -94,7 +94,7 @@ query_framed file zero u = other Lookup refl
 query_framed file (suc k) u = advance_keeps file (after file k) (record_at file k) (query_framed file k) u
 
 bare : (file : List ℕ) (k t : ℕ) → ((after file k).bench.threads t).frames ≡ [] → ((after file k).bench.threads t).action ≡ Query → ⊥
-bare file k t e z = subst Some e (query_framed file k t z)
+bare file k t e z = subst HasFrame e (query_framed file k t z)
 
 -- a thread at 1, 2, 4 or 5 is no query's
 pub no_query : (file : List ℕ) (k t p : ℕ) → ((after file k).bench.threads t).place ≡ p → 0 < p → p < 6 → (p ≡ 3 → ⊥) → ((after file k).bench.threads t).action ≡ Query → ⊥

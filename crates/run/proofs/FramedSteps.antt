@@ -1,4 +1,5 @@
 -- A step of a query's thread that has a frame leaves it one (`step_leaves`). Assumes nothing.
+use Rattle.std.specs.Prelude.{Option, Some, None}
 use mathlib.Core.Path.{◌≡◌, sym, ap, ◌∙◌}
 use mathlib.Core.Bool.{Bool, true, false, true≢false}
 use mathlib.Core.List.{List, [], ◌∷◌}
@@ -8,13 +9,9 @@ use Rattle.definitions.specs.declared.Action.{Action}
 use Rattle.definitions.specs.declared.Action.TheVariants.{Lookup, Insert, Remove, Split, Join, Query}
 use Rattle.definitions.specs.declared.Check.{Check}
 use Rattle.definitions.specs.declared.Effect.{Effect}
-use Rattle.definitions.specs.declared.Link.{Link}
-use Rattle.definitions.specs.declared.Link.TheVariants.{Nil, To}
 use Rattle.definitions.specs.declared.Node.{Node}
 use Rattle.definitions.specs.declared.Probe.{Probe}
 use Rattle.definitions.specs.declared.Probe.TheVariants.{Hit, Next, Miss}
-use Rattle.definitions.specs.declared.Shared.{Shared}
-use Rattle.definitions.specs.declared.Shared.TheVariants.{Unset, Set}
 use Rattle.definitions.specs.declared.Spot.{Spot}
 use Rattle.definitions.specs.Threads.{Frame, Thread, Turn, Moves, Finishes, Finds, Full, NoStore}
 use Rattle.definitions.specs.Nodes.{child_for, check}
@@ -27,19 +24,19 @@ use Rattle.definitions.specs.Steps.{help_by, blocked_as, blocked, beside, grand_
 use Rattle.definitions.specs.Steps.{freeing, reached_first, reached_next, opened_by, extended_by, pop_on, met_by, filling, leaving, read_out, is_query, step}
 use Rattle.definitions.specs.Frames.{tail_of, store_of, in_frame, next_from, adding, found_first, back_in, back}
 
-abbrev pub Some : List Frame → Type 0
-Some [] = ⊥
-Some (f ∷ fs) = Unit {0}
+abbrev pub HasFrame : List Frame → Type 0
+HasFrame [] = ⊥
+HasFrame (f ∷ fs) = Unit {0}
 
 abbrev pub Framed : Thread → Type 0
-Framed th = th.action ≡ Query → Some th.frames
+Framed th = th.action ≡ Query → HasFrame th.frames
 
 pub other : {A : Type 0} (a : Action) → is_query a ≡ false → a ≡ Query → A
 other a e z = absurd (true≢false (sym (ap is_query z) ∙ e))
 
 -- ---- a turn leaves a query a frame
 abbrev pub Leaves : Turn → Type 0
-Leaves (Moves th e) = Some th.frames
+Leaves (Moves th e) = HasFrame th.frames
 Leaves (Finishes e a) = Unit {0}
 Leaves (Finds c) = Unit {0}
 Leaves Full = Unit {0}
@@ -51,7 +48,7 @@ fork true o o' p q = p
 fork false o o' p q = q
 
 -- of a query's thread that has one
-module _ (s : Sight) (th : Thread) (a : th.action ≡ Query) (q : Some th.frames) where
+module _ (s : Sight) (th : Thread) (a : th.action ≡ Query) (q : HasFrame th.frames) where
   leaf : (v : Action) (c : Bool) (k x : ℕ) → Leaves (at_leaf v s.nodes (reading c k th) x)
   leaf Lookup c k x = tt
   leaf Insert c k x = q
@@ -89,10 +86,10 @@ module _ (s : Sight) (th : Thread) (a : th.action ≡ Query) (q : Some th.frames
   lose Join = tt
   lose Query = tt
 
-  link : (on : Bool) (l : Link) → Leaves (join_under on l th)
-  link on Nil = tt
-  link false (To p) = q
-  link true (To p) = q
+  link : (on : Bool) (l : Option ℕ) → Leaves (join_under on l th)
+  link on None = tt
+  link false (Some p) = q
+  link true (Some p) = q
 
   clear : (v : Action) → Leaves (cleared_as v s.stop.on (s.nodes th.base) th)
   clear Lookup = tt
@@ -131,7 +128,7 @@ module _ (s : Sight) (th : Thread) (a : th.action ≡ Query) (q : Some th.frames
   nexted (x ∷ []) e f fs = tt
   nexted (x ∷ y ∷ l) e f fs = tt
 
-  backed : (fs : List Frame) (e : Effect) → Some fs → Leaves (back_in fs e th)
+  backed : (fs : List Frame) (e : Effect) → HasFrame fs → Leaves (back_in fs e th)
   backed [] e r = absurd r
   backed (f ∷ fs) e r = fork _ _ _ (nexted f.backup e f fs) tt
 
@@ -143,9 +140,9 @@ module _ (s : Sight) (th : Thread) (a : th.action ≡ Query) (q : Some th.frames
   unfolding adding
   added e c f fs = fork _ _ _ tt (nexted f.stack e _ fs)
 
-  first_found : (l : Link) (n : Node) (f : Frame) (fs : List Frame) → Leaves (found_first l n f fs th)
-  first_found Nil n f fs = tt
-  first_found (To k) n f fs = fork _ _ _ (added _ _ _ fs) tt
+  first_found : (l : Option ℕ) (n : Node) (f : Frame) (fs : List Frame) → Leaves (found_first l n f fs th)
+  first_found None n f fs = tt
+  first_found (Some k) n f fs = fork _ _ _ (added _ _ _ fs) tt
 
   first_reached : (x : ℕ) (l : List ℕ) (f : Frame) (fs : List Frame) → Leaves (reached_first s.nodes x l f fs th)
   unfolding reached_first
@@ -159,13 +156,13 @@ module _ (s : Sight) (th : Thread) (a : th.action ≡ Query) (q : Some th.frames
   popped [] f fs = tt
   popped (x ∷ l) f fs = tt
 
-  met : (v : Shared) (n : Node) (f : Frame) (fs : List Frame) → Leaves (met_by v n f fs th)
-  met (Set c) n f fs = q
-  met Unset n f fs = fork _ _ _ (added _ _ _ fs) q
+  met : (v : Option ℕ) (n : Node) (f : Frame) (fs : List Frame) → Leaves (met_by v n f fs th)
+  met (Some c) n f fs = q
+  met None n f fs = fork _ _ _ (added _ _ _ fs) q
 
-  fills : (v : Shared) (f : Frame) → Leaves (filling v f th)
-  fills Unset f = q
-  fills (Set c) f = q
+  fills : (v : Option ℕ) (f : Frame) → Leaves (filling v f th)
+  fills None f = q
+  fills (Some c) f = q
 
   -- the last frame of a query: it finishes
   left : (fs : List Frame) (r : ℕ) → Leaves (leaving fs r th)
@@ -173,9 +170,9 @@ module _ (s : Sight) (th : Thread) (a : th.action ≡ Query) (q : Some th.frames
   left [] r = rw a tt
   left (f ∷ fs) r = backed (f ∷ fs) _ tt
 
-  read_out_lem : (v : Shared) (fs : List Frame) → Leaves (read_out v fs th)
-  read_out_lem Unset fs = tt
-  read_out_lem (Set r) fs = left fs r
+  read_out_lem : (v : Option ℕ) (fs : List Frame) → Leaves (read_out v fs th)
+  read_out_lem None fs = tt
+  read_out_lem (Some r) fs = left fs r
 
   by_opening : (o : Probe) (n : Node) (f : Frame) (fs : List Frame) → Leaves (opened_by o n s f fs th)
   by_opening (Hit v) n f fs = fork _ _ _ (fork _ _ _ (added _ _ _ fs) tt) tt
@@ -206,25 +203,25 @@ module _ (s : Sight) (th : Thread) (a : th.action ≡ Query) (q : Some th.frames
   block Join c = tt
   block Query c = tt
 
-  grand : (l : Link) → Leaves (grand_marking l s.nodes th)
-  grand Nil = q
-  grand (To g) = fork _ _ _ q q
+  grand : (l : Option ℕ) → Leaves (grand_marking l s.nodes th)
+  grand None = q
+  grand (Some g) = fork _ _ _ q q
 
-  at_46 : (l : Link) (m : Node) → Leaves (cut_at l m s.nodes s.root th)
-  at_46 Nil m = fork _ _ _ q q
-  at_46 (To g) m = fork _ _ _ q q
+  at_46 : (l : Option ℕ) (m : Node) → Leaves (cut_at l m s.nodes s.root th)
+  at_46 None m = fork _ _ _ q q
+  at_46 (Some g) m = fork _ _ _ q q
 
-  at_47 : (d : Bool) (l : Link) (m : Node) → Leaves (cut_on d l m s.nodes th)
-  at_47 d Nil m = q
-  at_47 d (To g) m = fork _ _ _ q q
+  at_47 : (d : Bool) (l : Option ℕ) (m : Node) → Leaves (cut_on d l m s.nodes th)
+  at_47 d None m = q
+  at_47 d (Some g) m = fork _ _ _ q q
 
-  at_48 : (l : Link) (m : Node) → Leaves (cut_right l m s.nodes th)
-  at_48 Nil m = q
-  at_48 (To g) m = fork _ _ _ q q
+  at_48 : (l : Option ℕ) (m : Node) → Leaves (cut_right l m s.nodes th)
+  at_48 None m = q
+  at_48 (Some g) m = fork _ _ _ q q
 
-  at_50 : (l : Link) → Leaves (freeing l s.nodes th)
-  at_50 Nil = q
-  at_50 (To g) = fork _ _ _ q q
+  at_50 : (l : Option ℕ) → Leaves (freeing l s.nodes th)
+  at_50 None = q
+  at_50 (Some g) = fork _ _ _ q q
 
   pub step_leaves : (p : Place) → Leaves (step p s th)
   unfolding step beside cleared blocked

@@ -10,10 +10,8 @@ pub mod FramedSteps
 pub mod Framed
 pub mod Sought
 pub mod Changed
-pub mod Joint
 pub mod Ranging
 pub mod Left
-pub mod Rounds
 pub mod Threads
 pub mod Turn
 pub mod Queried

@@ -18,9 +18,6 @@ pub record Looked (file : List ℕ) (from : ℕ) : Type 0 where
   pub starts : from % 4 ≡ 3
   pub none : (j : ℕ) → 3 + 4 * j < from → get_or file (3 + 4 * j) 0 % 16 ≡ 6 → ⊥
 
-pub looked_none : (file : List ℕ) → Looked file 3
-looked_none file = record { starts = refl; none = λ j l z. omega arith }
-
 pub looked_more : (file : List ℕ) (from : ℕ) → Looked file from → (get_or file from 0 % 16 ≡ 6 → ⊥) → Looked file (from + 4)
 looked_more file from h o = record { starts = omega (arith, h.starts); none = at }
   where

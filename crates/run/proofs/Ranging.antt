@@ -1,4 +1,5 @@
 -- A step at a place from 60 on writes nothing, a range base or the result of a store. Assumes nothing.
+use Rattle.std.specs.Prelude.{Option, Some, None}
 use mathlib.Core.Path.{◌≡◌, sym, subst}
 use mathlib.Core.Bool.{Bool, true, true≢false}
 use mathlib.Core.List.{List, [], ◌∷◌}
@@ -6,13 +7,9 @@ use Prim.Native.Nat.{ℕ, ◌≤◌}
 use Rattle.container.specs.Choice.{ite}
 use Rattle.definitions.specs.declared.Effect.{Effect}
 use Rattle.definitions.specs.declared.Effect.TheVariants.{Quiet}
-use Rattle.definitions.specs.declared.Link.{Link}
-use Rattle.definitions.specs.declared.Link.TheVariants.{Nil, To}
 use Rattle.definitions.specs.declared.Node.{Node}
 use Rattle.definitions.specs.declared.Probe.{Probe}
 use Rattle.definitions.specs.declared.Probe.TheVariants.{Hit, Next, Miss}
-use Rattle.definitions.specs.declared.Shared.{Shared}
-use Rattle.definitions.specs.declared.Shared.TheVariants.{Unset, Set}
 use Rattle.definitions.specs.Nodes.{child_for}
 use Rattle.definitions.specs.Threads.{Frame, Thread, Turn, Moves, Finishes, Finds, Full, NoStore}
 use Rattle.definitions.specs.Frames.{top_of, tail_of, store_of, in_hand, in_frame, found_first}
@@ -39,9 +36,9 @@ module _ (s : Sight) (th : Thread) where
   in_frame_lem [] k q = tt
   in_frame_lem (f ∷ fs) k q = q f fs
 
-  first : (l : Link) (b : Node) (f : Frame) (fs : List Frame) → Ranging (found_first l b f fs th)
-  first Nil b f fs = tt
-  first (To k) b f fs = either _ _ _ (add_moves Ranging Quiet b.container f fs th (λ v i. tt)) tt
+  first : (l : Option ℕ) (b : Node) (f : Frame) (fs : List Frame) → Ranging (found_first l b f fs th)
+  first None b f fs = tt
+  first (Some k) b f fs = either _ _ _ (add_moves Ranging Quiet b.container f fs th (λ v i. tt)) tt
 
   reach_first : (x : ℕ) (t : List ℕ) (f : Frame) (fs : List Frame) → Ranging (reached_first s.nodes x t f fs th)
   unfolding reached_first
@@ -65,18 +62,18 @@ module _ (s : Sight) (th : Thread) where
   pops [] f fs = tt
   pops (x ∷ t) f fs = tt
 
-  meets : (r : Shared) (b : Node) (f : Frame) (fs : List Frame) → Ranging (met_by r b f fs th)
-  meets (Set _) b f fs = tt
-  meets Unset b f fs = either _ _ _ (add_moves Ranging Quiet b.container f fs th (λ v i. tt)) tt
+  meets : (r : Option ℕ) (b : Node) (f : Frame) (fs : List Frame) → Ranging (met_by r b f fs th)
+  meets (Some _) b f fs = tt
+  meets None b f fs = either _ _ _ (add_moves Ranging Quiet b.container f fs th (λ v i. tt)) tt
 
-  fills : (r : Shared) (f : Frame) → Ranging (filling r f th)
-  fills Unset f = tt
-  fills (Set _) f = tt
+  fills : (r : Option ℕ) (f : Frame) → Ranging (filling r f th)
+  fills None f = tt
+  fills (Some _) f = tt
 
-  reads : (r : Shared) (fs : List Frame) → Ranging (read_out r fs th)
-  reads Unset fs = tt
-  reads (Set c) [] = either _ _ _ tt (back_in_lem Ranging [] Quiet th (λ v i. tt))
-  reads (Set c) (f ∷ fs) = back_in_lem Ranging (f ∷ fs) Quiet th (λ v i. tt)
+  reads : (r : Option ℕ) (fs : List Frame) → Ranging (read_out r fs th)
+  reads None fs = tt
+  reads (Some c) [] = either _ _ _ tt (back_in_lem Ranging [] Quiet th (λ v i. tt))
+  reads (Some c) (f ∷ fs) = back_in_lem Ranging (f ∷ fs) Quiet th (λ v i. tt)
 
   ranging : (p : Place) → above p ≡ true → Ranging (step p s th)
   unfolding step

@@ -1,5 +1,8 @@
 -- Record k of a proper file as the loop reads it: its first two bytes, and from version 2 on the other two; what it asks; where the next one
 -- starts. Assumes nothing.
+use Rattle.std.specs.Prelude.{Result as Outcome}
+use Rattle.machine.specs.declared.Asked.{Asked}
+use Rattle.definitions.specs.declared.Refusal.{Refusal}
 use mathlib.Core.Path.{◌≡◌, sym, ap, ◌∙◌}
 use mathlib.Core.Bool.{Bool, true, false}
 use mathlib.Core.List.{List}
@@ -41,26 +44,9 @@ module _ (file : List ℕ) (h : Proper file) (k : ℕ) where
       by true e l m = omega arith
       by false e l m = omega arith
 
--- a proper file is short
-pub short : (file : List ℕ) → Proper file → length file ≤ 16387
-unfolding ite
-short file h = by (eqb (version file) 1) h.whole h.few
-  where
-    by : (v : Bool) → length file ≡ 3 + ite v 2 4 * count_of file → count_of file ≤ 4096 → length file ≤ 16387
-    by true e l = omega arith
-    by false e l = omega arith
-
-pub onwards : (file : List ℕ) (k : ℕ) → 3 + width file * k < 3 + width file * (k + 1)
-unfolding ite
-onwards file k = by (eqb (version file) 1)
-  where
-    by : (v : Bool) → 3 + ite v 2 4 * k < 3 + ite v 2 4 * (k + 1)
-    by true = omega arith
-    by false = omega arith
-
 -- ---- its bytes, from `from` on
 -- what it has, where the next one starts, and what it asks at the place p
-abbrev pub Read : List ℕ → ℕ → ℕ → ℕ → ℕ → ℕ → ℕ → ℕ → Type 0
+abbrev pub Read : List ℕ → ℕ → ℕ → ℕ → ℕ → Outcome Asked Refusal → ℕ → ℕ → Type 0
 Read file k x y e a next p = Reads file k x y e × ((next ≡ 3 + width file * (k + 1)) × (a ≡ asked (last_action file) x y e p))
 
 module _ (file : List ℕ) (k : ℕ) {from : ℕ} (f : from ≡ 3 + width file * k) where
@@ -127,7 +113,7 @@ module _ (file : List ℕ) (k : ℕ) {from : ℕ} (f : from ≡ 3 + width file *
       by true c g = let z : ◌≡◌ {A = ℕ} 0 1 = cc in absurd (omega arith)
       by false c g = omega arith
 
-  module _ (v : ℕ) {x y e a next : ℕ} (w : v ≡ version file) (i : x ≡ get_or file from 0) (j : y ≡ get_or file (from + 1) 0) (p : ℕ) where
+  module _ (v : ℕ) {x y e next : ℕ} {a : Outcome Asked Refusal} (w : v ≡ version file) (i : x ≡ get_or file from 0) (j : y ≡ get_or file (from + 1) 0) (p : ℕ) where
     -- in version 1 the first two bytes are all
     pub read_plain : v ≡ 1 → e ≡ 0 → next ≡ from + 2 → a ≡ asked 5 x y 0 p → Read file k x y e a next p
     read_plain o b c q =

@@ -2,15 +2,12 @@
 use mathlib.Core.Path.{◌≡◌, refl, sym, ap, subst}
 use mathlib.Core.Bool.{Bool, true, false}
 use mathlib.Core.List.{List, []}
-use mathlib.Core.Logic.{◌⊎◌, inl, inr, ⊎_elim}
 use Prim.Native.Nat.{ℕ, zero, suc, ◌<◌}
 use native.Mathlib.Omega.{arith}
 use lib.ListN.{length}
 use Rattle.container.specs.Choice.{ite}
 use Rattle.definitions.specs.declared.Action.{Action}
 use Rattle.definitions.specs.declared.Action.TheVariants.{Lookup, Insert, Remove, Split, Join, Query}
-use Rattle.definitions.specs.declared.Answer.{Answer}
-use Rattle.definitions.specs.declared.Effect.{Effect}
 use Rattle.definitions.specs.declared.Effect.TheVariants.{Quiet}
 use Rattle.definitions.specs.Threads.{Frame, Thread, Turn, Moves, Finishes, Finds, Full, NoStore}
 use Rattle.definitions.specs.Frames.{back}
@@ -18,9 +15,10 @@ use Rattle.definitions.specs.Nodes.{Shapes}
 use Rattle.definitions.specs.Steps.{at_leaf, reached, onward, followed}
 use Rattle.steps.specs.declared.Notes.{Notes}
 use Rattle.steps.specs.declared.Note.{Note}
-use Rattle.steps.specs.declared.Note.TheVariants.{Opened}
 use Rattle.steps.specs.declared.Decision.{Decision}
-use Rattle.steps.specs.Decision.{thread, noted, written, turn_by, top_after, Decides, finding, counting}
+use Rattle.steps.specs.declared.Decision.TheVariants.{Goes, Answers, NodesOut, Back}
+use Rattle.steps.specs.Decision.{thread, noted, turn_of, top_after, Decides, finding, counting}
+use Rattle.run.proofs.Decided.{written}
 
 -- it goes on, though not to 1, with the frames fs, or finishes
 abbrev Searches : List Frame → Turn → Type 0
@@ -75,34 +73,34 @@ module _ (n : Shapes) (th : Thread) (a : th.action ≡ Query → ⊥) where
   at_counting (suc (suc (suc (suc (suc (suc p)))))) g h = absurd (omega arith)
 
 -- what the decision d of the notes th is then: nothing is written; it goes on and opens no frame, or finishes
+abbrev pub Seeks : Decision → Type 0
+Seeks (Goes e p n) = n ≡ Note.Opened → ⊥
+Seeks (Answers e a) = Unit {0}
+Seeks NodesOut = ⊥
+Seeks (Back e) = ⊥
+
 pub record Sought (d : Decision) : Type 0 where
-  pub silent : written d.writes d.effect ≡ Quiet
-  pub ways : (d.what ≡ 0) ⊎ (d.what ≡ 1)
-  pub same : d.what ≡ 0 → d.note ≡ Opened → ⊥
+  pub silent : written d ≡ Quiet
+  pub ways : Seeks d
 
 sought : {th : Notes} {d : Decision} {f : Thread → Turn} → Decides th d f → Searches [] (f (thread th [])) → Sought d
 unfolding back
-sought {th} {d} {f} i q = record {
-  silent = told.0;
-  ways = ⊎_elim (λ w. inl w.0) inr told.1;
-  same = λ o m. ⊎_elim (λ w. grown (top_after (f (thread th []))) d.place d.value
-      (subst (λ (t : Note). (noted t (top_after (f (thread th []))) d.place d.value (thread th [])).frames ≡ []) m w.1)) (λ w. omega arith) told.1;
-}
+sought {th} {d} {f} i q = by d (subst (Searches []) (sym (i.turn [])) q)
   where
-    grown : (g : Frame) (p v : ℕ) → (noted Opened g p v (thread th [])).frames ≡ [] → ⊥
-    grown g p v e = let z : ◌≡◌ {A = ℕ} 1 0 = ap length e in omega arith
+    top : Frame
+    top = top_after (f (thread th []))
 
-    by : (m : ℕ) (v : Thread) (e : Effect) (a : Answer) → Searches [] (turn_by m (thread th []) v e a) → (e ≡ Quiet) × (((m ≡ 0) × (v.frames ≡ [])) ⊎ (m ≡ 1))
-    by zero v e a s = (s.0, inl (refl, s.1.1))
-    by (suc zero) v e a s = (s, inr refl)
-    by (suc (suc zero)) v e a s = absurd s
-    by (suc (suc (suc m))) v e a s = absurd (s.1.0 refl)
+    grown : (p : ℕ) → (noted Note.Opened top p (thread th [])).frames ≡ [] → ⊥
+    grown p e = let z : ◌≡◌ {A = ℕ} 1 0 = ap length e in omega arith
 
-    told : (written d.writes d.effect ≡ Quiet) × (((d.what ≡ 0) × ((noted d.note (top_after (f (thread th []))) d.place d.value (thread th [])).frames ≡ [])) ⊎ (d.what ≡ 1))
-    told = by d.what _ _ _ (subst (Searches []) (sym (i.turn [])) q)
+    by : (v : Decision) → Searches [] (turn_of top (thread th []) v) → Sought v
+    by (Goes e p n) s = record { silent = s.0; ways = λ m. grown p (subst (λ (t : Note). (noted t top p (thread th [])).frames ≡ []) m s.1.1) }
+    by (Answers e a) s = record { silent = s; ways = tt }
+    by NodesOut s = absurd s
+    by (Back e) s = absurd (s.1.0 refl)
 
 pub sought_find : {th : Notes} {d : Decision} (on : Bool) (n : Shapes) (root : ℕ) → 0 < th.place → th.place < 3 → (th.action ≡ Query → ⊥) → Decides th d (finding th.place on n root) → Sought d
 sought_find {th} on n root g h a i = sought i (at_finding n (thread th []) a th.place g h on root)
 
-pub sought_count : {th : Notes} {d : Decision} (n : Shapes) → 3 < th.place → th.place < 6 → (th.action ≡ Query → ⊥) → Decides th d (counting th.place n) → d.what ≡ 2 → ⊥
-sought_count {th} n g h a i e = ⊎_elim (λ z. omega arith) (λ z. omega arith) (sought i (at_counting n (thread th []) a th.place g h)).ways
+pub sought_count : {th : Notes} {d : Decision} (n : Shapes) → 3 < th.place → th.place < 6 → (th.action ≡ Query → ⊥) → Decides th d (counting th.place n) → d ≡ NodesOut → ⊥
+sought_count {th} n g h a i e = subst Seeks e (sought i (at_counting n (thread th []) a th.place g h)).ways

@@ -1,176 +1,153 @@
 -- Where the ways of a record meet in the loop: nothing is left to do, or a row is, or what has to do with frames (`query::round`); and what the
 -- loop holds once that is done. Rests on crate answers by the laws of one record more.
-use mathlib.Core.Path.{◌≡◌, refl, sym, ap, ◌∙◌}
+use Rattle.std.specs.Prelude.{Result as Outcome, Ok, Err}
+use mathlib.Core.Path.{◌≡◌, refl, sym, ap, ◌∙◌, subst}
 use mathlib.Core.Bool.{Bool}
 use mathlib.Core.List.{List, [], ◌∷◌}
-use mathlib.Core.Logic.{◌⊎◌, ⊎_elim}
 use Prim.Native.Nat.{ℕ, zero, suc, ◌+◌, ◌/◌, ◌%◌, ◌≤◌, ◌<◌}
 use native.Mathlib.Omega.{arith}
-use borrow.Author.Tests.{eq-eqb}
 use lib.ListN.{length, get_or, set}
 use lib.Seq.{set-set, get_or-set_same}
-use Rattle.container.specs.Choice.{ite}
 use Rattle.answers.specs.Reachable.{Unasked}
 use Rattle.buffer.specs.Page.{page, put_all}
 use Rattle.depths.specs.Rows.{rows}
 use Rattle.effects.specs.Used.{used_after, deepened, Applied}
-use Rattle.nodes.specs.Cells.{table}
 use Rattle.frames.specs.View.{frames_of}
 use Rattle.frames.specs.Outcomes.{Opens, Room}
 use Rattle.steps.specs.declared.Notes.{Notes}
-use Rattle.steps.specs.declared.Note.TheVariants.{Opened}
+use Rattle.effects.specs.declared.Write.{Write}
+use Rattle.steps.specs.declared.Note.{Note}
 use Rattle.steps.specs.declared.Decision.{Decision}
-use Rattle.steps.specs.Decision.{thread, written, Decides, finding}
-use Rattle.machine.specs.Asked.{starting}
+use Rattle.steps.specs.Decision.{thread, Decides, finding}
+use Rattle.machine.specs.declared.Asked.{Asked}
 use Rattle.machine.specs.Noted.{Noted}
 use Rattle.machine.specs.Enacted.{depth_by}
 use Rattle.definitions.specs.Nodes.{Shapes, Stores}
-use Rattle.definitions.specs.Threads.{Frame, Thread, idle}
+use Rattle.definitions.specs.Threads.{Frame, Thread, begun, idle}
 use Rattle.definitions.specs.Bench.{stop, sight}
 use Rattle.definitions.specs.Places.{to_base}
 use Rattle.definitions.specs.Versions.{version, stop_of}
 use Rattle.definitions.specs.Run.{after}
+use Rattle.definitions.specs.declared.Action.TheVariants.{Query}
 use Rattle.definitions.specs.declared.Answer.{Answer}
-use Rattle.run.specs.Threads.{threads_of}
+use Rattle.definitions.specs.declared.Refusal.{Refusal}
+use Rattle.run.specs.Threads.{threads_of, recounted}
 use Rattle.run.specs.Standing.{row_of, Stands}
-use Rattle.run.specs.Query.{goes_to, refused_with, Still, Rounds, found_row}
+use Rattle.run.specs.Query.{goes_to, Leaves, Bare, Rounds, found_row}
+use Rattle.run.specs.declared.Job.{Job}
+use Rattle.run.specs.declared.query.Counts.{Counts}
 use Rattle.run.specs.declared.query.Left.{Left}
-use Rattle.run.proofs.Decided.{reread, Decided}
-use Rattle.run.proofs.Changed.{Rereads, Recounts, recount_none, Begun}
-use Rattle.run.proofs.Sought.{Sought, sought_find}
-use Rattle.run.proofs.Chosen.{set_own}
+use Rattle.run.specs.declared.query.Left.TheVariants.{Goes, Found, Refused}
+use Rattle.run.specs.declared.query.Task.{Task}
+use Rattle.run.specs.declared.query.Task.TheVariants.{Start, Help, Back, Step, Refuse}
+use Rattle.run.proofs.Decided.{reread, written, Decided}
+use Rattle.run.proofs.Changed.{count_other, Rereads, Begun}
+use Rattle.run.proofs.Sought.{Seeks, Sought, sought_find}
 use Rattle.run.proofs.Noting.{placed, unopened_still}
-use Rattle.run.proofs.Turn.{seen, stand, Asking, few, awake, queries, noted_on, said_on, opened_on, opens_few, back_on}
+use Rattle.run.proofs.Turn.{seen, stand, Asking, few, awake, noted_on, said_on, opened_on, opens_few, back_on}
 use Rattle.run.proofs.Queried.{searching, asking_on, stack_fits, left_on, left_found, left_refused}
 use Rattle.run.proofs.Wide.{wide_turn, wide_back, wide_start, wide_open}
 
+-- a list put what it has
+set_own : (c : List ℕ) (t : ℕ) → set c t (get_or c t 0) ≡ c
+set_own [] t = refl
+set_own (m ∷ c) zero = refl
+set_own (m ∷ c) (suc t) = ap (λ (d : List ℕ). m ∷ d) (set_own c t)
+
 -- record k has been carried out
-abbrev pub Next : List ℕ → ℕ → Shapes → List ℕ → Stores → List Notes → List ℕ → (ℕ → Frame) → ℕ → ℕ → ℕ → ℕ → ℕ → List ℕ → List ℕ → Type 0
-Next file k n l s threads counts h root used shown finished at first buffer =
-    Stands n l s (stop (stop_of file) (get_or counts 4 0)) (threads_of threads counts h) (stand root used shown 0 (k + 1) finished at) first buffer (after file (k + 1))
+abbrev pub Next : List ℕ → ℕ → Shapes → List ℕ → Stores → List Notes → List ℕ → (ℕ → Frame) → ℕ → ℕ → ℕ → ℕ → ℕ → ℕ → List ℕ → List ℕ → Type 0
+Next file k n l s threads counts h count root used shown finished at first buffer =
+    Stands n l s (stop (stop_of file) count) (threads_of threads counts h) (stand root used shown (Ok tt) (k + 1) finished at) first buffer (after file (k + 1))
 
--- what the loop holds once `round` has given r and left n', l', s' and the frames h'
-pub record Rounded (file : List ℕ) (k x : ℕ) (threads : List Notes) (counts : List ℕ) (root used shown finished at : ℕ) (first buffer : List ℕ) (end : Notes)
-    (n' : Shapes) (l' : List ℕ) (s' : Stores) (h' : ℕ → Frame) (r : Left) : Type 0 where
-  pub goes : r.what ≡ 0 → (u : Notes) {v : Notes} → ((fs : List Frame) → thread v fs ≡ to_base r.place r.base (thread (seen threads x end) fs))
-      → Next file k n' l' s' (set (set threads (x / 16 % 4) u) (x / 16 % 4) v) (set counts (x / 16 % 4) r.frames) h' r.root r.used r.shown finished at first buffer
-  pub finds : r.what ≡ 1 → {v : Notes} {finished' at' : ℕ} {buffer' : List ℕ} (m : ℕ) → thread v [] ≡ idle → finished' ≡ 1 + finished → m ≡ version file
-      → page buffer' at' ≡ put_all (page buffer at) (found_row m (x / 16 % 4) (seen threads x end) r.set)
-      → Next file k n' l' s' (set threads (x / 16 % 4) v) (set counts (x / 16 % 4) 0) h' r.root r.used r.shown finished' at' first buffer'
-  pub refuses : 1 < r.what
-      → Stands n' l' s' (stop (stop_of file) (get_or counts 4 0)) (threads_of threads counts h') (stand root used shown r.what k finished at) first buffer (after file (k + 1))
-
--- the job that is left, of the thread of record k
-module _ (file : List ℕ) (k x : ℕ) (n : Shapes) (l : List ℕ) (s : Stores) (threads : List Notes) (counts : List ℕ) (h : ℕ → Frame) (root used shown finished at : ℕ)
+-- the thread of record k, of the notes `threads` and the numbers of frames `counts`
+module _ (file : List ℕ) (k x : ℕ) (n : Shapes) (l : List ℕ) (s : Stores) (threads : List Notes) (counts : List ℕ) (h : ℕ → Frame) (count root used shown finished at : ℕ)
     (first buffer : List ℕ) (end : Notes) where
-  pub record Rounding (job : ℕ) : Type 0 where
-    pub some : job ≡ 0 → ⊥
-    pub other : job ≡ 5 → ⊥
-    pub frames : get_or counts (x / 16 % 4) 0 ≤ 4
-    pub wide : job ≤ 4 → (job ≡ 3 → get_or counts (x / 16 % 4) 0 ≡ 0 → ⊥) → Unasked file → ⊥
-    pub more : job ≡ 2 → get_or counts (x / 16 % 4) 0 < 4
-    pub room : job ≤ 4 → (job ≡ 1 → ⊥) → (job ≡ 2 → ⊥) → (job ≡ 3 → ⊥) → (60 ≤ (seen threads x end).place) × Room (seen threads x end).place (frames_of h (x / 16 % 4) (get_or counts (x / 16 % 4) 0))
-    pub on : {n' : Shapes} {l' : List ℕ} {s' : Stores} {h' : ℕ → Frame} {r : Left} → length l' ≡ length l
-        → Rounds job n l s root used shown h (x / 16 % 4) (get_or counts (x / 16 % 4) 0) (seen threads x end) n' l' s' h' r
-        → Rounded file k x threads counts root used shown finished at first buffer end n' l' s' h' r
+  -- what the loop holds once `round` has left this, with n', l', s' and the frames h'
+  module _ (n' : Shapes) (l' : List ℕ) (s' : Stores) (h' : ℕ → Frame) where
+    pub record Going (c : Counts) (p b m : ℕ) : Type 0 where
+      pub on : (u : Notes) {v : Notes} → ((fs : List Frame) → thread v fs ≡ to_base p b (thread (seen threads x end) fs))
+          → Next file k n' l' s' (set (set threads (x / 16 % 4) u) (x / 16 % 4) v) (set counts (x / 16 % 4) m) h' count c.root c.used c.shown finished at first buffer
 
-  pub record Answering (job : ℕ) (answer : Answer) : Type 0 where
-    pub five : job ≡ 5
+    pub record Finding (c : Counts) (d : ℕ) : Type 0 where
+      pub on : {v : Notes} {finished' at' : ℕ} {buffer' : List ℕ} (m : ℕ) → thread v [] ≡ idle → finished' ≡ 1 + finished → m ≡ version file
+          → page buffer' at' ≡ put_all (page buffer at) (found_row m (x / 16 % 4) (seen threads x end) d)
+          → Next file k n' l' s' (set threads (x / 16 % 4) v) (set counts (x / 16 % 4) 0) h' count c.root c.used c.shown finished' at' first buffer'
+
+    abbrev pub Rounded : Left → Type 0
+    Rounded (Goes c p b m) = Going c p b m
+    Rounded (Found c d) = Finding c d
+    Rounded (Refused f) = Stands n' l' s' (stop (stop_of file) count) (threads_of threads counts h') (stand root used shown (Err f) k finished at) first buffer (after file (k + 1))
+
+  -- what `round` relies on, and what it leads to
+  pub record Rounding (task : Task) : Type 0 where
+    pub frames : get_or counts (x / 16 % 4) 0 ≤ 4
+    pub wide : (Bare task (get_or counts (x / 16 % 4) 0) → ⊥) → Unasked file → ⊥
+    pub more : task ≡ Help → get_or counts (x / 16 % 4) 0 < 4
+    pub room : task ≡ Step → (60 ≤ (seen threads x end).place) × Room (seen threads x end).place (frames_of h (x / 16 % 4) (get_or counts (x / 16 % 4) 0))
+    pub on : (n' : Shapes) (l' : List ℕ) (s' : Stores) (h' : ℕ → Frame) (r : Left) → length l' ≡ length l
+        → Rounds task n l s root used shown h (x / 16 % 4) (get_or counts (x / 16 % 4) 0) (seen threads x end) n' l' s' h' r
+        → Rounded n' l' s' h' r
+
+  pub record Answering (answer : Answer) : Type 0 where
     pub on : {v : Notes} {finished' at' : ℕ} {buffer' : List ℕ} (m : ℕ) → thread v [] ≡ idle → finished' ≡ 1 + finished → m ≡ version file → ((version file ≡ 1 → ⊥) → length l ≡ 16384)
         → page buffer' at' ≡ put_all (page buffer at) (row_of m (x / 16 % 4) (seen threads x end) answer (depth_by answer (rows l) (seen threads x end).station))
-        → Next file k n l s (set threads (x / 16 % 4) v) (set counts (x / 16 % 4) 0) h root used shown finished' at' first buffer'
+        → Next file k n l s (set threads (x / 16 % 4) v) (set counts (x / 16 % 4) 0) h count root used shown finished' at' first buffer'
 
-  pub record Done (job : ℕ) : Type 0 where
-    pub none : job ≡ 0
-    pub next : Next file k n l s threads counts h root used shown finished at first buffer
+  -- the job that is left
+  abbrev pub Stage : Job → Type 0
+  Stage Job.Nothing = Next file k n l s threads counts h count root used shown finished at first buffer
+  Stage (Job.Row a) = Answering a
+  Stage (Job.Task r) = Rounding r
 
   -- what is left; the tables keep their lengths, the depths that of l₀
-  pub record Staged (l₀ : List ℕ) (job : ℕ) (answer : Answer) : Type 0 where
+  pub record Staged (l₀ : List ℕ) (job : Job) : Type 0 where
     pub four : length threads ≡ 4
-    pub each : length counts ≡ 5
+    pub each : length counts ≡ 4
     pub same : length l ≡ length l₀
-    pub stage : Done job ⊎ (Answering job answer ⊎ Rounding job)
-
--- by the job that is left
-module _ {file : List ℕ} {k x : ℕ} {n : Shapes} {l : List ℕ} {s : Stores} {threads : List Notes} {counts : List ℕ} {h : ℕ → Frame} {root used shown finished at : ℕ}
-    {first buffer : List ℕ} {end : Notes} {l₀ : List ℕ} {job : ℕ} {answer : Answer}
-    (g : Staged file k x n l s threads counts h root used shown finished at first buffer end l₀ job answer) where
-  pub is_done_lem : job ≡ 0 → Next file k n l s threads counts h root used shown finished at first buffer
-  is_done_lem z = ⊎_elim (λ d. d.next) (⊎_elim (λ d. absurd (omega (arith, d.five))) (λ d. absurd (d.some z))) g.stage
-
-  pub is_row : job ≡ 5 → Answering file k x n l s threads counts h root used shown finished at first buffer end job answer
-  is_row z = ⊎_elim (λ d. absurd (omega (arith, d.none))) (⊎_elim (λ d. d) (λ d. absurd (d.other z))) g.stage
-
-  pub is_round : (job ≡ 5 → ⊥) → (job ≡ 0 → ⊥) → Rounding file k x n l s threads counts h root used shown finished at first buffer end job
-  is_round u v = ⊎_elim (λ d. absurd (v d.none)) (⊎_elim (λ d. absurd (u d.five)) (λ d. d)) g.stage
-
--- the nodes of equal arrays
-pub tables : {c c' b b' : List ℕ} → c' ≡ c → b' ≡ b → table c' b' ≡ table c b
-tables e f = rw (e, f)
+    pub stage : Stage job
 
 -- the same in other words
 pub restaged : {file : List ℕ} {k x : ℕ} {n n' : Shapes} {l l' : List ℕ} {s : Stores} {threads threads' : List Notes} {counts counts' : List ℕ} {h : ℕ → Frame}
-    {root root' used used' shown finished at : ℕ} {first buffer : List ℕ} {end : Notes} {l₀ : List ℕ} {job job' : ℕ} {answer answer' : Answer}
-    → n' ≡ n → l' ≡ l → threads' ≡ threads → counts' ≡ counts → root' ≡ root → used' ≡ used → job' ≡ job → answer' ≡ answer
-    → Staged file k x n l s threads counts h root used shown finished at first buffer end l₀ job answer
-    → Staged file k x n' l' s threads' counts' h root' used' shown finished at first buffer end l₀ job' answer'
-restaged a b c d e f g i p = rw (a, b, c, d, e, f, g, i) p
+    {count count' root root' used used' shown finished at : ℕ} {first buffer : List ℕ} {end : Notes} {l₀ : List ℕ} {job job' : Job}
+    → n' ≡ n → l' ≡ l → threads' ≡ threads → counts' ≡ counts → count' ≡ count → root' ≡ root → used' ≡ used → job' ≡ job
+    → Staged file k x n l s threads counts h count root used shown finished at first buffer end l₀ job
+    → Staged file k x n' l' s threads' counts' h count' root' used' shown finished at first buffer end l₀ job'
+restaged a b c d i e f g p = rw (a, b, c, d, i, e, f, g) p
 
--- what `round` gives where it only opens frames, or leaves one
-goes_on_lem : {root used shown p b m : ℕ} {r : Left} → r ≡ goes_to root used shown p b m → r.what ≡ 0
-goes_on_lem e = ap (λ (v : Left). v.what) e
-
-module _ {file : List ℕ} {k x y e : ℕ} {n : Shapes} {l : List ℕ} {s : Stores} {threads : List Notes} {counts : List ℕ} {h : ℕ → Frame} {root used shown finished at : ℕ}
-    {first buffer : List ℕ} {a : ℕ} {end : Notes} (q : Asking file k x y e n l s threads counts h root used shown finished at first buffer a end) where
-  -- 4: a step at a place from 60 on
-  pub round_step : a ≡ 0 → 60 ≤ (seen threads x end).place → Rounding file k x n l s threads counts h root used shown finished at first buffer end 4
+module _ {file : List ℕ} {k x y e : ℕ} {n : Shapes} {l : List ℕ} {s : Stores} {threads : List Notes} {counts : List ℕ} {h : ℕ → Frame} {count root used shown finished at : ℕ}
+    {first buffer : List ℕ} {a : Outcome Asked Refusal} {end : Notes} (q : Asking file k x y e n l s threads counts h count root used shown finished at first buffer a end) where
+  -- a step at a place from 60 on
+  pub round_step : a ≡ Ok Asked.Step → 60 ≤ (seen threads x end).place → Rounding file k x n l s threads counts h count root used shown finished at first buffer end Step
   round_step z m = record {
-    some = λ i. omega arith;
-    other = λ i. omega arith;
-    frames = few q (x / 16 % 4) (omega arith);
-    wide = λ _ _. wide_turn q m;
-    more = λ i. absurd (omega arith);
-    room = λ _ _ _ _. (m, stack_fits q m);
-    on = λ same g. record {
-      goes = λ o u f. left_on q z g u same o f;
-      finds = λ o m i j v ro. left_found q z g m same o i j v ro;
-      refuses = left_refused q z g;
-    };
+    frames = few q (x / 16 % 4);
+    wide = λ _. wide_turn q m;
+    more = λ i. let o : ◌≡◌ {A = ℕ} 0 1 = cc in absurd (omega arith);
+    room = λ _. (m, stack_fits q m);
+    on = by;
   }
+    where
+      by : (n' : Shapes) (l' : List ℕ) (s' : Stores) (h' : ℕ → Frame) (r : Left) → length l' ≡ length l
+          → Leaves n l s root used shown h (x / 16 % 4) (get_or counts (x / 16 % 4) 0) (seen threads x end) n' l' s' h' r
+          → Rounded file k x n l s threads counts h count root used shown finished at first buffer end n' l' s' h' r
+      by n' l' s' h' (Goes c p b j) same g = record { on = λ u f. left_on q z g u same refl f }
+      by n' l' s' h' (Found c d) same g = record { on = λ j o i v ro. left_found q z g j same refl o i v ro }
+      by n' l' s' h' (Refused v) same g = left_refused q z g v refl
 
-  -- 5 and more: a refusal with that number, whatever it is refused for; it may have noted what is the same
-  module _ {threads' : List Notes} {counts' : List ℕ} (g : threads' ≡ threads) (c : counts' ≡ counts) (m : ℕ) (o : 5 < m)
-      (i : Stands n l s (stop (stop_of file) (get_or counts 4 0)) (threads_of threads counts h) (stand root used shown m k finished at) first buffer (after file (k + 1))) where
-    stays : (v : ℕ) → 5 < v → {n' : Shapes} {l' : List ℕ} {s' : Stores} {h' : ℕ → Frame} {r : Left} (b : Notes) (d : ℕ) → Rounds v n l s root used shown h (x / 16 % 4) d b n' l' s' h' r
-        → (h' ≡ h) × (Still n l s n' l' s' × (r ≡ refused_with root used shown v))
-    stays zero j b d f = absurd (omega arith)
-    stays (suc zero) j b d f = absurd (omega arith)
-    stays (suc (suc zero)) j b d f = absurd (omega arith)
-    stays (suc (suc (suc zero))) j b d f = absurd (omega arith)
-    stays (suc (suc (suc (suc zero)))) j b d f = absurd (omega arith)
-    stays (suc (suc (suc (suc (suc v))))) j b d f = f
+  -- a refusal, whatever it is for; it may have noted what is the same
+  pub round_refused : {threads' : List Notes} {count' : ℕ} → threads' ≡ threads → count' ≡ count → (v : Refusal)
+      → Stands n l s (stop (stop_of file) count) (threads_of threads counts h) (stand root used shown (Err v) k finished at) first buffer (after file (k + 1))
+      → Rounding file k x n l s threads' counts h count' root used shown finished at first buffer end (Refuse v)
+  round_refused g c v i = rw (g, c)
+      (record {
+        frames = few q (x / 16 % 4);
+        wide = λ j. absurd (j tt);
+        more = λ j. let o : ◌≡◌ {A = ℕ} 0 1 = cc in absurd (omega arith);
+        room = λ j. let o : ◌≡◌ {A = ℕ} 0 1 = cc in absurd (omega arith);
+        on = λ n' l' s' h' r same f. rw (f.1.1, f.0, f.1.0.nodes, f.1.0.depths, f.1.0.stores) i;
+      })
 
-    pub round_refused : Rounding file k x n l s threads' counts' h root used shown finished at first buffer end m
-    round_refused = rw (g, c)
-        (record {
-          some = λ j. omega arith;
-          other = λ j. omega arith;
-          frames = few q (x / 16 % 4) (omega arith);
-          wide = λ j _. absurd (omega arith);
-          more = λ j. absurd (omega arith);
-          room = λ j _ _ _. absurd (omega arith);
-          on = λ {n'} {l'} {s'} {h'} {r} same f.
-              let p : (h' ≡ h) × (Still n l s n' l' s' × (r ≡ refused_with root used shown m)) = stays m o _ _ f in
-              let w : r.what ≡ m = ap (λ (v : Left). v.what) p.1.1 in
-              record {
-                goes = λ j. absurd (omega (arith, w));
-                finds = λ j. absurd (omega (arith, w));
-                refuses = λ _. rw (w, p.0, p.1.0.nodes, p.1.0.depths, p.1.0.stores) i;
-              };
-        })
-
-  -- 1: a query's start
-  module _ {w : Notes} (z : a ≡ 2) (f : thread w [] ≡ starting (x % 16) y e) where
+  -- a query's start
+  module _ {w : Notes} (z : a ≡ Ok (Asked.Start Query)) (f : thread w [] ≡ begun Query y e 60) where
     begins : get_or (set threads (x / 16 % 4) w) (x / 16 % 4) end ≡ w
     begins = get_or-set_same threads (x / 16 % 4) w end (omega (arith, q.four))
 
@@ -178,98 +155,73 @@ module _ {file : List ℕ} {k x y e : ℕ} {n : Shapes} {l : List ℕ} {s : Stor
     bare = get_or-set_same counts (x / 16 % 4) 0 0 (omega (arith, q.each))
 
     station : w.station ≡ y
-    unfolding starting ite
-    station = ap (λ (t : Thread). t.station) f ∙ rw (eq-eqb (x % 16) 6 (queries q z))
+    station = ap (λ (t : Thread). t.station) f
 
     extra : w.extra ≡ e
-    unfolding starting ite
-    extra = ap (λ (t : Thread). t.extra) f ∙ rw (eq-eqb (x % 16) 6 (queries q z))
+    extra = ap (λ (t : Thread). t.extra) f
 
-    pub round_start : Rounding file k x n l s (set threads (x / 16 % 4) w) (set counts (x / 16 % 4) 0) h root used shown finished at first buffer end 1
+    pub round_start : Rounding file k x n l s (set threads (x / 16 % 4) w) (set counts (x / 16 % 4) 0) h count root used shown finished at first buffer end Start
     round_start = record {
-      some = λ i. omega arith;
-      other = λ i. omega arith;
       frames = omega (arith, bare);
-      wide = λ _ _. wide_start q z;
-      more = λ i. absurd (omega arith);
-      room = λ _ i _ _. absurd (i refl);
-      on = λ {n'} {l'} {s'} {h'} {r} same g.
+      wide = λ _. wide_start q z;
+      more = λ i. let o : ◌≡◌ {A = ℕ} 0 1 = cc in absurd (omega arith);
+      room = λ i. let o : ◌≡◌ {A = ℕ} 0 1 = cc in absurd (omega arith);
+      on = λ n' l' s' h' r same g.
           let to : r ≡ goes_to root used shown w.place w.base 1 = rw begins at g.1.1 in
           let opens : Opens h h' (x / 16 % 4) 0 _ = rw (begins, station, extra) at g.0 in
-          record {
-            goes = λ _ u {v} i. rw (to, g.1.0.nodes, g.1.0.depths, g.1.0.stores, set-set, set-set, set-set)
-                (asking_on q z (rw (begins, to) at (i []) ∙ f) opens);
-            finds = λ i. absurd (omega (arith, goes_on_lem to));
-            refuses = λ i. absurd (omega (arith, goes_on_lem to));
-          };
+          rw to (record { on = λ u {v} i. rw (g.1.0.nodes, g.1.0.depths, g.1.0.stores, set-set, set-set, set-set) (asking_on q z (rw begins at (i []) ∙ f) opens) });
     }
 
   -- a step below 60 that has decided d
-  module _ (z : a ≡ 0) {r : ℕ} (d : Decision) (low : (seen threads x end).place < 60) (i : Decided (sight n root used s shown (stop (stop_of file) (get_or counts 4 0))) (seen threads x end) r d)
-      {n' : Shapes} (l' : List ℕ) {root' used' : ℕ} {threads' : List Notes} {counts' : List ℕ} (w : Applied n root used s shown (written d.writes d.effect) n' root' s)
-      (g : length l' ≡ 16384 → rows l' ≡ deepened (written d.writes d.effect) n q.stands.deep) (u : used' ≡ used_after used (written d.writes d.effect))
-      (b : Rereads (x / 16 % 4) r end threads threads') (c : Recounts (seen threads x end).place counts counts') where
-    few_still : get_or counts' (x / 16 % 4) 0 ≡ get_or counts (x / 16 % 4) 0
-    few_still = c.each (x / 16 % 4) (omega arith)
+  module _ (z : a ≡ Ok Asked.Step) {r : ℕ} (d : Decision) (low : (seen threads x end).place < 60) (i : Decided (sight n root used s shown (stop (stop_of file) count)) (seen threads x end) r d)
+      {n' : Shapes} (l' : List ℕ) {root' used' : ℕ} {threads' : List Notes} {count' : ℕ} (w : Applied n root used s shown (written d) n' root' s)
+      (g : length l' ≡ 16384 → rows l' ≡ deepened (written d) n q.stands.deep) (u : used' ≡ used_after used (written d))
+      (b : Rereads (x / 16 % 4) r end threads threads') (c : count' ≡ recounted (seen threads x end).place count) where
+    -- nothing is left once it has noted v, but for frames that stay
+    pub noted_done : {v : Notes} {e₁ : Write} {p : ℕ} {m : Note} → d ≡ Decision.Goes e₁ p m → Noted (seen threads' x end) v m p → (m ≡ Note.Opened → ⊥)
+        → Next file k n' l' s (set threads' (x / 16 % 4) v) counts h count' root' used' shown finished at first buffer
+    noted_done {m = n} o f m = noted_on q z d low i l' w g u b c o f (unopened_still n _ _ m)
 
-    few_then : get_or counts' (x / 16 % 4) 0 ≤ 4
-    few_then = omega (arith, few_still, few q (x / 16 % 4) (omega arith))
+    -- with an answer
+    pub answer_row : {e₁ : Write} {a₁ : Answer} → d ≡ Decision.Answers e₁ a₁ → Answering file k x n' l' s threads' counts h count' root' used' shown finished at first buffer end a₁
+    answer_row o = record { on = λ m f j v len ro. said_on q z d low i l' w g u b c m o f j v len ro }
 
-    -- 0: nothing is left once it has noted v, but for frames that stay
-    pub noted_done : {v : Notes} → d.what ≡ 0 → Noted (seen threads' x end) v d.note d.place d.value → (d.note ≡ Opened → ⊥)
-        → Done file k x n' l' s (set threads' (x / 16 % 4) v) counts' h root' used' shown finished at first buffer end 0
-    noted_done o f m = record { none = refl; next = noted_on q z d low i l' w g u b c o f (unopened_still d.note _ _ m) }
-
-    -- 5: with an answer
-    pub answer_row : d.what ≡ 1 → Answering file k x n' l' s threads' counts' h root' used' shown finished at first buffer end 5 d.answer
-    answer_row o = record { five = refl; on = λ m f j v len ro. said_on q z d low i l' w g u b c m o f j v len ro }
-
-    -- 3: back
-    pub round_back : 2 < d.what → Rounding file k x n' l' s threads' counts' h root' used' shown finished at first buffer end 3
+    -- back
+    pub round_back : {e₁ : Write} → d ≡ Decision.Back e₁ → Rounding file k x n' l' s threads' counts h count' root' used' shown finished at first buffer end Back
     round_back o = record {
-      some = λ i. omega arith;
-      other = λ i. omega arith;
-      frames = few_then;
-      wide = λ _ f. wide_back q (λ j. f refl (few_still ∙ j));
-      more = λ f. absurd (omega arith);
-      room = λ _ _ _ f. absurd (f refl);
-      on = λ {n' = n''} {l' = l''} {s' = s''} {h'} {r = p} same f.
-          let to : p ≡ goes_to root' used' shown p.place (seen threads' x end).base (get_or counts' (x / 16 % 4) 0) = f.1.1 in
-          record {
-            goes = λ _ _ {v = t} j. rw (to, f.1.0.nodes, f.1.0.depths, f.1.0.stores, set_own counts' (x / 16 % 4), set-set)
-                (back_on q z d low i l' w g u b c o (record { after = λ _ fs. rw to at (j fs) }) f.0);
-            finds = λ j. absurd (omega (arith, goes_on_lem to));
-            refuses = λ j. absurd (omega (arith, goes_on_lem to));
-          };
+      frames = few q (x / 16 % 4);
+      wide = wide_back q;
+      more = λ f. let v : ◌≡◌ {A = ℕ} 0 1 = cc in absurd (omega arith);
+      room = λ f. let v : ◌≡◌ {A = ℕ} 0 1 = cc in absurd (omega arith);
+      on = λ n'' l'' s'' h' p same f. rw f.1.goes (record {
+        on = λ _ {v = t} j. rw (f.0.nodes, f.0.depths, f.0.stores, set_own counts (x / 16 % 4), set-set)
+            (back_on q z d low i l' w g u b c o (record { after = λ _ fs. j fs }) f.1.backs);
+      });
     }
 
-    -- 2: a new frame, once its place is noted
-    pub round_open : d.what ≡ 0 → d.note ≡ Opened
-        → Rounding file k x n' l' s (set threads' (x / 16 % 4) (placed d.place (seen threads' x end))) counts' h root' used' shown finished at first buffer end 2
-    round_open o m =
+    -- a new frame, once its place is noted
+    pub round_open : {e₁ : Write} {p₁ : ℕ} → d ≡ Decision.Goes e₁ p₁ Note.Opened
+        → Rounding file k x n' l' s (set threads' (x / 16 % 4) (placed p₁ (seen threads' x end))) counts h count' root' used' shown finished at first buffer end Help
+    round_open {p₁ = p₁} o =
         let t : ℕ = x / 16 % 4 in
-        let put : Notes = placed d.place (seen threads' x end) in
+        let put : Notes = placed p₁ (seen threads' x end) in
         let there : get_or (set threads' t put) t end ≡ put = get_or-set_same threads' t put end (omega (arith, b.size, q.four)) in
         record {
-          some = λ i. omega arith;
-          other = λ i. omega arith;
-          frames = few_then;
-          wide = λ _ _. wide_open q z d low i o m;
-          more = λ _. omega (arith, few_still, opens_few q z d low i o m);
-          room = λ _ _ f _. absurd (f refl);
-          on = λ {n' = n''} {l' = l''} {s' = s''} {h'} {r = p} same f.
-              let to : p ≡ goes_to root' used' shown d.place (seen threads' x end).base (get_or counts' t 0 + 1) = rw there at f.1.1 in
-              record {
-                goes = λ _ _ {v = j} e. rw (to, f.1.0.nodes, f.1.0.depths, f.1.0.stores, set-set, set-set)
-                    (opened_on q z d low i l' w g u b c o m (record { after = λ fr fs. rw m (rw (there, to) at (e (fr ∷ fs))) }) (rw there at f.0));
-                finds = λ j. absurd (omega (arith, goes_on_lem to));
-                refuses = λ j. absurd (omega (arith, goes_on_lem to));
-              };
+          frames = few q t;
+          wide = λ _. wide_open q z d low i o;
+          more = λ _. opens_few q z d low i o;
+          room = λ f. let v : ◌≡◌ {A = ℕ} 0 1 = cc in absurd (omega arith);
+          on = λ n'' l'' s'' h' p same f.
+              let to : p ≡ goes_to root' used' shown p₁ (seen threads' x end).base (get_or counts t 0 + 1) = rw there at f.1.1 in
+              rw to (record {
+                on = λ _ {v = j} e. rw (f.1.0.nodes, f.1.0.depths, f.1.0.stores, set-set, set-set)
+                    (opened_on q z d low i l' w g u b c o (record { after = λ fr fs. rw there at (e (fr ∷ fs)) }) (rw there at f.0));
+              });
         }
 
   -- 1 and 2, which have decided d and write nothing
-  module _ (z : a ≡ 0) (d : Decision) {threads' : List Notes} (on : Bool) (low : (seen threads x end).place < 3)
-      (i : Begun (sight n root used s shown (stop (stop_of file) (get_or counts 4 0))) (x / 16 % 4) end threads threads' d)
+  module _ (z : a ≡ Ok Asked.Step) (d : Decision) {threads' : List Notes} (on : Bool) (low : (seen threads x end).place < 3)
+      (i : Begun (sight n root used s shown (stop (stop_of file) count)) (x / 16 % 4) end threads threads' d)
       (j : Decides (seen threads' x end) d (finding (seen threads' x end).place on n root)) where
     found : Sought d
     found =
@@ -278,26 +230,30 @@ module _ {file : List ℕ} {k x y e : ℕ} {n : Shapes} {l : List ℕ} {s : Stor
         let same : (seen threads' x end).action ≡ (seen threads x end).action = ap (λ (v : Notes). v.action) own in
         sought_find on n root (omega (arith, at, awake q z)) (omega (arith, at, low)) (λ w. searching q z (omega arith) (λ v. omega arith) (sym same ∙ w)) j
 
-    nodes_still : Applied n root used s shown (written d.writes d.effect) n root s
+    nodes_still : Applied n root used s shown (written d) n root s
     nodes_still = rw found.silent (record { stored = λ _ _. refl })
 
-    depths_still : length l ≡ 16384 → rows l ≡ deepened (written d.writes d.effect) n q.stands.deep
+    depths_still : length l ≡ 16384 → rows l ≡ deepened (written d) n q.stands.deep
     depths_still m = rw found.silent (q.stands.depths m)
 
-    used_still : used ≡ used_after used (written d.writes d.effect)
+    used_still : used ≡ used_after used (written d)
     used_still = rw found.silent
 
-    counts_still : Recounts (seen threads x end).place counts counts
-    counts_still = recount_none _ _ (λ m. omega arith) (λ m. omega arith)
+    count_still : count ≡ recounted (seen threads x end).place count
+    count_still = count_other (seen threads x end).place count (λ m. omega arith) (λ m. omega arith)
 
-    pub found_done : {v : Notes} → d.what ≡ 0 → Noted (seen threads' x end) v d.note d.place d.value
-        → Done file k x n l s (set threads' (x / 16 % 4) v) counts h root used shown finished at first buffer end 0
-    found_done o m = noted_done z d (omega arith) i.decided l nodes_still depths_still used_still i.rereads counts_still o m (found.same o)
+    pub found_done : {v : Notes} {e₁ : Write} {p : ℕ} {m : Note} → d ≡ Decision.Goes e₁ p m → Noted (seen threads' x end) v m p
+        → Next file k n l s (set threads' (x / 16 % 4) v) counts h count root used shown finished at first buffer
+    found_done o m = noted_done z d (omega arith) i.decided l nodes_still depths_still used_still i.rereads count_still o m (subst Seeks o found.ways)
 
     -- in two stores
-    pub found_twice : (u : Notes) {v : Notes} → d.what ≡ 0 → Noted (seen threads' x end) v d.note d.place d.value
-        → Done file k x n l s (set (set threads' (x / 16 % 4) u) (x / 16 % 4) v) counts h root used shown finished at first buffer end 0
+    pub found_twice : (u : Notes) {v : Notes} {e₁ : Write} {p : ℕ} {m : Note} → d ≡ Decision.Goes e₁ p m → Noted (seen threads' x end) v m p
+        → Next file k n l s (set (set threads' (x / 16 % 4) u) (x / 16 % 4) v) counts h count root used shown finished at first buffer
     found_twice u o m = rw set-set (found_done o m)
 
-    pub found_row_lem : (d.what ≡ 0 → ⊥) → Answering file k x n l s threads' counts h root used shown finished at first buffer end 5 d.answer
-    found_row_lem o = answer_row z d (omega arith) i.decided l nodes_still depths_still used_still i.rereads counts_still (⊎_elim (λ m. absurd (o m)) (λ m. m) found.ways)
+    pub found_row_lem : {e₁ : Write} {a₁ : Answer} → d ≡ Decision.Answers e₁ a₁ → Answering file k x n l s threads' counts h count root used shown finished at first buffer end a₁
+    found_row_lem o = answer_row z d (omega arith) i.decided l nodes_still depths_still used_still i.rereads count_still o
+
+    -- it does one or the other
+    pub found_some : Seeks d
+    found_some = found.ways

@@ -1,10 +1,10 @@
 -- What a step at a place from 60 on writes, what it leaves, what else changes frames, and the row of a query.
-use Rattle.std.specs.Prelude.{ℕ, zero, suc, ◌+◌, ◌%◌, ◌≤◌, ◌<◌, ◌≡◌, not, List, [], ◌∷◌, eqb, length}
+use Rattle.std.specs.Prelude.{ℕ, ◌+◌, ◌%◌, ◌≤◌, ◌<◌, ◌≡◌, not, List, [], ◌∷◌, eqb, length, Some, None, Option}
 use Rattle.container.specs.Choice.{upd}
 use Rattle.depths.specs.Rows.{Rows, rows, full}
 use Rattle.effects.specs.Used.{used_after, shown_after, deepened}
 use Rattle.machine.specs.Enacted.{Enacted}
-use Rattle.frames.specs.View.{frames_of}
+use Rattle.frames.specs.View.{held, frames_of}
 use Rattle.frames.specs.Turns.{Backs}
 use Rattle.frames.specs.Outcomes.{Opens, Room}
 use Rattle.definitions.specs.Nodes.{Shapes, Stores}
@@ -14,18 +14,21 @@ use Rattle.definitions.specs.Answers.{said, answer_number}
 use Rattle.definitions.specs.Places.{place_of, to_base}
 use Rattle.definitions.specs.Steps.{step}
 use Rattle.definitions.specs.Records.{no_row, row, Result, refused, carried, taken}
+use Rattle.definitions.specs.Refusal.{refusal_number}
 use Rattle.definitions.specs.Run.{row_bytes}
-use Rattle.definitions.specs.declared.Link.TheVariants.{Nil, To}
 use Rattle.definitions.specs.declared.Node.{Node}
 use Rattle.definitions.specs.declared.Stop.{Stop}
 use Rattle.definitions.specs.declared.Effect.{Effect}
 use Rattle.definitions.specs.declared.Effect.TheVariants.{Quiet, Mark, Settle, Invalid, Swing, Raise, Lower, Base, Fork, Commit, Ask, Fill}
 use Rattle.steps.specs.declared.Notes.{Notes}
 use Rattle.steps.specs.Decision.{thread}
-use Rattle.run.specs.Threads.{held_in}
 use Rattle.run.specs.Standing.{Sizes}
 use Rattle.run.specs.declared.query.Counts.{Counts}
 use Rattle.run.specs.declared.query.Left.{Left}
+use Rattle.run.specs.declared.query.Left.TheVariants.{Goes, Found, Refused}
+use Rattle.run.specs.declared.query.Task.{Task}
+use Rattle.run.specs.declared.query.Task.TheVariants.{Start, Help, Back, Step, Refuse}
+use Rattle.frames.specs.declared.frame.Frame.{Frame as Kept}
 
 -- ---- what is written
 
@@ -58,47 +61,53 @@ pub record Wrote (t : Shapes) (l : List ℕ) (k : Stores) (o u j : ℕ) (e : Eff
 
 -- that which helps the range base b
 abbrev pub helping : Node → Frame
-helping b = new_frame b.lower b.upper (To b.store)
+helping b = new_frame b.lower b.upper (Some b.store)
 
 -- ---- a step
 
--- by `what`: the thread goes on, as in b; it has found the set c, as in b'; it is refused
-abbrev pub result_of : ℕ → Bench → Bench → ℕ → Result
-result_of zero b b' c = carried b no_row
-result_of (suc zero) b b' c = carried b' (row (said (not (eqb c 0))) 0 c)
-result_of (suc (suc m)) b b' c = refused (suc (suc m))
+-- the bench b once thread i, with the notes th, has left r: the nodes t with the depths d, the stores k, the stop z; h holds the frames
+abbrev pub left_of : Shapes → Rows → Stores → Stop → (ℕ → Frame) → Bench → ℕ → Notes → Left → Result
+left_of t d k z h b i th (Goes c p x n) = carried (bench (store (full t d) c.root c.used k c.shown z) (upd b.threads i (to_base p x (thread th (frames_of h i n))))) no_row
+left_of t d k z h b i th (Found c s) = carried (bench (store (full t d) c.root c.used k c.shown z) (upd b.threads i idle)) (row (said (not (eqb s 0))) 0 s)
+left_of t d k z h b i th (Refused f) = refused (refusal_number f)
+
+abbrev pub IsRefused : Left → Type 0
+IsRefused (Goes c p x n) = ⊥
+IsRefused (Found c s) = ⊥
+IsRefused (Refused f) = Unit {0}
 
 -- thread i has the notes th and n frames, which h holds. Its step, whatever the depths and the stop, takes the nodes t, the stores k and their counts to t', k'
 -- and the counts in r, and the thread to what r has and h' holds; the frames of the others stay. A refused step leaves nodes, depths, stores and frames
 pub record Leaves (t : Shapes) (l : List ℕ) (k : Stores) (o u j : ℕ) (h : ℕ → Frame) (i n : ℕ) (th : Notes) (t' : Shapes) (l' : List ℕ) (k' : Stores) (h' : ℕ → Frame) (r : Left) : Type 0 where
   pub effect : Effect
   pub turn : (b : Bench) (d : Rows) (z : Stop) → b.store ≡ store (full t d) o u k j z → b.threads i ≡ thread th (frames_of h i n)
-      → taken b i (step (place_of (b.threads i).place) (sight_of b.store) (b.threads i)) ≡ result_of r.what
-      (bench (store (full t' (deepened effect t d)) r.root r.used k' r.shown z) (upd b.threads i (to_base r.place r.base (thread th (frames_of h' i r.frames)))))
-      (bench (store (full t' (deepened effect t d)) r.root r.used k' r.shown z) (upd b.threads i idle))
-      r.set
+      → taken b i (step (place_of (b.threads i).place) (sight_of b.store) (b.threads i)) ≡ left_of t' (deepened effect t d) k' z h' b i th r
   pub depths : length l ≡ 16384 → rows l' ≡ deepened effect t (rows l)
   pub others : (v m : ℕ) → m ≤ 4 → (v ≡ i → ⊥) → frames_of h' v m ≡ frames_of h v m
-  pub same : 1 < r.what → (t' ≡ t) × ((l' ≡ l) × ((k' ≡ k) × (h' ≡ h)))
+  pub same : IsRefused r → (t' ≡ t) × ((l' ≡ l) × ((k' ≡ k) × (h' ≡ h)))
 
 -- ---- what has to do with frames
 
--- a thread goes on at the place p, with the base b and n frames
+-- a thread goes on at the place p, with the base b and n frames; the root and the counts are o, u and j
 abbrev pub goes_to : ℕ → ℕ → ℕ → ℕ → ℕ → ℕ → Left
-goes_to o u j p b n = record { what = 0; root = o; used = u; shown = j; place = p; base = b; frames = n; set = 0 }
+goes_to o u j p b n = Goes (record { root = o; used = u; shown = j }) p b n
 
--- a record is refused with the number v
-abbrev pub refused_with : ℕ → ℕ → ℕ → ℕ → Left
-refused_with o u j v = record { what = v; root = o; used = u; shown = j; place = 0; base = 0; frames = 0; set = 0 }
+-- a refusal, and the way back without frames, need none of the memory
+abbrev pub Bare : Task → ℕ → Type 0
+Bare Start n = ⊥
+Bare Help n = ⊥
+Bare Back n = n ≡ 0
+Bare Step n = ⊥
+Bare (Refuse f) n = Unit {0}
 
--- what job v relies on, of thread i with the notes th and n frames: the memory, but for a refusal and the way back without frames; room for one more
--- frame; at a place from 60 on room on its stack
-pub record Due (v i n : ℕ) (th : Notes) (results : List ℕ) (stacks backups notes words : List (List ℕ)) : Type 0 where
+-- what v relies on, of thread i with the notes th and n frames: the memory; for a new frame to help in, room for it; for a step, a place from 60 on
+-- and room on its stack
+pub record Due (v : Task) (i n : ℕ) (th : Notes) (results : List (Option ℕ)) (lent : List Kept) : Type 0 where
   pub thread : i < 4
   pub frames : n ≤ 4
-  pub memory : v ≤ 4 → (v ≡ 3 → n ≡ 0 → ⊥) → Sizes 256 1 results stacks backups notes words
-  pub more : v ≡ 2 → n < 4
-  pub room : v ≤ 4 → (v ≡ 1 → ⊥) → (v ≡ 2 → ⊥) → (v ≡ 3 → ⊥) → (60 ≤ th.place) × Room th.place (frames_of (held_in stacks backups notes words) i n)
+  pub memory : (Bare v n → ⊥) → Sizes 256 16 results lent
+  pub more : v ≡ Help → n < 4
+  pub room : v ≡ Step → (60 ≤ th.place) × Room th.place (frames_of (held lent) i n)
 
 -- nodes, depths and stores stay
 pub record Still (t : Shapes) (l : List ℕ) (k : Stores) (t' : Shapes) (l' : List ℕ) (k' : Stores) : Type 0 where
@@ -106,14 +115,19 @@ pub record Still (t : Shapes) (l : List ℕ) (k : Stores) (t' : Shapes) (l' : Li
   pub depths : l' ≡ l
   pub stores : k' ≡ k
 
--- job v: 1, a query's own frame; 2, one for the range base that is helped; 3, the way back; 5 and more, a refusal; else a step
-abbrev pub Rounds : ℕ → Shapes → List ℕ → Stores → ℕ → ℕ → ℕ → (ℕ → Frame) → ℕ → ℕ → Notes → Shapes → List ℕ → Stores → (ℕ → Frame) → Left → Type 0
-Rounds zero t l k o u j h i n th t' l' k' h' r = Leaves t l k o u j h i n th t' l' k' h' r
-Rounds (suc zero) t l k o u j h i n th t' l' k' h' r = Opens h h' i 0 (new_frame th.station (th.extra % 256) Nil) × (Still t l k t' l' k' × (r ≡ goes_to o u j th.place th.base 1))
-Rounds (suc (suc zero)) t l k o u j h i n th t' l' k' h' r = Opens h h' i n (helping (t th.base)) × (Still t l k t' l' k' × (r ≡ goes_to o u j th.place th.base (n + 1)))
-Rounds (suc (suc (suc zero))) t l k o u j h i n th t' l' k' h' r = Backs h h' i n r.place × (Still t l k t' l' k' × (r ≡ goes_to o u j r.place th.base n))
-Rounds (suc (suc (suc (suc zero)))) t l k o u j h i n th t' l' k' h' r = Leaves t l k o u j h i n th t' l' k' h' r
-Rounds (suc (suc (suc (suc (suc v))))) t l k o u j h i n th t' l' k' h' r = (h' ≡ h) × (Still t l k t' l' k' × (r ≡ refused_with o u j (suc (suc (suc (suc (suc v)))))))
+-- the way back of thread i with n frames, to a place; o, u, j and the base b stay
+pub record Backing (o u j : ℕ) (h h' : ℕ → Frame) (i n b : ℕ) (r : Left) : Type 0 where
+  pub place : ℕ
+  pub backs : Backs h h' i n place
+  pub goes : r ≡ goes_to o u j place b n
+
+-- what is done and left: a query's own frame; one for the range base that is helped; the way back; a step; a refusal
+abbrev pub Rounds : Task → Shapes → List ℕ → Stores → ℕ → ℕ → ℕ → (ℕ → Frame) → ℕ → ℕ → Notes → Shapes → List ℕ → Stores → (ℕ → Frame) → Left → Type 0
+Rounds Start t l k o u j h i n th t' l' k' h' r = Opens h h' i 0 (new_frame th.station (th.extra % 256) None) × (Still t l k t' l' k' × (r ≡ goes_to o u j th.place th.base 1))
+Rounds Help t l k o u j h i n th t' l' k' h' r = Opens h h' i n (helping (t th.base)) × (Still t l k t' l' k' × (r ≡ goes_to o u j th.place th.base (n + 1)))
+Rounds Back t l k o u j h i n th t' l' k' h' r = Still t l k t' l' k' × Backing o u j h h' i n th.base r
+Rounds Step t l k o u j h i n th t' l' k' h' r = Leaves t l k o u j h i n th t' l' k' h' r
+Rounds (Refuse f) t l k o u j h i n th t' l' k' h' r = (h' ≡ h) × (Still t l k t' l' k' × (r ≡ Refused f))
 
 -- ---- its row
 

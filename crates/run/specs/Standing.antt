@@ -1,6 +1,7 @@
 -- How the code holds a run in progress: the bench by its node table, its root, the numbers used, its stores, its stop and its threads, the depths
 -- where they are lent; the rows in a page of the lent buffer.
-use Rattle.std.specs.Prelude.{ℕ, ◌≡◌, ◌⊎◌, List, [], ◌∷◌, length, get_or}
+use Rattle.frames.specs.View.{held}
+use Rattle.std.specs.Prelude.{ℕ, ◌≡◌, ◌⊎◌, ◌≤◌, List, [], ◌∷◌, length, Option}
 use Rattle.answers.specs.Reachable.{Unasked}
 use Rattle.buffer.specs.Page.{page, put_all}
 use Rattle.depths.specs.Rows.{Rows, rows, full}
@@ -9,14 +10,16 @@ use Rattle.definitions.specs.Threads.{Thread}
 use Rattle.definitions.specs.Bench.{stop, Bench, bench, store}
 use Rattle.definitions.specs.Answers.{shown}
 use Rattle.definitions.specs.Records.{row}
+use Rattle.definitions.specs.Refusal.{code_of}
 use Rattle.definitions.specs.Versions.{version, stop_of}
 use Rattle.definitions.specs.Run.{Progress, row_bytes, after}
 use Rattle.definitions.specs.declared.Answer.{Answer}
 use Rattle.definitions.specs.declared.Stop.{Stop}
 use Rattle.steps.specs.declared.Notes.{Notes}
 use Rattle.steps.specs.Decision.{thread}
-use Rattle.run.specs.Threads.{threads_of, held_in}
+use Rattle.run.specs.Threads.{threads_of}
 use Rattle.run.specs.declared.Standing.{Standing}
+use Rattle.frames.specs.declared.frame.Frame.{Frame as Kept}
 
 -- the depths that the run of a file is lent, 0 at first: none in version 1, else all of them
 pub record Lent (file l : List ℕ) : Type 0 where
@@ -24,18 +27,23 @@ pub record Lent (file l : List ℕ) : Type 0 where
   pub none : version file ≡ 1 → length l ≡ 0
   pub whole : (version file ≡ 1 → ⊥) → length l ≡ 16384
 
--- n results, and as many arrays of each kind as j
-pub record Sizes (n j : ℕ) (r : List ℕ) (s b m w : List (List ℕ)) : Type 0 where
+-- n results, and j frames
+pub record Sizes (n j : ℕ) (r : List (Option ℕ)) (f : List Kept) : Type 0 where
   pub results : length r ≡ n
-  pub stacks : length s ≡ j
-  pub backups : length b ≡ j
-  pub notes : length m ≡ j
-  pub words : length w ≡ j
+  pub frames : length f ≡ j
 
--- the memory for queries that it is lent: the stores' results, and the arrays that hold frames, each alone in a list. A file that asks for no query
+-- the memory for queries that it is lent: the stores' results and the frames. A file that asks for no query
 -- needs none
-abbrev pub Spare : List ℕ → List ℕ → List (List ℕ) → List (List ℕ) → List (List ℕ) → List (List ℕ) → Type 0
-Spare file results stacks backups notes words = Unasked file ⊎ Sizes 256 1 results stacks backups notes words
+abbrev pub Spare : List ℕ → List (Option ℕ) → List Kept → Type 0
+Spare file results lent = Unasked file ⊎ Sizes 256 16 results lent
+
+-- the same by numbers: d depths, r results and n frames
+pub record Enough (file : List ℕ) (d r n : ℕ) : Type 0 where
+  pub none : version file ≡ 1 → d ≡ 0
+  pub whole : (version file ≡ 1 → ⊥) → d ≡ 16384
+  pub spare : Unasked file ⊎ ((r ≡ 256) × (n ≡ 16))
+  pub results : r ≤ 256
+  pub frames : n ≤ 16
 
 -- ---- a row
 
@@ -51,7 +59,7 @@ pub record Stands (t : Shapes) (l : List ℕ) (k : Stores) (z : Stop) (threads :
   pub deep : Rows
   pub bench : bench (store (full t deep) s.root s.used k s.shown z) threads ≡ p.bench
   pub depths : length l ≡ 16384 → rows l ≡ deep
-  pub refusal : s.refusal ≡ p.refusal
+  pub refusal : code_of s.refusal ≡ p.refusal
   pub done : s.done ≡ p.done
   pub finished : s.finished ≡ p.finished
   pub rows : page buffer s.at ≡ put_all (page blank 0) p.rows
@@ -60,7 +68,7 @@ pub record Stands (t : Shapes) (l : List ℕ) (k : Stores) (z : Stop) (threads :
 abbrev pub Carried : List ℕ → ℕ → Shapes → List ℕ → Stores → Standing → List ℕ → List ℕ → Type 0
 Carried file n t l k s blank buffer = Stands t l k (after file n).bench.store.stop (after file n).bench.threads s blank buffer (after file n)
 
--- the threads that s hands out, with the frames that the lent arrays hold, and the count of the stop are those of the bench b
-pub record Handed (file : List ℕ) (b : Bench) (s : Standing) (stacks backups notes words : List (List ℕ)) : Type 0 where
-  pub threads : threads_of s.threads s.frames (held_in stacks backups notes words) ≡ b.threads
-  pub stop : stop (stop_of file) (get_or s.frames 4 0) ≡ b.store.stop
+-- the threads that s hands out, with the frames that are lent, and the count of the stop are those of the bench b
+pub record Handed (file : List ℕ) (b : Bench) (s : Standing) (lent : List Kept) : Type 0 where
+  pub threads : threads_of s.threads s.frames (held lent) ≡ b.threads
+  pub stop : stop (stop_of file) s.count ≡ b.store.stop

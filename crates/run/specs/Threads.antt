@@ -1,9 +1,7 @@
--- How the code holds the thread table: notes in one array, numbers of frames in another, whose last element is the count of the stop, and the
--- frames that lie apart in the lent arrays.
-use Rattle.std.specs.Prelude.{ℕ, ◌+◌, ◌-◌, true, false, cond, List, [], eqb, ltb, get_or}
-use Rattle.frames.specs.View.{held, frames_of}
+-- How the code holds the thread table: notes in one array, numbers of frames in another, and the frames that lie apart in the lent arrays.
+use Rattle.std.specs.Prelude.{ℕ, ◌+◌, ◌-◌, true, false, cond, List, eqb, get_or, None}
+use Rattle.frames.specs.View.{frames_of}
 use Rattle.definitions.specs.Threads.{Frame, Thread}
-use Rattle.definitions.specs.declared.Link.TheVariants.{Nil}
 use Rattle.definitions.specs.declared.Action.TheVariants.{Lookup}
 use Rattle.steps.specs.declared.Notes.{Notes}
 use Rattle.steps.specs.Decision.{thread}
@@ -24,21 +22,13 @@ none = record {
   neighbour = 0;
   main = 0;
   owner = false;
-  grandparent = Nil;
+  grandparent = None;
   other = 0;
 }
 
--- how many frames thread t has, of four
-abbrev pub framed : List ℕ → ℕ → ℕ
-framed c t = cond (ltb t 4) (get_or c t 0) 0
-
 -- its threads, by number: the notes l, the numbers of frames c, the frames that h holds
 abbrev pub threads_of : List Notes → List ℕ → (ℕ → Frame) → ℕ → Thread
-threads_of l c h t = thread (get_or l t none) (frames_of h t (framed c t))
-
--- the lent arrays, each alone in its list where it is lent
-abbrev pub held_in : List (List ℕ) → List (List ℕ) → List (List ℕ) → List (List ℕ) → ℕ → Frame
-held_in s b n w = held (get_or s 0 []) (get_or b 0 []) (get_or n 0 []) (get_or w 0 [])
+threads_of l c h t = thread (get_or l t none) (frames_of h t (get_or c t 0))
 
 -- the count of the stop after a step at the place p: 4 raises it, 5 takes one off
 abbrev pub recounted : ℕ → ℕ → ℕ

@@ -1,20 +1,28 @@
 -- The cases of a file's refusal and of a record, each with the code's own facts as premises. Assumes nothing.
 use mathlib.Core.Path.{◌≡◌, refl, sym, ap, ◌∙◌}
-use mathlib.Core.Bool.{Bool, true, false, not, ◌||◌, true≢false}
+use mathlib.Core.Bool.{Bool, true, false, ◌||◌}
 use mathlib.Core.List.{List}
-use Prim.Native.Nat.{ℕ, suc, ◌+◌, ◌*◌, ◌-◌, ◌≤◌, ◌<◌}
+use mathlib.Core.Logic.{◌⊎◌}
+use Rattle.std.proofs.Common.{add-zero}
+use Prim.Native.Nat.{ℕ, suc, ◌+◌, ◌*◌, ◌≤◌, ◌<◌}
 use native.Mathlib.Decide.{ℕ_discrete}
 use native.Mathlib.Omega.{arith}
 use borrow.Author.Tests.{eq-eqb, ne_eqb, lt-ltb, le-ltb, eqb-true, ltb-false}
 use lib.Dec.{eqb, ltb}
 use lib.ListN.{length, get_or}
+use Rattle.std.specs.Prelude.{Result, Ok, Err, OnOk, Option, Some, None}
 use Rattle.container.specs.Choice.{ite}
+use Rattle.definitions.specs.declared.Refusal.{Refusal}
+use Rattle.definitions.specs.Refusal.{code_of}
+use Rattle.definitions.specs.Versions.{known}
 use Rattle.definitions.specs.Schedule.{version, width, count_of, record_at, file_refusal}
 use Rattle.definitions.specs.Merge.{fault}
 use Rattle.schedule.specs.Proper.{Proper, Plain}
-use Rattle.schedule.specs.Reader.{ended, two_from, four_from, taken_from}
-use Rattle.schedule.specs.declared.Record.TheVariants.{Of, End}
-use Rattle.schedule.specs.declared.Taken.{Taken}
+use Rattle.std.specs.List.{slice_range}
+use Rattle.std.proofs.lemmas.List.{get_or-drop, get_or-take}
+use Rattle.schedule.specs.declared.Reader.{Reader}
+use Rattle.schedule.specs.Reader.{Taken, Reads, next_of, ended, two_from, four_from, taken_from}
+use Rattle.schedule.specs.declared.Record.{Record}
 
 -- ---- the length of a file, and its version
 pub length_one : (v n : ℕ) → v ≡ 1 → 3 + 2 * n ≡ 3 + ite (eqb v 1) 2 4 * n
@@ -27,25 +35,19 @@ length_two v n e = rw (ne_eqb _ _ e)
 
 pub ruleset length_cases = (length_one, length_two)
 
-pub other_one : (v : ℕ) → v ≡ 1 → false ≡ not (eqb v 1 || (eqb v 2 || eqb v 3))
-other_one v e = rw (eq-eqb _ _ e)
+pub is_one : (v : ℕ) → v ≡ 1 → true ≡ (eqb v 1 || (eqb v 2 || eqb v 3))
+is_one v e = rw (eq-eqb _ _ e)
 
-pub other_two : (v : ℕ) → (v ≡ 1 → ⊥) → v ≡ 2 → false ≡ not (eqb v 1 || (eqb v 2 || eqb v 3))
-other_two v e f = rw (ne_eqb _ _ e, eq-eqb _ _ f)
+pub is_two : (v : ℕ) → v ≡ 2 → true ≡ (eqb v 1 || (eqb v 2 || eqb v 3))
+is_two v e = rw e
 
-pub other_three : (v : ℕ) → (v ≡ 1 → ⊥) → (v ≡ 2 → ⊥) → v ≡ 3 → false ≡ not (eqb v 1 || (eqb v 2 || eqb v 3))
-other_three v e f g = rw (ne_eqb _ _ e, ne_eqb _ _ f, eq-eqb _ _ g)
+pub is_three : (v : ℕ) → v ≡ 3 → true ≡ (eqb v 1 || (eqb v 2 || eqb v 3))
+is_three v e = rw e
 
-pub other_none : (v : ℕ) → (v ≡ 1 → ⊥) → (v ≡ 2 → ⊥) → (v ≡ 3 → ⊥) → true ≡ not (eqb v 1 || (eqb v 2 || eqb v 3))
-other_none v e f g = rw (ne_eqb _ _ e, ne_eqb _ _ f, ne_eqb _ _ g)
+pub is_none : (v : ℕ) → (v ≡ 1 → ⊥) → (v ≡ 2 → ⊥) → (v ≡ 3 → ⊥) → false ≡ (eqb v 1 || (eqb v 2 || eqb v 3))
+is_none v e f g = rw (ne_eqb _ _ e, ne_eqb _ _ f, ne_eqb _ _ g)
 
-pub ruleset other_cases = (other_one, other_two, other_three, other_none)
-
-opposite : (a b : Bool) → not a ≡ b → a ≡ not b
-opposite true true e = absurd (true≢false (sym e))
-opposite true false e = refl
-opposite false true e = refl
-opposite false false e = absurd (true≢false e)
+pub ruleset known_cases = (is_one, is_two, is_three, is_none)
 
 -- ---- the refusals; w is the length that the file should have
 module _ (file : List ℕ) where
@@ -53,29 +55,26 @@ module _ (file : List ℕ) where
   unfolding file_refusal ite
   short h = simp (lt-ltb _ _ h)
 
-  module _ {b : Bool} (h : 3 ≤ length file) (i : b ≡ not (eqb (version file) 1 || (eqb (version file) 2 || eqb (version file) 3))) where
-    pub other : b ≡ true → 2 ≡ file_refusal file
+  module _ {b : Bool} (h : 3 ≤ length file) (i : b ≡ known file) where
+    pub other : b ≡ false → 2 ≡ file_refusal file
     unfolding file_refusal ite
-    other j = rw (le-ltb _ _ h, opposite (eqb (version file) 1 || (eqb (version file) 2 || eqb (version file) 3)) true (sym i ∙ j))
+    other j = rw (le-ltb _ _ h, sym i ∙ j)
 
-    module _ {n : ℕ} (j : b ≡ false) (c : n ≡ count_of file) where
-      known : eqb (version file) 1 || (eqb (version file) 2 || eqb (version file) 3) ≡ true
-      known = opposite (eqb (version file) 1 || (eqb (version file) 2 || eqb (version file) 3)) false (sym i ∙ j)
-
+    module _ {n : ℕ} (j : b ≡ true) (c : n ≡ count_of file) where
       pub many : 4096 < n → 3 ≡ file_refusal file
       unfolding file_refusal ite
-      many l = rw (le-ltb _ _ h, known, ← c, lt-ltb _ _ l)
+      many l = rw (le-ltb _ _ h, sym i ∙ j, ← c, lt-ltb _ _ l)
 
       pub uneven : {w : ℕ} → n ≤ 4096 → w ≡ 3 + ite (eqb (version file) 1) 2 4 * n → (length file ≡ w → ⊥) → 4 ≡ file_refusal file
       unfolding file_refusal ite
-      uneven l e m = rw (le-ltb _ _ h, known, ← c, le-ltb _ _ l, ne_eqb (length file) (3 + ite (eqb (version file) 1) 2 4 * n) (λ q. m (q ∙ sym e)))
+      uneven l e m = rw (le-ltb _ _ h, sym i ∙ j, ← c, le-ltb _ _ l, ne_eqb (length file) (3 + ite (eqb (version file) 1) 2 4 * n) (λ q. m (q ∙ sym e)))
 
-      pub right : {w : ℕ} → n ≤ 4096 → w ≡ 3 + ite (eqb (version file) 1) 2 4 * n → length file ≡ w → (0 ≡ file_refusal file) × (◌≡◌ {A = ℕ} 0 0 → Proper file)
+      pub right : {w : ℕ} → n ≤ 4096 → w ≡ 3 + ite (eqb (version file) 1) 2 4 * n → length file ≡ w → 0 ≡ file_refusal file
       unfolding file_refusal ite
-      right l e m = (
-        rw (le-ltb _ _ h, known, ← c, le-ltb _ _ l, eq-eqb (length file) (3 + ite (eqb (version file) 1) 2 4 * n) (m ∙ e)),
-        λ _. record { header = h; few = omega arith; whole = rw (← c) (m ∙ e) },
-      )
+      right l e m = rw (le-ltb _ _ h, sym i ∙ j, ← c, le-ltb _ _ l, eq-eqb (length file) (3 + ite (eqb (version file) 1) 2 4 * n) (m ∙ e))
+
+      pub right_proper : {w : ℕ} → n ≤ 4096 → w ≡ 3 + ite (eqb (version file) 1) 2 4 * n → length file ≡ w → Proper file
+      right_proper l e m = record { header = h; few = omega arith; whole = rw (← c) (m ∙ e) }
 
   -- a file of version 1
   pub right_one : 3 ≤ length file → version file ≡ 1 → count_of file ≤ 4096 → length file ≡ 3 + 2 * count_of file → 0 ≡ file_refusal file
@@ -119,9 +118,15 @@ module _ (file : List ℕ) where
       by false false e z = absurd (omega arith)
       by false true e z = let p = proper file z in record { version = eqb-true _ _ e; few = p.few; whole = rw e at p.whole }
 
+pub plain_ok : {A : Type 0} (file : List ℕ) (r : Result A Refusal) → code_of r ≡ fault file → OnOk r (Plain file)
+plain_ok file (Ok a) e = plain file (sym e)
+plain_ok file (Err k) e = tt
+
+pub ruleset fault_cases = (fault_short, fault_version, fault_file, plain_ok)
+
 -- ---- the record at a position of a file of version v
 module _ (file : List ℕ) (at : ℕ) where
-  two_there : at + 1 < length file → two_from file at ≡ record { found = Of (get_or file at 0) (get_or file (at + 1) 0) 0; at = at + 2 }
+  two_there : at + 1 < length file → two_from file at ≡ record { found = Some (record { first = get_or file at 0; second = get_or file (at + 1) 0; extra = 0 }); at = at + 2 }
   unfolding two_from ite
   two_there h = rw (lt-ltb _ _ h)
 
@@ -129,7 +134,7 @@ module _ (file : List ℕ) (at : ℕ) where
   unfolding two_from ite
   two_gone h = rw (le-ltb _ _ h)
 
-  four_there : at + 3 < length file → four_from file at ≡ record { found = Of (get_or file at 0) (get_or file (at + 1) 0) (get_or file (at + 2) 0 * 256 + get_or file (at + 3) 0); at = at + 4 }
+  four_there : at + 3 < length file → four_from file at ≡ record { found = Some (record { first = get_or file at 0; second = get_or file (at + 1) 0; extra = get_or file (at + 2) 0 * 256 + get_or file (at + 3) 0 }); at = at + 4 }
   unfolding four_from ite
   four_there h = rw (lt-ltb _ _ h)
 
@@ -146,30 +151,41 @@ module _ (file : List ℕ) (at : ℕ) where
     unfolding taken_from ite
     by_two e = rw (ne_eqb _ _ e)
 
-    pub taken_two : v ≡ 1 → at < length file → 1 < length file - at → record { found = Of (get_or file at 0) (get_or file (at + 1) 0) 0; at = at + 2 } ≡ taken_from v file at
-    taken_two e h k = sym (by_one e ∙ two_there (omega arith))
+-- a call of `next`, where `rest` is what the reader has left
+module _ (r : Reader) {rest : List ℕ} (h : (r.at ≤ length r.schedule.now) × (length r.schedule.now ≤ length r.schedule.now) × (rest ≡ slice_range r.schedule.now r.at (length r.schedule.now)) × (length rest + r.at ≡ length r.schedule.now)) where
+  byte_of : (i : ℕ) → i < length rest → get_or rest i 0 ≡ get_or r.schedule.now (r.at + i) 0
+  byte_of i l = rw h.2 (get_or-take _ _ i 0 (omega arith) ∙ get_or-drop r.at r.schedule.now i 0)
 
-    pub taken_half : v ≡ 1 → at < length file → length file - at ≤ 1 → ended at ≡ taken_from v file at
-    taken_half e h k = sym (by_one e ∙ two_gone (omega arith))
+  first_of : 0 < length rest → get_or rest 0 0 ≡ get_or r.schedule.now r.at 0
+  first_of l = byte_of 0 l ∙ rw add-zero
 
-    pub taken_four : {x : ℕ} → (v ≡ 1 → ⊥) → at < length file → 3 < length file - at → x ≡ get_or file (at + 2) 0 * 256 + get_or file (at + 3) 0
-        → record { found = Of (get_or file at 0) (get_or file (at + 1) 0) x; at = at + 4 } ≡ taken_from v file at
-    taken_four e h k f = rw f (sym (by_two e ∙ four_there (omega arith)))
+  pub reads_two : r.version ≡ 1 → 2 ≤ length rest → Reads r (Some (record { first = get_or rest 0 0; second = get_or rest 1 0; extra = 0 })) (record { schedule = r.schedule; version = r.version; at = r.at + 2 })
+  reads_two v l =
+      let e : next_of r ≡ _ = by_one r.schedule.now r.at r.version v ∙ two_there r.schedule.now r.at (omega arith) in
+      record { given = rw (e, first_of (omega arith), byte_of 1 (omega arith)); position = rw e; file = refl; version = refl }
 
-    pub taken_less : (v ≡ 1 → ⊥) → at < length file → length file - at ≤ 3 → ended at ≡ taken_from v file at
-    taken_less e h k = sym (by_two e ∙ four_gone (omega arith))
+  pub reads_four : {x : ℕ} → (r.version ≡ 1 → ⊥) → 4 ≤ length rest → x ≡ get_or rest 2 0 * 256 + get_or rest 3 0
+      → Reads r (Some (record { first = get_or rest 0 0; second = get_or rest 1 0; extra = x })) (record { schedule = r.schedule; version = r.version; at = r.at + 4 })
+  reads_four v l f =
+      let e : next_of r ≡ _ = by_two r.schedule.now r.at r.version v ∙ four_there r.schedule.now r.at (omega arith) in
+      record { given = rw (e, f, first_of (omega arith), byte_of 1 (omega arith), byte_of 2 (omega arith), byte_of 3 (omega arith)); position = rw e; file = refl; version = refl }
 
-    pub taken_none : length file ≤ at → ended at ≡ taken_from v file at
-    taken_none h = elim (ℕ_discrete v 1) [
-      | yes e ↦ sym (by_one e ∙ two_gone (omega arith))
-      | no e ↦ sym (by_two e ∙ four_gone (omega arith))
-    ]
+  pub reads_less : (length rest < 2) ⊎ ((r.version ≡ 1 → ⊥) × (length rest < 4)) → Reads r None r
+  reads_less l = elim (ℕ_discrete r.version 1) [
+    | yes v ↦ (let e : next_of r ≡ _ = by_one r.schedule.now r.at r.version v ∙ two_gone r.schedule.now r.at (omega arith) in record { given = rw e; position = rw e; file = refl; version = refl })
+    | no v ↦ (let e : next_of r ≡ _ = by_two r.schedule.now r.at r.version v ∙ four_gone r.schedule.now r.at (omega arith) in record { given = rw e; position = rw e; file = refl; version = refl })
+  ]
 
-pub ruleset taken_cases = (taken_two, taken_half, taken_four, taken_less, taken_none)
+-- where the position lies past the end
+pub reads_none : (r : Reader) {found : Option Record} → (length r.schedule.now < r.at) ⊎ (length r.schedule.now < length r.schedule.now) → found ≡ None → Reads r found r
+reads_none r l f = elim (ℕ_discrete r.version 1) [
+  | yes v ↦ (let e : next_of r ≡ _ = by_one r.schedule.now r.at r.version v ∙ two_gone r.schedule.now r.at (omega arith) in record { given = rw (e, f); position = rw e; file = refl; version = refl })
+  | no v ↦ (let e : next_of r ≡ _ = by_two r.schedule.now r.at r.version v ∙ four_gone r.schedule.now r.at (omega arith) in record { given = rw (e, f); position = rw e; file = refl; version = refl })
+]
 
 -- ---- record k, which the file holds
 abbrev record_taken : List ℕ → ℕ → Taken
-record_taken file k = record { found = Of (record_at file k).first (record_at file k).second (record_at file k).extra; at = 3 + width file * suc k }
+record_taken file k = record { found = Some (record { first = (record_at file k).first; second = (record_at file k).second; extra = (record_at file k).extra }); at = 3 + width file * suc k }
 
 pub read_in : (file : List ℕ) (k : ℕ) → 3 + width file * suc k ≤ length file → taken_from (version file) file (3 + width file * k) ≡ record_taken file k
 unfolding record_at ite
@@ -178,14 +194,14 @@ read_in file k h = elim (ℕ_discrete (version file) 1) [
   | no e ↦ (let z : eqb (version file) 1 ≡ false = ne_eqb _ _ e in by_two file (3 + width file * k) (version file) e ∙ rw z (two (rw z at h)))
 ]
   where
-    one : 3 + 2 * suc k ≤ length file → two_from file (3 + 2 * k) ≡ record { found = Of (get_or file (3 + 2 * k) 0) (get_or file (4 + 2 * k) 0) 0; at = 3 + 2 * suc k }
+    one : 3 + 2 * suc k ≤ length file → two_from file (3 + 2 * k) ≡ record { found = Some (record { first = get_or file (3 + 2 * k) 0; second = get_or file (4 + 2 * k) 0; extra = 0 }); at = 3 + 2 * suc k }
     one l =
         let e : 3 + 2 * k + 1 ≡ 4 + 2 * k = omega arith in
         let n : 3 + 2 * k + 2 ≡ 3 + 2 * suc k = omega arith in
         two_there file (3 + 2 * k) (omega arith) ∙ rw (e, n)
 
     two : 3 + 4 * suc k ≤ length file
-        → four_from file (3 + 4 * k) ≡ record { found = Of (get_or file (3 + 4 * k) 0) (get_or file (4 + 4 * k) 0) (get_or file (5 + 4 * k) 0 * 256 + get_or file (6 + 4 * k) 0); at = 3 + 4 * suc k }
+        → four_from file (3 + 4 * k) ≡ record { found = Some (record { first = get_or file (3 + 4 * k) 0; second = get_or file (4 + 4 * k) 0; extra = get_or file (5 + 4 * k) 0 * 256 + get_or file (6 + 4 * k) 0 }); at = 3 + 4 * suc k }
     two l =
         let e : 3 + 4 * k + 1 ≡ 4 + 4 * k = omega arith in
         let f : 3 + 4 * k + 2 ≡ 5 + 4 * k = omega arith in
@@ -201,12 +217,11 @@ module _ (file : List ℕ) (k : ℕ) {t : Taken} (h : 3 + width file * suc k ≤
   is_it : t.found ≡ (record_taken file k).found
   is_it = ap (λ (u : Taken). u.found) (e ∙ read_in file k h)
 
-  pub read_of : {x y z : ℕ} → t.found ≡ Of x y z → (x ≡ (record_at file k).first) × ((y ≡ (record_at file k).second) × (z ≡ (record_at file k).extra))
-  read_of {x} {y} {z} f =
-      let same : Of x y z ≡ Of (record_at file k).first (record_at file k).second (record_at file k).extra = sym f ∙ is_it in
+  pub read_of : {r : Record} → t.found ≡ Some r → (r.first ≡ (record_at file k).first) × ((r.second ≡ (record_at file k).second) × (r.extra ≡ (record_at file k).extra))
+  read_of {r} f =
+      let same : Some r ≡ (record_taken file k).found = sym f ∙ is_it in
       (cc, (cc, cc))
 
-  pub no_end : t.found ≡ End → ⊥
+  pub no_end : t.found ≡ None → ⊥
   no_end f =
-      let same : Of (record_at file k).first (record_at file k).second (record_at file k).extra ≡ End = sym is_it ∙ f in
-      let z : ◌≡◌ {A = ℕ} 0 1 = cc in omega arith
+      let same : (record_taken file k).found ≡ None = sym is_it ∙ f in cc

@@ -1,50 +1,40 @@
-// The schedule file: its header, and a reader that borrows it and holds its position. `record_at` does the reader's work on a
-// plain slice; whoever wants a record calls `read`, and goes on from the position that it gives back.
+// The schedule file: what its header says, and a reader that borrows it and goes from record to record.
 #![tactic(auto)]
 
-ghost use Rattle.std.specs.Prelude.{◌≡◌, not, ◌||◌, ◌+◌, ◌*◌, ◌≤◌, length, eqb};
+ghost use Rattle.std.specs.Prelude.{◌≡◌, ◌||◌, ◌+◌, ◌*◌, ◌≤◌, OnOk, length, eqb};
 ghost use Rattle.definitions.specs.Schedule.{version, count_of, file_refusal};
 ghost use Rattle.definitions.specs.Merge.{fault};
+ghost use Rattle.definitions.specs.Refusal.{code_of};
 ghost use Rattle.container.specs.Choice.{ite};
-ghost use Rattle.schedule.specs.Reader.{taken_from, next_of};
-ghost use Rattle.schedule.specs.Proper.{Proper};
+ghost use Rattle.schedule.specs.Proper.{Proper, Plain};
 
-// The schedule, and the byte at which the next record starts.
+use definitions::Refusal;
+
+// A record: its first byte, its second, and its last two as one number (0 in version 1).
+#[derive(Clone, Copy, PartialEq, Eq, Debug)]
+pub struct Record {
+    pub first: u8,
+    pub second: u8,
+    pub extra: u16,
+}
+
+// A schedule, read as a file of a version, and the byte at which the next record starts.
 #[derive(Clone, Copy)]
 pub struct Reader<'a> {
     pub schedule: &'a [u8],
-    pub at: usize,
-}
-
-// A record: its first byte, its second, and its last two as one number (0 in version 1).
-#[derive(Clone, Copy)]
-pub enum Record {
-    Of(u8, u8, u16),
-    End,
-}
-
-// A record, and the byte at which the one after starts; where no record is left, the byte that it was asked for.
-#[derive(Clone, Copy)]
-pub struct Taken {
-    pub found: Record,
+    pub version: u8,
     pub at: usize,
 }
 
 // ---- the header
 
-// Two bytes, the high one first.
-fn word(high: u8, low: u8) -> usize
-    ensures { result ≡ high * 256 + low }
-{
-    high as usize * 256 + low as usize
-}
-
 // The count that the header states.
+#[tactic(auto, unfolding(definitions::specs::Schedule::count_of))]
 pub fn count_of(s: &[u8]) -> usize
     requires { 3 ≤ length s.now }
     ensures { result ≡ count_of s.now }
 {
-    word(s[1], s[2])
+    usize::from(u16::from_be_bytes([s[1], s[2]]))
 }
 
 // The version that the header states.
@@ -56,115 +46,112 @@ pub fn version_of(s: &[u8]) -> u8
 }
 
 // There are versions 1 to 3.
-fn is_other(v: u8) -> bool
-    ensures { result ≡ not (eqb v 1 || (eqb v 2 || eqb v 3)) }
+#[tactic(auto, using(crate::proofs::Laws::known_cases))]
+fn is_known(v: u8) -> bool
+    ensures { result ≡ (eqb v 1 || (eqb v 2 || eqb v 3)) }
 {
-    if v == 1 {
-        return false;
-    }
-    if v == 2 {
-        return false;
-    }
-    if v == 3 {
-        return false;
-    }
-    true
+    matches!(v, 1 | 2 | 3)
 }
 
 // The length of a file of version v with n records.
+#[tactic(auto, using(crate::proofs::Laws::length_cases))]
 fn length_of(v: u8, n: usize) -> usize
     requires { n ≤ 4096 }
     ensures { result ≡ 3 + ite (eqb v 1) 2 4 * n }
 {
-    if v == 1 { 3 + 2 * n } else { 3 + 4 * n }
+    match v {
+        1 => 3 + 2 * n,
+        _ => 3 + 4 * n,
+    }
 }
 
-// The refusal of a file, 0 for none.
-pub fn file_refusal(s: &[u8]) -> u64
-    ensures { (result ≡ file_refusal s.now) × (result ≡ 0 → Proper s.now) }
+// Whether a file is one of the three versions, and as long as it says.
+pub fn check(s: &[u8]) -> Result<(), Refusal>
+    ensures refusal { code_of result ≡ file_refusal s.now }
+    ensures proper { OnOk result (Proper s.now) }
 {
     if s.len() < 3 {
-        return 1;
+        return Err(Refusal::ShortFile);
     }
     let v = s[0];
-    if is_other(v) {
-        return 2;
+    if !is_known(v) {
+        return Err(Refusal::Version);
     }
     let n = count_of(s);
     if 4096 < n {
-        return 3;
+        return Err(Refusal::Count);
     }
-    let whole = length_of(v, n);
-    if s.len() != whole {
-        return 4;
+    if s.len() != length_of(v, n) {
+        return Err(Refusal::Length);
     }
-    0
+    Ok(())
 }
 
-// The fault of a file that has to be of version 1, 0 for none.
-pub fn fault_of(s: &[u8]) -> u64
-    ensures { result ≡ fault s.now }
+// The same of a file that has to be of version 1.
+#[tactic(auto, using(crate::proofs::Laws::fault_cases))]
+pub fn check_plain(s: &[u8]) -> Result<(), Refusal>
+    ensures fault { code_of result ≡ fault s.now }
+    ensures plain { OnOk result (Plain s.now) }
 {
     if s.len() < 3 {
-        return 1;
+        return Err(Refusal::ShortFile);
     }
     if s[0] != 1 {
-        return 2;
+        return Err(Refusal::Version);
     }
-    file_refusal(s)
+    check(s)
 }
 
 // ---- the records
 
-// The last two bytes of a record.
-fn extra_of(high: u8, low: u8) -> u16
-    ensures { result ≡ high * 256 + low }
-{
-    high as u16 * 256 + low as u16
-}
+impl<'a> Reader<'a> {
+    ghost use Rattle.std.specs.Prelude.{◌≡◌};
 
-// The record at a position of a file of version v, of two bytes or of four.
-pub fn record_at(s: &[u8], at: usize, v: u8) -> Taken
-    ensures { result ≡ taken_from v s.now at }
-{
-    if at < s.len() {
-        let left = s.len() - at;
-        if v == 1 {
-            if 1 < left {
-                let found = Record::Of(s[at], s[at + 1], 0);
-                return Taken { found, at: at + 2 };
-            }
-        } else if 3 < left {
-            let extra = extra_of(s[at + 2], s[at + 3]);
-            let found = Record::Of(s[at], s[at + 1], extra);
-            return Taken { found, at: at + 4 };
+    // A reader of a file of version v, at a position.
+    pub fn new(schedule: &'a [u8], version: u8, at: usize) -> Self
+        ensures file { result.schedule ≡ schedule.entry }
+        ensures version { result.version ≡ version }
+        ensures position { result.at ≡ at }
+    {
+        Reader {
+            schedule,
+            version,
+            at,
         }
     }
-    let found = Record::End;
-    Taken { found, at }
 }
 
-// A reader of a schedule, at a position.
-pub fn open<'a>(schedule: &'a [u8], at: usize) -> Reader<'a>
-    ensures { (result.schedule ≡ schedule.entry) × (result.at ≡ at) }
-{
-    Reader { schedule, at }
-}
+impl Iterator for Reader<'_> {
+    type Item = Record;
 
-// The next record; the reader is left at the one after.
-pub fn next<'s, 'a>(r: &'s mut Reader<'a>, v: u8) -> Record
-    ensures { (result ≡ (next_of v r.old).found) × ((r.new.schedule ≡ r.old.schedule) × (r.new.at ≡ (next_of v r.old).at)) }
-{
-    let taken = record_at(r.schedule, r.at, v);
-    r.at = taken.at;
-    taken.found
-}
+    ghost use Rattle.schedule.specs.Reader.{Reads, left_in};
 
-// A reader is opened at a position: its next record, and the position that it then has.
-pub fn read(s: &[u8], at: usize, v: u8) -> Taken
-    ensures { result ≡ taken_from v s.now at }
-{
-    let mut r = open(s, at);
-    let found = next(&mut r, v);
-    Taken { found, at: r.at }
+    ghost next_gives = { Reads };
+
+    ghost remaining = { left_in };
+
+    // The record at the position, of two bytes or of four; the position is then that of the one after.
+    fn next(&mut self) -> Option<Record> {
+        let rest = self.schedule.get(self.at..)?;
+        match rest {
+            [first, second, ..] if self.version == 1 => {
+                self.at += 2;
+                Some(Record {
+                    first: *first,
+                    second: *second,
+                    extra: 0,
+                })
+            }
+            [first, second, high, low, ..] if self.version != 1 => {
+                let extra = u16::from_be_bytes([*high, *low]);
+                self.at += 4;
+                Some(Record {
+                    first: *first,
+                    second: *second,
+                    extra,
+                })
+            }
+            _ => None,
+        }
+    }
 }

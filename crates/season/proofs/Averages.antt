@@ -3,7 +3,7 @@ use Prim.Native.Nat.{ℕ}
 use mathlib.Core.Path.{◌≡◌, refl}
 use mathlib.Core.List.{List, [], ◌∷◌, map}
 use Rattle.container.specs.Choice.{ite}
-use Rattle.season.specs.Tally.{starts, yes, no, steps}
+use Rattle.season.specs.Tally.{yes, no, steps}
 use Rattle.season.specs.Season.{euclid, gcd, ratio, average, average_of}
 use Rattle.season.specs.declared.Average.{Average}
 use Rattle.season.proofs.Cases.{Entry, of, filled, row, left_over, most}

@@ -1,10 +1,9 @@
 -- What files of version 3 add, worked out by hand from 02, f and h, beside files of version 2 with the same records, shown of the definitions: the
 -- steps at 4, 5 and 19 are own steps, and a join's 7 is a no. One table. Assumes nothing.
-use Prim.Native.Nat.{ℕ, zero, suc, ◌+◌, ◌*◌, ◌/◌, ◌%◌}
+use Prim.Native.Nat.{ℕ, zero, suc, ◌+◌}
 use mathlib.Core.Path.{◌≡◌, refl, sym, ap₂, ◌∙◌}
 use mathlib.Core.List.{List, [], ◌∷◌, ◌++◌, map}
 use lib.Count.{ones_in, count_trailing_zeros}
-use lib.ListN.{length}
 use Rattle.container.specs.Choice.{ite}
 use Rattle.container.specs.Container.{has, insert, remove, union, cut, below, from, size, least, drop_least, upper_half, lower_half, split_key}
 use Rattle.container.specs.Depths.{put, take_out, merge, within as inside, lower, upper}

@@ -1,10 +1,9 @@
 -- Tallies worked out by hand from 02, f, shown of the definitions: what single files add, and what is refused with 19. One theorem for
 -- each table. Assumes nothing.
-use Prim.Native.Nat.{ℕ, ◌+◌, ◌*◌, ◌/◌, ◌%◌}
+use Prim.Native.Nat.{ℕ}
 use mathlib.Core.Path.{◌≡◌, refl}
 use mathlib.Core.List.{List, [], ◌∷◌, ◌++◌, map}
 use lib.Count.{ones_in, count_trailing_zeros}
-use lib.ListN.{length}
 use Rattle.container.specs.Choice.{ite}
 use Rattle.container.specs.Container.{has, insert, remove, union, cut, below, from, size, least, drop_least, upper_half, lower_half, split_key}
 use Rattle.container.specs.Depths.{put, take_out, merge, within as inside, lower, upper}
@@ -15,7 +14,6 @@ use Rattle.definitions.specs.Records.{taken as carried_out, stepped, started, as
 use Rattle.definitions.specs.Schedule.{count_of, record_at, file_refusal}
 use Rattle.definitions.specs.Run.{advance, after, run_refusal, run_report}
 use Rattle.season.specs.Tally.{starts, yes, no, unfinished, steps, largest, join, sum, taken, enter, ledger, busy_with, left_busy, refused_once, records_tally, file_tally, within, added, add_refusal, listed, laid, tally_report, tally_numbers}
-use Rattle.season.specs.declared.Tallied.{Tallied}
 use Rattle.definitions.proofs.Cases.{Lookup, Insert, Remove, Split, Join}
 use Rattle.definitions.proofs.Runs.{op, steps as steps', printed_run}
 use Rattle.definitions.proofs.DeepCases.{start, deep_run, Range}

@@ -1,12 +1,11 @@
 -- A season's tally and its averages, and what is shown of them (02, f).
-use Rattle.std.specs.Prelude.{ℕ, zero, suc, ◌+◌, ◌*◌, ◌/◌, ◌%◌, ◌<◌, ◌≡◌, Bool, ◌&&◌, List, [], ◌∷◌, eqb, ltb, get_or}
+use Rattle.std.specs.Prelude.{ℕ, zero, suc, ◌+◌, ◌*◌, ◌/◌, ◌%◌, ◌<◌, ◌≡◌, ◌&&◌, List, [], ◌∷◌, eqb, ltb, get_or}
 use Rattle.std.specs.Int.{◌∣◌}
 use Rattle.container.specs.Choice.{ite}
 use Rattle.season.specs.declared.Average.{Average}
 use Rattle.definitions.specs.Records.{action_number}
 use Rattle.definitions.specs.Run.{run_report}
 use Rattle.definitions.specs.declared.Action.{Action}
-use Rattle.definitions.specs.declared.Report.{Report}
 use Rattle.season.specs.Tally.{Field, starts, yes, no, unfinished, steps, place, refusal_place, Tally, empty, sum, file_tally, laid, tally_report, tally_numbers}
 
 -- ---- a season

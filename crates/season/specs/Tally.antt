@@ -1,8 +1,7 @@
 -- The tally of a season's schedules (02, f): what one file's run adds to it, and when it is refused with 19. A tally is 65 numbers; where
 -- each stands is include/nuxalder.h's order.
-use Rattle.std.specs.Prelude.{ℕ, zero, suc, ◌+◌, ◌/◌, ◌%◌, ◌^◌, Bool, true, false, ◌&&◌, List, [], ◌∷◌, eqb, ltb, get_or}
+use Rattle.std.specs.Prelude.{ℕ, zero, suc, max, ◌+◌, ◌/◌, ◌%◌, ◌^◌, Bool, true, ◌&&◌, List, [], ◌∷◌, eqb, ltb, get_or}
 use Rattle.container.specs.Choice.{ite, upd}
-use Rattle.definitions.specs.Bench.{Bench}
 use Rattle.definitions.specs.Threads.{Thread}
 use Rattle.definitions.specs.Answers.{is_yes}
 use Rattle.definitions.specs.Records.{Row, no_row, row, Result, refused, carried, is_idle, record_step, action_number}
@@ -49,12 +48,9 @@ just i n j = ite (eqb i j) n 0
 
 -- ---- adding, field by field
 
-abbrev pub larger : ℕ → ℕ → ℕ
-larger x y = ite (ltb x y) y x
-
 -- two numbers of place i: their sum, but "the largest taken for the largest"
 unfoldable pub join : ℕ → ℕ → ℕ → ℕ
-join i x y = ite (eqb (i / 8) 5) (larger x y) (x + y)
+join i x y = ite (eqb (i / 8) 5) (max x y) (x + y)
 
 unfoldable pub sum : Tally → Tally → Tally
 sum t u i = join i (t i) (u i)

@@ -2,7 +2,6 @@ pub mod Quick
 pub mod States
 pub mod Pages
 pub mod ByteCases
-pub mod PlaceCases
 pub mod Heads
 pub mod FrameParts
 pub mod Reached

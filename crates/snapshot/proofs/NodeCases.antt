@@ -1,4 +1,5 @@
 -- What each function of module node has written, one law for each way out; p is the page before. Assumes nothing.
+use Rattle.std.specs.Prelude.{Option}
 use mathlib.Core.Path.{◌≡◌, refl, sym, ap, ◌∙◌, fun_ext}
 use mathlib.Core.Bool.{Bool, true, false, true≢false}
 use mathlib.Core.List.{List, [], ◌∷◌, ◌++◌, append_assoc}
@@ -13,7 +14,7 @@ use Rattle.container.specs.Container.{has, from, least}
 use Rattle.container.specs.Depths.{container, blank, find}
 use Rattle.container.proofs.Laws.{from_in, from_out, least_le, least_has, least_none}
 use Rattle.container.proofs.DepthLaws.{find_none}
-use Rattle.buffer.specs.Page.{Page, put, put_all}
+use Rattle.buffer.specs.Page.{Page, put_all}
 use Rattle.buffer.proofs.Laws.{joined}
 use Rattle.depths.specs.Rows.{Rows, full}
 use Rattle.definitions.specs.Nodes.{Shapes, entry, is_route}
@@ -23,61 +24,20 @@ use Rattle.definitions.specs.declared.Kind.TheVariants.{Normal, Route, Main, Nei
 use Rattle.definitions.specs.declared.Stage.{Stage}
 use Rattle.definitions.specs.declared.Stage.TheVariants.{Preparing, Completing, Aborted, Done}
 use Rattle.definitions.specs.declared.Node.{Node}
-use Rattle.definitions.specs.declared.Shared.{Shared}
-use Rattle.snapshot.specs.Layout.{zeros, flag, link_bytes, shared_bytes, each, kind_number, stage_number, route_bytes, base_bytes, agreed_bytes, own_bytes, depth_bytes, holding, node_bytes}
+use Rattle.snapshot.specs.Layout.{zeros, shared_bytes, each, kind_number, route_bytes, base_bytes, agreed_bytes, own_bytes, depth_bytes, holding, node_bytes}
 use Rattle.snapshot.specs.Fields.{plain, based, field_bytes}
-use Rattle.snapshot.proofs.Pages.{begun}
 
 -- ---- the fields of the node n
 
-module _ (p : Page) (n : Node) where
-  pub union_put : {a b c : Page} → a ≡ put_all p (1 ∷ n.union ∷ 1 ∷ n.neighbour ∷ []) → b ≡ put_all a (link_bytes n.grandparent) → c ≡ put_all b (1 ∷ n.other ∷ [])
-      → c ≡ put_all p (agreed_bytes Completing (plain n))
-  union_put e f g = joined p (1 ∷ n.union ∷ 1 ∷ n.neighbour ∷ []) (link_bytes n.grandparent ++ 1 ∷ n.other ∷ []) e (joined _ (link_bytes n.grandparent) (1 ∷ n.other ∷ []) f g)
+-- a base's fields, and ys after them, where the kind is k
+of_kind : (n : Node) (k : Kind) → n.kind ≡ k → route_bytes k (plain n) ++ (base_bytes k (plain n) ++ own_bytes k (plain n)) ≡ field_bytes (plain n)
+of_kind n k h = ap (λ (j : Kind). route_bytes j (plain n) ++ (base_bytes j (plain n) ++ own_bytes j (plain n))) (sym h)
 
-  pub agreed_preparing : {a : Page} → n.stage ≡ Preparing → a ≡ put_all p (zeros 8) → a ≡ put_all p (agreed_bytes n.stage (plain n))
-  agreed_preparing h e = rw h e
+pub fields_neighbour : (n : Node) → n.kind ≡ Neighbour → based n ++ (zeros 10 ++ ((1 ∷ n.main ∷ []) ++ zeros 4)) ≡ field_bytes (plain n)
+fields_neighbour n h = of_kind n Neighbour h
 
-  pub agreed_completing : {a : Page} → n.stage ≡ Completing → a ≡ put_all p (agreed_bytes Completing (plain n)) → a ≡ put_all p (agreed_bytes n.stage (plain n))
-  agreed_completing h e = rw h e
-
-  pub agreed_aborted : {a : Page} → n.stage ≡ Aborted → a ≡ put_all p (zeros 8) → a ≡ put_all p (agreed_bytes n.stage (plain n))
-  agreed_aborted h e = rw h e
-
-  pub agreed_done : {a : Page} → n.stage ≡ Done → a ≡ put_all p (agreed_bytes Completing (plain n)) → a ≡ put_all p (agreed_bytes n.stage (plain n))
-  agreed_done h e = rw h e
-
-  pub main_put : {k : ℕ} {a b c : Page} → k ≡ stage_number n.stage → a ≡ put_all p (k ∷ 0 ∷ []) → b ≡ put_all a (agreed_bytes n.stage (plain n)) → c ≡ put_all b (zeros 6)
-      → c ≡ put_all p (own_bytes Main (plain n))
-  main_put {k} s e f g = joined p (k ∷ 0 ∷ []) (agreed_bytes n.stage (plain n) ++ zeros 6) e (joined _ (agreed_bytes n.stage (plain n)) (zeros 6) f g) ∙ rw s
-
-  pub base_put : {a b c : Page} → a ≡ put_all p (zeros 6) → b ≡ put_all a (link_bytes n.parent) → c ≡ put_all b (bytes_of 8 n.container) → c ≡ put_all p (based n)
-  base_put e f g = joined p (zeros 6) (link_bytes n.parent ++ bytes_of 8 n.container) e (joined _ (link_bytes n.parent) (bytes_of 8 n.container) f g)
-
-  -- a base's fields, and ys after them
-  base_with_lem : (ys : List ℕ) {a b : Page} → a ≡ put_all p (based n) → b ≡ put_all a ys → b ≡ put_all p (zeros 6 ++ ((link_bytes n.parent ++ bytes_of 8 n.container) ++ ys))
-  base_with_lem ys e f = joined p (based n) ys e f
-
-  -- the kind is k
-  of_kind : (k : Kind) {b : Page} → n.kind ≡ k → b ≡ put_all p (route_bytes k (plain n) ++ (base_bytes k (plain n) ++ own_bytes k (plain n))) → b ≡ put_all p (field_bytes (plain n))
-  of_kind k h e = e ∙ ap (λ (j : Kind). put_all p (route_bytes j (plain n) ++ (base_bytes j (plain n) ++ own_bytes j (plain n)))) (sym h)
-
-  pub fields_normal : {a b : Page} → n.kind ≡ Normal → a ≡ put_all p (based n) → b ≡ put_all a (zeros 16) → b ≡ put_all p (field_bytes (plain n))
-  fields_normal h e f = of_kind Normal h (base_with_lem (zeros 16) e f)
-
-  pub fields_route : {v : ℕ} {a b c : Page} → n.kind ≡ Route → v ≡ flag n.valid → a ≡ put_all p (n.key ∷ n.left ∷ n.right ∷ v ∷ []) → b ≡ put_all a (link_bytes n.mark)
-      → c ≡ put_all b (zeros 26) → c ≡ put_all p (field_bytes (plain n))
-  fields_route {v} h i e f g = of_kind Route h (rw (← i) (joined p (n.key ∷ n.left ∷ n.right ∷ v ∷ []) (link_bytes n.mark ++ zeros 26) e (joined _ (link_bytes n.mark) (zeros 26) f g)))
-
-  pub fields_main : {a b : Page} → n.kind ≡ Main → a ≡ put_all p (based n) → b ≡ put_all a (own_bytes Main (plain n)) → b ≡ put_all p (field_bytes (plain n))
-  fields_main h e f = of_kind Main h (base_with_lem (own_bytes Main (plain n)) e f)
-
-  pub fields_neighbour : {a b c d : Page} → n.kind ≡ Neighbour → a ≡ put_all p (based n) → b ≡ put_all a (zeros 10) → c ≡ put_all b (1 ∷ n.main ∷ []) → d ≡ put_all c (zeros 4)
-      → d ≡ put_all p (field_bytes (plain n))
-  fields_neighbour h e f g i = of_kind Neighbour h (base_with_lem (zeros 10 ++ 1 ∷ n.main ∷ zeros 4) e (joined _ (zeros 10) (1 ∷ n.main ∷ zeros 4) f (joined _ (1 ∷ n.main ∷ []) (zeros 4) g i)))
-
-  pub fields_range : {a b c : Page} → n.kind ≡ Range → a ≡ put_all p (based n) → b ≡ put_all a (zeros 12) → c ≡ put_all b (n.lower ∷ n.upper ∷ 1 ∷ n.store ∷ []) → c ≡ put_all p (field_bytes (plain n))
-  fields_range h e f g = of_kind Range h (base_with_lem (zeros 12 ++ n.lower ∷ n.upper ∷ 1 ∷ n.store ∷ []) e (joined _ (zeros 12) (n.lower ∷ n.upper ∷ 1 ∷ n.store ∷ []) f g))
+pub fields_range : (n : Node) → n.kind ≡ Range → based n ++ (zeros 12 ++ n.lower ∷ n.upper ∷ 1 ∷ n.store ∷ []) ≡ field_bytes (plain n)
+fields_range n h = of_kind n Range h
 
 -- ---- depths, in version v: those of the container with the set c
 
@@ -142,13 +102,13 @@ module _ (p : Page) (v c : ℕ) (d : ℕ → ℕ) where
       rw past (depths_skipped k (s + 1) n (λ j a b. h j (omega arith) (omega arith)) (depths_absent s n (h s (omega arith) (omega arith)) e refl) g)
 
   -- up to the next station that is there, or to the end
-  pub depths_next : (s : ℕ) {rest low : ℕ} {q r : Page} → (v ≡ 1 → ⊥) → s < 64 → rest ≡ from s c → low ≡ least rest → q ≡ put_all p (each (depth_bytes (v ∷ []) (container c d)) s)
-      → r ≡ put_all q (zeros (2 * (low - s)))
+  pub depths_next : (s : ℕ) {rest low gap : ℕ} {q r : Page} → (v ≡ 1 → ⊥) → s < 64 → rest ≡ from s c → low ≡ least rest → gap ≡ low - s → q ≡ put_all p (each (depth_bytes (v ∷ []) (container c d)) s)
+      → r ≡ put_all q (zeros (2 * gap))
       → r ≡ put_all p (each (depth_bytes (v ∷ []) (container c d)) low)
-  depths_next s {rest} {low} n l i j e f =
+  depths_next s {rest} {low} n l i j g e f =
       let past : s ≤ low = next_past s c l i j in
       let up : s + (low - s) ≡ low = omega arith in
-      rw (← up) (depths_skipped (low - s) s n (λ k a b. sym (from_in s c k a) ∙ ap (λ (x : ℕ). has x k) (sym i) ∙ least_none rest k (omega arith)) e f)
+      rw (← up) (depths_skipped (low - s) s n (λ k a b. sym (from_in s c k a) ∙ ap (λ (x : ℕ). has x k) (sym i) ∙ least_none rest k (omega arith)) e (f ∙ rw g))
 
   pub depths_done : (s : ℕ) {q : Page} → s ≤ 64 → 64 ≤ s → q ≡ put_all p (each (depth_bytes (v ∷ []) (container c d)) s) → q ≡ put_all p (each (depth_bytes (v ∷ []) (container c d)) 64)
   depths_done s l m e = let same : s ≡ 64 = omega arith in e ∙ ap (λ (k : ℕ). put_all p (each (depth_bytes (v ∷ []) (container c d)) k)) same
@@ -176,7 +136,7 @@ unfolding ite
 same_held file true c d = fun_ext (λ s. rw (find_none d s, find_none (λ _. 0) s))
 same_held file false c d = refl
 
-pub all_bytes : (file : List ℕ) (range : Shared) (n : Node) (d : ℕ → ℕ)
+pub all_bytes : (file : List ℕ) (range : Option ℕ) (n : Node) (d : ℕ → ℕ)
     → kind_number n.kind ∷ (shared_bytes range ++ (field_bytes (plain n) ++ (zeros 6 ++ each (depth_bytes file (container (ite (is_route n.kind) 0 n.container) d)) 64)))
     ≡ node_bytes file range (entry n d)
 unfolding node_bytes
@@ -190,17 +150,10 @@ all_bytes file range n d =
     (append_assoc (route_bytes n.kind e) (base_bytes n.kind e ++ own_bytes n.kind e) deep
     ∙ ap (λ (l : List ℕ). route_bytes n.kind e ++ l) (append_assoc (base_bytes n.kind e) (own_bytes n.kind e) deep)))
 
-pub node_put : (p : Page) (v : ℕ) (range : Shared) (t : Shapes) (d : Rows) (x : ℕ) {n : Node} {k held : ℕ} {a b c e f : Page} → n ≡ t x → k ≡ kind_number n.kind
-    → held ≡ ite (is_route n.kind) 0 n.container
-    → a ≡ put p k → b ≡ put_all a (shared_bytes range) → c ≡ put_all b (field_bytes (plain n)) → e ≡ put_all c (zeros 6) → f ≡ put_all e (each (depth_bytes (v ∷ []) (container held (d x))) 64)
-    → f ≡ put_all p (node_bytes (v ∷ []) range (full t d x))
-node_put p v range t d x {n} {k} {held} i j h e1 e2 e3 e4 e5 =
-    let deep = each (depth_bytes (v ∷ []) (container held (d x))) 64 in
-    begun p k (shared_bytes range ++ (field_bytes (plain n) ++ (zeros 6 ++ deep))) e1
-    (joined _ (shared_bytes range) (field_bytes (plain n) ++ (zeros 6 ++ deep)) e2
-    (joined _ (field_bytes (plain n)) (zeros 6 ++ deep) e3
-    (joined _ (zeros 6) deep e4 e5)))
-    ∙ (rw (j, h) (ap (put_all p) (all_bytes (v ∷ []) range n (d x))) ∙ ap (λ (m : Node). put_all p (node_bytes (v ∷ []) range (entry m (d x)))) i)
+-- node x in version v
+pub node_parts : (v : ℕ) (range : Option ℕ) (t : Shapes) (d : Rows) (x : ℕ) {n : Node} {k held : ℕ} → n ≡ t x → k ≡ kind_number n.kind → held ≡ ite (is_route n.kind) 0 n.container
+    → (k ∷ []) ++ (shared_bytes range ++ (field_bytes (plain n) ++ (zeros 6 ++ each (depth_bytes (v ∷ []) (container held (d x))) 64))) ≡ node_bytes (v ∷ []) range (full t d x)
+node_parts v range t d x {n} i j h = rw (j, h) (all_bytes (v ∷ []) range n (d x) ∙ ap (λ (m : Node). node_bytes (v ∷ []) range (entry m (d x))) i)
 
 pub holding_route : (n : Node) {c : Bool} → c ≡ is_route n.kind → c ≡ true → 0 ≡ ite (is_route n.kind) 0 n.container
 unfolding ite
@@ -210,26 +163,4 @@ pub holding_base : (n : Node) {c : Bool} → c ≡ is_route n.kind → c ≡ fal
 unfolding ite
 holding_base n e h = rw (← e, h)
 
-pub ruleset node_cases = (
-  union_put,
-  agreed_preparing,
-  agreed_completing,
-  agreed_aborted,
-  agreed_done,
-  main_put,
-  base_put,
-  fields_normal,
-  fields_route,
-  fields_main,
-  fields_neighbour,
-  fields_range,
-  depths_flat,
-  depths_empty,
-  depths_start,
-  depths_there,
-  depths_next,
-  depths_done,
-  node_put,
-  holding_route,
-  holding_base,
-)
+pub ruleset node_cases = (holding_route, holding_base)

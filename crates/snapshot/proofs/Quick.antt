@@ -1,6 +1,7 @@
 -- Forms of the definitions that antt computes quickly on a written file, each with its proof that it is the definition: the first records of a
 -- file, each handed the bench that the one before left, and the ranges by a walk that leaves a branch not taken alone. They are those of
 -- crates/definitions/proofs/Quick.antt, which carries out whole files. And what a buffer of equal bytes holds once some are written.
+use Rattle.std.specs.Prelude.{Option, Some, None}
 use Prim.Native.Nat.{ℕ, zero, suc, ◌+◌, ◌-◌, ◌/◌}
 use native.Mathlib.Nat.{zero-sub, sub-zero, suc-sub-suc}
 use native.Mathlib.Omega.{arith}
@@ -18,8 +19,6 @@ use Rattle.definitions.specs.Tree.{levels}
 use Rattle.definitions.specs.Versions.{stop_of}
 use Rattle.definitions.specs.Schedule.{Rec, record_at}
 use Rattle.definitions.specs.Run.{Progress, row_bytes, row_count, advance_by, advance, after, overlay}
-use Rattle.definitions.specs.declared.Shared.{Shared}
-use Rattle.definitions.specs.declared.Shared.TheVariants.{Unset, Set}
 use Rattle.snapshot.specs.Layout.{reached_below}
 use Rattle.snapshot.specs.State.{ranges}
 
@@ -93,27 +92,27 @@ unfolding ite
 pick_ite true f g = refl
 pick_ite false f g = refl
 
-abbrev ranges_under : ℕ → Shapes → ℕ → ℕ → (ℕ → Shared) → ℕ → Shared
-ranges_under zero n x range w = upd w x (Set range)
+abbrev ranges_under : ℕ → Shapes → ℕ → ℕ → (ℕ → Option ℕ) → ℕ → Option ℕ
+ranges_under zero n x range w = upd w x (Some range)
 ranges_under (suc k) n x range w = pick (is_route (n x).kind)
-    (λ _. ranges_under k n (n x).right (from (n x).key range) (ranges_under k n (n x).left (below (n x).key range) (upd w x (Set range))))
-    (λ _. upd w x (Set range))
+    (λ _. ranges_under k n (n x).right (from (n x).key range) (ranges_under k n (n x).left (below (n x).key range) (upd w x (Some range))))
+    (λ _. upd w x (Some range))
 
-ranges_under_below : (k : ℕ) (n : Shapes) (x range : ℕ) (w : ℕ → Shared) → ranges_under k n x range w ≡ reached_below k n x range w
+ranges_under_below : (k : ℕ) (n : Shapes) (x range : ℕ) (w : ℕ → Option ℕ) → ranges_under k n x range w ≡ reached_below k n x range w
 unfolding reached_below
 ranges_under_below zero n x range w = refl
 ranges_under_below (suc k) n x range w =
     pick_ite (is_route (n x).kind) _ _
-    ∙ ap (λ (v : ℕ → Shared). ite (is_route (n x).kind) v (upd w x (Set range)))
-    (ranges_under_below k n (n x).right (from (n x).key range) (ranges_under k n (n x).left (below (n x).key range) (upd w x (Set range)))
-    ∙ ap (λ (v : ℕ → Shared). reached_below k n (n x).right (from (n x).key range) v) (ranges_under_below k n (n x).left (below (n x).key range) (upd w x (Set range))))
+    ∙ ap (λ (v : ℕ → Option ℕ). ite (is_route (n x).kind) v (upd w x (Some range)))
+    (ranges_under_below k n (n x).right (from (n x).key range) (ranges_under k n (n x).left (below (n x).key range) (upd w x (Some range)))
+    ∙ ap (λ (v : ℕ → Option ℕ). reached_below k n (n x).right (from (n x).key range) v) (ranges_under_below k n (n x).left (below (n x).key range) (upd w x (Some range))))
 
-abbrev pub quick_ranges : Bench → ℕ → Shared
-quick_ranges b = ranges_under levels (λ x. shape (b.store.nodes x)) b.store.root all (λ _. Unset)
+abbrev pub quick_ranges : Bench → ℕ → Option ℕ
+quick_ranges b = ranges_under levels (λ x. shape (b.store.nodes x)) b.store.root all (λ _. None)
 
 pub quick_ranges_ranges : (b : Bench) → quick_ranges b ≡ ranges b
 unfolding ranges
-quick_ranges_ranges b = ranges_under_below levels (λ x. shape (b.store.nodes x)) b.store.root all (λ _. Unset)
+quick_ranges_ranges b = ranges_under_below levels (λ x. shape (b.store.nodes x)) b.store.root all (λ _. None)
 
 -- ---- a buffer of n bytes x, with l written at its start or left alone
 

@@ -1,4 +1,5 @@
 -- How many bytes each part of a state has: always the same, but for the numbers of nodes and of stores. Assumes nothing.
+use Rattle.std.specs.Prelude.{Option, Some, None}
 use mathlib.Core.Path.{◌≡◌, refl, ap, ◌∙◌}
 use mathlib.Core.Bool.{Bool, true, false}
 use mathlib.Core.List.{List, [], ◌∷◌, ◌++◌}
@@ -11,14 +12,10 @@ use Rattle.definitions.specs.Nodes.{Entry}
 use Rattle.definitions.specs.Threads.{Frame, Thread}
 use Rattle.definitions.specs.Versions.{version}
 use Rattle.definitions.specs.Run.{Progress, bytes_of}
-use Rattle.definitions.specs.declared.Link.{Link}
-use Rattle.definitions.specs.declared.Link.TheVariants.{Nil, To}
 use Rattle.definitions.specs.declared.Kind.{Kind}
 use Rattle.definitions.specs.declared.Kind.TheVariants.{Normal, Route, Main, Neighbour, Range}
 use Rattle.definitions.specs.declared.Stage.{Stage}
 use Rattle.definitions.specs.declared.Stage.TheVariants.{Preparing, Completing, Aborted, Done}
-use Rattle.definitions.specs.declared.Shared.{Shared}
-use Rattle.definitions.specs.declared.Shared.TheVariants.{Unset, Set}
 use Rattle.snapshot.specs.Layout.{zeros, link_bytes, noted, shared_bytes, padded, each, thread_head, frame_bytes, frames_bytes, thread_bytes, route_bytes, base_bytes, agreed_bytes, own_bytes}
 use Rattle.snapshot.specs.Layout.{depth_bytes, holding, node_bytes}
 use Rattle.snapshot.specs.State.{ranges, state_head, state_bytes}
@@ -30,17 +27,17 @@ unfolding bytes_of
 bytes_size zero n = refl
 bytes_size (suc k) n = length-append (bytes_of k (n / 256)) (n % 256 ∷ []) ∙ (let h = bytes_size k (n / 256) in omega arith)
 
-link_size : (l : Link) → length (link_bytes l) ≡ 2
-link_size Nil = refl
-link_size (To x) = refl
+link_size : (l : Option ℕ) → length (link_bytes l) ≡ 2
+link_size None = refl
+link_size (Some x) = refl
 
-noted_size : (c : Bool) (l : Link) → length (noted c l) ≡ 2
+noted_size : (c : Bool) (l : Option ℕ) → length (noted c l) ≡ 2
 unfolding noted
-noted_size c l = link_size (ite c l Nil)
+noted_size c l = link_size (ite c l None)
 
-shared_size : (s : Shared) → length (shared_bytes s) ≡ 9
-shared_size Unset = refl
-shared_size (Set c) = ap suc (bytes_size 8 c)
+shared_size : (s : Option ℕ) → length (shared_bytes s) ≡ 9
+shared_size None = refl
+shared_size (Some c) = ap suc (bytes_size 8 c)
 
 padded_size : (k : ℕ) (l : List ℕ) → length (padded k l) ≡ k
 unfolding padded
@@ -108,7 +105,7 @@ own_size Main e = simp (length-append, agreed_size)
 own_size Neighbour e = refl
 own_size Range e = refl
 
-node_size : (file : List ℕ) (range : Shared) (e : Entry) → length (node_bytes file range e) ≡ 176
+node_size : (file : List ℕ) (range : Option ℕ) (e : Entry) → length (node_bytes file range e) ≡ 176
 unfolding node_bytes
 node_size file range e =
     let d = each_size (depth_bytes file (holding e)) 2 64 (λ s. bytes_size 2 _) in

@@ -1,5 +1,6 @@
 -- States worked out by hand from the places, shown of the definitions: one table that a single theorem covers. Each case has a file, a number of
 -- records and a buffer's length, and all that State hands back: the report and every byte of the buffer.
+use Rattle.std.specs.Prelude.{Option}
 use Prim.Native.Nat.{ℕ, zero, suc, ◌+◌, ◌-◌, ◌*◌, ◌/◌, ◌%◌}
 use mathlib.Core.Path.{◌≡◌, refl, sym, ap, ap₂, ◌∙◌}
 use mathlib.Core.List.{List, [], ◌∷◌, ◌++◌, map}
@@ -17,7 +18,6 @@ use Rattle.definitions.specs.Schedule.{count_of, record_at, file_refusal}
 use Rattle.definitions.specs.Run.{Progress, bytes_of, after, overlay}
 use Rattle.snapshot.specs.Layout.{noted, padded, each, thread_head, frame_bytes, frames_bytes, thread_bytes, node_bytes, shared_bytes}
 use Rattle.snapshot.specs.State.{ranges, state_head, state_bytes, state_refusal, state_report, state_buffer}
-use Rattle.definitions.specs.declared.Shared.{Shared}
 use Rattle.snapshot.specs.declared.Stated.{Stated}
 use Rattle.definitions.proofs.Cases.{Lookup, Insert, Split, Join, untouched, holding}
 use Rattle.definitions.proofs.Runs.{steps as oldSteps, op as oldOp, printed_run}
@@ -248,7 +248,7 @@ abbrev promised : Case → Stated × List ℕ
 promised c = (c.gives, holding c.bytes c.room)
 
 -- the same where the records end at p, the ranges being given
-abbrev bytes_at : List ℕ → Progress → (ℕ → Shared) → List ℕ
+abbrev bytes_at : List ℕ → Progress → (ℕ → Option ℕ) → List ℕ
 bytes_at file p w =
     state_head file p
     ++ (each (λ t. thread_bytes file (p.bench.threads t)) 4
@@ -256,7 +256,7 @@ bytes_at file p w =
     ++ each (λ j. shared_bytes (p.bench.store.stores j)) p.bench.store.shown))
 
 -- the buffer's length, the report and what is written
-abbrev written_at : Case → Progress → (ℕ → Shared) → ℕ × (Stated × List ℕ)
+abbrev written_at : Case → Progress → (ℕ → Option ℕ) → ℕ × (Stated × List ℕ)
 written_at c p w = (
   c.room,
   (

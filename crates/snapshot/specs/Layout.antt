@@ -1,6 +1,6 @@
 -- The bytes that a state is made of: of a thread, of its frames and of a node (docs/STATE.md). A field that a node's kind has not, and a note that
 -- no later step of its thread reads, is 0, so that a state says what the places say of a bench and no more.
-use Rattle.std.specs.Prelude.{ℕ, zero, suc, Bool, not, cond, ◌&&◌, ◌||◌, List, [], ◌∷◌, ◌++◌, eqb, ltb, leb, length, replicate}
+use Rattle.std.specs.Prelude.{ℕ, zero, suc, Bool, not, cond, ◌&&◌, ◌||◌, List, [], ◌∷◌, ◌++◌, eqb, ltb, leb, length, replicate, Option, Some, None}
 use Rattle.container.specs.Choice.{ite, upd}
 use Rattle.container.specs.Container.{below, from}
 use Rattle.container.specs.Depths.{Container, blank, find, depth_of}
@@ -9,14 +9,10 @@ use Rattle.definitions.specs.Threads.{Frame, Thread}
 use Rattle.definitions.specs.Records.{action_number, is_idle}
 use Rattle.definitions.specs.Versions.{by}
 use Rattle.definitions.specs.Run.{bytes_of}
-use Rattle.definitions.specs.declared.Link.{Link}
-use Rattle.definitions.specs.declared.Link.TheVariants.{Nil, To}
 use Rattle.definitions.specs.declared.Kind.{Kind}
 use Rattle.definitions.specs.declared.Kind.TheVariants.{Normal, Route, Main, Neighbour, Range}
 use Rattle.definitions.specs.declared.Stage.{Stage}
 use Rattle.definitions.specs.declared.Stage.TheVariants.{Preparing, Completing, Aborted, Done}
-use Rattle.definitions.specs.declared.Shared.{Shared}
-use Rattle.definitions.specs.declared.Shared.TheVariants.{Unset, Set}
 
 -- ---- bytes
 
@@ -27,18 +23,18 @@ abbrev pub flag : Bool → ℕ
 flag c = cond c 1 0
 
 -- a number or none: 1 and the number, or 0 and 0
-abbrev pub link_bytes : Link → List ℕ
-link_bytes Nil = 0 ∷ 0 ∷ []
-link_bytes (To x) = 1 ∷ x ∷ []
+abbrev pub link_bytes : Option ℕ → List ℕ
+link_bytes None = 0 ∷ 0 ∷ []
+link_bytes (Some x) = 1 ∷ x ∷ []
 
 -- the same of what is there only where c is true
-unfoldable pub noted : Bool → Link → List ℕ
-noted c l = link_bytes (ite c l Nil)
+unfoldable pub noted : Bool → Option ℕ → List ℕ
+noted c l = link_bytes (ite c l None)
 
 -- a word or none: 1 and its eight bytes, or 0 and eight times 0
-abbrev pub shared_bytes : Shared → List ℕ
-shared_bytes Unset = zeros 9
-shared_bytes (Set c) = 1 ∷ bytes_of 8 c
+abbrev pub shared_bytes : Option ℕ → List ℕ
+shared_bytes None = zeros 9
+shared_bytes (Some c) = 1 ∷ bytes_of 8 c
 
 -- the first n of a list, and 0 where it ends
 unfoldable pub padded : ℕ → List ℕ → List ℕ
@@ -102,14 +98,14 @@ unfoldable pub thread_head : ℕ → Thread → List ℕ
 thread_head n th =
     th.place ∷ ite (is_idle th) 0 (action_number th.action) ∷ th.station ∷ (bytes_of 2 th.extra
     ++ ite (has_read th.place) (ite (ltb th.read 8) th.read 8) 0 ∷ ite (has_side th.place) (side_number th.left) 0 ∷ ite (has_main th.place) (flag th.owner) 0
-    ∷ (noted (has_route th.place) (To th.route)
-    ++ (noted (has_base th.place) (To th.base)
-    ++ (noted (has_parent th.place) (To th.parent)
-    ++ (noted (has_found th.place) (To th.found)
-    ++ (noted (has_neighbour th.place) (To th.neighbour)
-    ++ (noted (has_main th.place) (To th.main)
+    ∷ (noted (has_route th.place) (Some th.route)
+    ++ (noted (has_base th.place) (Some th.base)
+    ++ (noted (has_parent th.place) (Some th.parent)
+    ++ (noted (has_found th.place) (Some th.found)
+    ++ (noted (has_neighbour th.place) (Some th.neighbour)
+    ++ (noted (has_main th.place) (Some th.main)
     ++ (noted (has_grandparent th.place) th.grandparent
-    ++ (noted (has_other th.place) (To th.other)
+    ++ (noted (has_other th.place) (Some th.other)
     ++ (bytes_of 1 n ++ zeros 7))))))))))
 
 -- which notes a frame has: p is its thread's place where it is on top, 0 where it waits. One on top waits too where its thread is under 60.
@@ -134,9 +130,9 @@ kept c l = ite c l []
 unfoldable pub frame_bytes : ℕ → Frame → List ℕ
 frame_bytes p f =
     f.lower ∷ f.upper ∷ (link_bytes f.store
-    ++ (noted (has_hand p) (To f.base)
-    ++ (noted (eqb p 70) (To f.popped)
-    ++ (noted (eqb p 72) (To f.key)
+    ++ (noted (has_hand p) (Some f.base)
+    ++ (noted (eqb p 70) (Some f.popped)
+    ++ (noted (eqb p 72) (Some f.key)
     ++ (ite (has_done p) (flag f.begun) 0 ∷ (bytes_of 1 (length (kept (has_stack p) f.stack)) ++ (bytes_of 1 (length (kept (has_backup p) f.backup)) ++ (zeros 3
     ++ (bytes_of 8 (ite (has_done p) f.done 0)
     ++ (padded 86 (kept (has_stack p) f.stack)
@@ -156,12 +152,12 @@ thread_bytes file th = thread_head (by file 0 (length th.frames)) th ++ by file 
 
 -- "a route gives its left child the part below its key and its right child the rest": the ranges of the nodes that the tree has from x down,
 -- over those in w. They go down with levels left, as in Tree.antt
-unfoldable pub reached_below : ℕ → Shapes → ℕ → ℕ → (ℕ → Shared) → ℕ → Shared
-reached_below zero n x range w = upd w x (Set range)
+unfoldable pub reached_below : ℕ → Shapes → ℕ → ℕ → (ℕ → Option ℕ) → ℕ → Option ℕ
+reached_below zero n x range w = upd w x (Some range)
 reached_below (suc k) n x range w =
     ite (is_route (n x).kind)
-    (reached_below k n (n x).right (from (n x).key range) (reached_below k n (n x).left (below (n x).key range) (upd w x (Set range))))
-    (upd w x (Set range))
+    (reached_below k n (n x).right (from (n x).key range) (reached_below k n (n x).left (below (n x).key range) (upd w x (Some range))))
+    (upd w x (Some range))
 
 abbrev pub kind_number : Kind → ℕ
 kind_number Normal = 0
@@ -217,7 +213,7 @@ abbrev pub holding : Entry → Container
 holding e = ite (is_route e.kind) blank e.container
 
 -- 176 bytes: kind, whether it is reachable and its range, what its kind has, depths
-unfoldable pub node_bytes : List ℕ → Shared → Entry → List ℕ
+unfoldable pub node_bytes : List ℕ → Option ℕ → Entry → List ℕ
 node_bytes file range e =
     kind_number e.kind ∷ (shared_bytes range
     ++ (route_bytes e.kind e

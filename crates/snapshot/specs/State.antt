@@ -1,6 +1,6 @@
 -- What State hands back for every file, every number of records and every buffer: the whole bench after the first k records, as bytes that
 -- docs/STATE.md lays out.
-use Rattle.std.specs.Prelude.{ℕ, List, ◌∷◌, ◌++◌, eqb, ltb, length}
+use Rattle.std.specs.Prelude.{ℕ, List, ◌∷◌, ◌++◌, eqb, ltb, length, Option, None}
 use Rattle.container.specs.Choice.{ite}
 use Rattle.container.specs.Container.{all}
 use Rattle.definitions.specs.Nodes.{shape}
@@ -9,14 +9,12 @@ use Rattle.definitions.specs.Tree.{levels}
 use Rattle.definitions.specs.Versions.{version}
 use Rattle.definitions.specs.Schedule.{count_of, file_refusal}
 use Rattle.definitions.specs.Run.{Progress, bytes_of, after, overlay}
-use Rattle.definitions.specs.declared.Shared.{Shared}
-use Rattle.definitions.specs.declared.Shared.TheVariants.{Unset}
 use Rattle.snapshot.specs.declared.Stated.{Stated}
 use Rattle.snapshot.specs.Layout.{zeros, flag, shared_bytes, each, thread_bytes, reached_below, node_bytes}
 
 -- the range of each node that is reachable; "The range of the root is all stations"
-unfoldable pub ranges : Bench → ℕ → Shared
-ranges b = reached_below levels (λ x. shape (b.store.nodes x)) b.store.root all (λ _. Unset)
+unfoldable pub ranges : Bench → ℕ → Option ℕ
+ranges b = reached_below levels (λ x. shape (b.store.nodes x)) b.store.root all (λ _. None)
 
 -- ---- the whole
 

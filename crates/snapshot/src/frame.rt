@@ -1,227 +1,105 @@
 // A frame of a range query, and the frames of a thread, as a state has them.
-ghost use Rattle.std.specs.Prelude.{◌≡◌, ◌-◌, ◌<◌, ◌≤◌, get_or};
-ghost use Rattle.container.specs.Choice.{ite};
-ghost use Rattle.buffer.specs.Page.{page, put_all};
+ghost use Rattle.std.specs.Prelude.{◌≡◌, ◌<◌, ◌≤◌, length};
+ghost use Rattle.buffer.specs.Writes.{Writes};
 ghost use Rattle.definitions.specs.Run.{bytes_of};
-ghost use Rattle.frames.specs.View.{span, pile, link_of, held, frames_of};
+ghost use Rattle.frames.specs.View.{held_stack, held_frame, held, frames_of};
 ghost use Rattle.snapshot.specs.Layout.{padded, kept, frame_bytes, frames_bytes};
-ghost use Rattle.snapshot.specs.Parts.{ends, hand, begun_of, done_of, lengths, counts, top_bytes};
+ghost use Rattle.snapshot.specs.Parts.{begun_of, done_of, top_bytes};
 
-use definitions::Link;
+use super::bytes::{put_link, put_noted, put_one, put_word, put_zeros};
+use super::places;
+use buffer::Page;
+use frames::frame::Frame;
+use frames::stack::Stack;
 
-// Entry i of a stack of n in row j, the top first; 0 where there is none.
-fn entry_of(rows: &[u8; 1408], j: usize, n: usize, i: usize) -> u8
-    requires { j < 16 }
-    ensures { result ≡ get_or (pile (span 88 rows.now j) n) i 0 }
-{
-    if i < n {
-        let m = n - 1 - i;
-        if m < 88 {
-            return rows[j * 88 + m];
-        }
-    }
-    0
-}
-
-// The first 86 entries of a stack of n in row j, where it is shown.
-pub fn put_stack(
-    out: &mut [u8],
-    at: usize,
-    rows: &[u8; 1408],
-    j: usize,
-    n: usize,
-    shown: bool,
-) -> usize
-    requires { j < 16 }
-    ensures { page out.new result ≡ put_all (page out.old at) (padded 86 (kept shown (pile (span 88 rows.now j) n))) }
+// The first 86 entries of a stack, the top first, where it is shown.
+#[tactic(auto, using(buffer::proofs::Writes::writes, crate::proofs::FrameParts::stack_cases))]
+pub fn put_stack(out: &mut Page, stack: &Stack, shown: bool)
+    ensures { Writes out.old out.new (padded 86 (kept shown (held_stack stack.now))) }
 {
     if shown {
-        let mut next = at;
-        let mut i = 0usize;
-        while i < 86 {
-            let x = entry_of(rows, j, n, i);
-            next = buffer::put_byte(out, next, x);
-            i += 1;
+        for i in 0..86 {
+            out.put(stack.entry(i));
         }
-        return next;
+    } else {
+        put_zeros(out, 86);
     }
-    super::bytes::put_zeros(out, at, 86)
 }
 
-// How many numbers a stack has, where it is shown.
-fn put_length(out: &mut [u8], at: usize, n: u64, shown: bool) -> usize
-    ensures { page out.new result ≡ put_all (page out.old at) (bytes_of 1 (ite shown n 0)) }
+// How many numbers it has, where it is shown.
+#[tactic(auto, using(buffer::proofs::Writes::writes), unfolding(container::specs::Choice::ite))]
+fn put_length(out: &mut Page, stack: &Stack, shown: bool)
+    ensures { Writes out.old out.new (bytes_of 1 (length (kept shown (held_stack stack.now)))) }
 {
     if shown {
-        return super::bytes::put_one(out, at, n);
+        put_one(out, stack.len() as u64);
+    } else {
+        put_one(out, 0);
     }
-    super::bytes::put_one(out, at, 0)
 }
 
-// The store of frame j.
-fn store_of(notes: &[u8; 128], j: usize) -> Link
-    requires { j < 16 }
-    ensures { result ≡ link_of (span 8 notes.now j 2) (span 8 notes.now j 3) }
+// Whether a base is done, and the stations done, where they are shown.
+#[tactic(auto, using(buffer::proofs::Writes::writes), unfolding(container::specs::Choice::ite))]
+fn begun_of(frame: &Frame, p: u8) -> u8
+    ensures { result ≡ begun_of p (held_frame frame.now) }
 {
-    if notes[j * 8 + 2] == 0 {
-        return Link::Nil;
+    if places::has_done(p) {
+        u8::from(frame.begun)
+    } else {
+        0
     }
-    Link::To(notes[j * 8 + 3])
 }
 
-// The ends and the store of frame j.
-fn put_ends(out: &mut [u8], at: usize, notes: &[u8; 128], j: usize) -> usize
-    requires { j < 16 }
-    ensures { page out.new result ≡ put_all (page out.old at) (ends (span 8 notes.now j)) }
+#[tactic(auto, using(buffer::proofs::Writes::writes), unfolding(container::specs::Choice::ite))]
+fn done_of(frame: &Frame, p: u8) -> u64
+    ensures { result ≡ done_of p (held_frame frame.now) }
 {
-    let store = store_of(notes, j);
-    let a = buffer::put_two(out, at, notes[j * 8 + 0], notes[j * 8 + 1]);
-    super::bytes::put_link(out, a, store)
+    if places::has_done(p) { frame.done } else { 0 }
 }
 
-// Its base in hand, base popped and key noted; its thread is at place p, or p is 0 where it waits.
-fn put_hand(out: &mut [u8], at: usize, notes: &[u8; 128], j: usize, p: u8) -> usize
-    requires { j < 16 }
-    ensures { page out.new result ≡ put_all (page out.old at) (hand p (span 8 notes.now j)) }
+// A frame of a thread at place p, or of one that waits, with p 0.
+pub fn put_frame(out: &mut Page, frame: &Frame, p: u8)
+    ensures { Writes out.old out.new (frame_bytes p (held_frame frame.now)) }
 {
-    let has_hand = super::places::has_hand(p);
-    let a = super::bytes::put_noted(out, at, has_hand, Link::To(notes[j * 8 + 4]));
-    let b = super::bytes::put_noted(out, a, p == 70, Link::To(notes[j * 8 + 5]));
-    super::bytes::put_noted(out, b, p == 72, Link::To(notes[j * 8 + 6]))
-}
-
-// Whether a base is done, where it is shown.
-fn begun_of(notes: &[u8; 128], j: usize, p: u8) -> u8
-    requires { j < 16 }
-    ensures { result ≡ begun_of p (span 8 notes.now j) }
-{
-    if super::places::has_done(p) {
-        return super::bytes::flag_of(notes[j * 8 + 7] != 0);
-    }
-    0
-}
-
-// The stations done, where they are shown.
-fn done_of(words: &[u64; 64], j: usize, p: u8) -> u64
-    requires { j < 16 }
-    ensures { result ≡ done_of p (span 4 words.now j) }
-{
-    if super::places::has_done(p) {
-        return words[j * 4 + 0];
-    }
-    0
-}
-
-// The lengths of its stack and backup.
-fn put_lengths(out: &mut [u8], at: usize, words: &[u64; 64], j: usize, p: u8) -> usize
-    requires { j < 16 }
-    ensures { page out.new result ≡ put_all (page out.old at) (lengths p (span 4 words.now j)) }
-{
-    let has_stack = super::places::spans(61, 80, p);
-    let has_backup = super::places::has_backup(p);
-    let a = put_length(out, at, words[j * 4 + 1], has_stack);
-    put_length(out, a, words[j * 4 + 2], has_backup)
-}
-
-// What frame j has done, and those lengths.
-fn put_counts(
-    out: &mut [u8],
-    at: usize,
-    notes: &[u8; 128],
-    words: &[u64; 64],
-    j: usize,
-    p: u8,
-) -> usize
-    requires { j < 16 }
-    ensures { page out.new result ≡ put_all (page out.old at) (counts p (span 8 notes.now j) (span 4 words.now j)) }
-{
-    let begun = begun_of(notes, j, p);
-    let done = done_of(words, j, p);
-    let a = buffer::put_byte(out, at, begun);
-    let b = put_lengths(out, a, words, j, p);
-    let c = super::bytes::put_zeros(out, b, 3);
-    super::bytes::put_word(out, c, done)
-}
-
-// Frame j of a thread at place p, or of one that waits, with p 0.
-pub fn put_frame(
-    out: &mut [u8],
-    at: usize,
-    stacks: &[u8; 1408],
-    backups: &[u8; 1408],
-    notes: &[u8; 128],
-    words: &[u64; 64],
-    j: usize,
-    p: u8,
-) -> usize
-    requires { j < 16 }
-    ensures { page out.new result ≡ put_all (page out.old at) (frame_bytes p (held stacks.now backups.now notes.now words.now j)) }
-{
-    let has_stack = super::places::spans(61, 80, p);
-    let has_backup = super::places::has_backup(p);
-    let a = put_ends(out, at, notes, j);
-    let b = put_hand(out, a, notes, j, p);
-    let c = put_counts(out, b, notes, words, j, p);
-    let d = put_stack(out, c, stacks, j, words[j * 4 + 1] as usize, has_stack);
-    put_stack(out, d, backups, j, words[j * 4 + 2] as usize, has_backup)
+    let has_hand = places::has_hand(p);
+    let has_stack = places::spans(61, 80, p);
+    let has_backup = places::has_backup(p);
+    let begun = begun_of(frame, p);
+    let done = done_of(frame, p);
+    out.put_all(&[frame.lower, frame.upper]);
+    put_link(out, frame.store);
+    put_noted(out, has_hand, Some(frame.base));
+    put_noted(out, p == 70, Some(frame.popped));
+    put_noted(out, p == 72, Some(frame.key));
+    out.put(begun);
+    put_length(out, &frame.stack, has_stack);
+    put_length(out, &frame.backup, has_backup);
+    put_zeros(out, 3);
+    put_word(out, done);
+    put_stack(out, &frame.stack, has_stack);
+    put_stack(out, &frame.backup, has_backup);
 }
 
 // The top one of n frames of thread t, or the room for it.
-fn put_top(
-    out: &mut [u8],
-    at: usize,
-    stacks: &[u8; 1408],
-    backups: &[u8; 1408],
-    notes: &[u8; 128],
-    words: &[u64; 64],
-    t: usize,
-    n: usize,
-    p: u8,
-) -> usize
-    requires { (t < 4) × (n ≤ 4) }
-    ensures { page out.new result ≡ put_all (page out.old at) (top_bytes p (frames_of (held stacks.now backups.now notes.now words.now) t n)) }
+fn put_top(out: &mut Page, frames: &[Frame], t: usize, n: usize, p: u8)
+    requires { (t < 4) × ((n ≤ 4) × (16 ≤ length frames.now)) }
+    ensures { Writes out.old out.new (top_bytes p (frames_of (held frames.now) t n)) }
 {
     if n == 0 {
-        return super::bytes::put_zeros(out, at, 196);
+        put_zeros(out, 196);
+    } else {
+        put_frame(out, &frames[t * 4 + n - 1], p);
     }
-    let d = n - 1;
-    put_frame(out, at, stacks, backups, notes, words, t * 4 + d, p)
-}
-
-// One less, where there is one.
-fn less(n: usize) -> usize
-    ensures { result ≡ n - 1 }
-{
-    if n == 0 {
-        return 0;
-    }
-    n - 1
 }
 
 // The n frames of thread t, which is at place p, the top one first, and 0 after them.
-pub fn put_frames(
-    out: &mut [u8],
-    at: usize,
-    stacks: &[u8; 1408],
-    backups: &[u8; 1408],
-    notes: &[u8; 128],
-    words: &[u64; 64],
-    t: usize,
-    n: usize,
-    p: u8,
-) -> usize
-    requires { (t < 4) × (n ≤ 4) }
-    ensures { page out.new result ≡ put_all (page out.old at) (frames_bytes 4 p (frames_of (held stacks.now backups.now notes.now words.now) t n)) }
+pub fn put_frames(out: &mut Page, frames: &[Frame], t: usize, n: usize, p: u8)
+    requires { (t < 4) × ((n ≤ 4) × (16 ≤ length frames.now)) }
+    ensures { Writes out.old out.new (frames_bytes 4 p (frames_of (held frames.now) t n)) }
 {
-    let mut next = at;
-    let mut left = n;
     let mut q = p;
-    let mut k = 0usize;
-    while k < 4 {
-        next = put_top(out, next, stacks, backups, notes, words, t, left, q);
-        left = less(left);
+    for k in 0..4 {
+        put_top(out, frames, t, n.saturating_sub(k), q);
         q = 0;
-        k += 1;
     }
-    next
 }

@@ -1,5 +1,5 @@
 // The bench as bytes (docs/STATE.md): what a state is made of, written into a lent buffer where there is room. Crate state has the operation.
-#![tactic(auto)]
+#![tactic(auto, using(buffer::proofs::Writes::writes))]
 
 pub mod bytes; // bytes, numbers, links and words
 pub mod places; // which notes there are at a place

@@ -2,8 +2,8 @@
 ghost use Rattle.std.specs.Prelude.{◌≡◌, [], ◌∷◌, length};
 ghost use Rattle.container.specs.Choice.{ite};
 ghost use Rattle.container.specs.Depths.{container};
-ghost use Rattle.buffer.specs.Page.{page, put_all};
-ghost use Rattle.nodes.specs.Cells.{table};
+ghost use Rattle.buffer.specs.Writes.{Writes};
+ghost use Rattle.nodes.specs.Table.{table};
 ghost use Rattle.nodes.specs.Stores.{stores};
 ghost use Rattle.depths.specs.Rows.{rows, full};
 ghost use Rattle.definitions.specs.Nodes.{is_route};
@@ -12,32 +12,25 @@ ghost use Rattle.definitions.specs.declared.Stage.TheVariants.{Completing};
 ghost use Rattle.snapshot.specs.Layout.{each, kind_number, stage_number, agreed_bytes, own_bytes, depth_bytes, node_bytes, reached_below};
 ghost use Rattle.snapshot.specs.Fields.{plain, based, field_bytes};
 
-use definitions::{Kind, Node, Shared, Stage};
+use super::bytes::{put_link, put_pair, put_shared, put_word, put_zeros};
+use buffer::Page;
+use definitions::{Kind, Node, Nodes, Stage};
 
 // Marks node x, whose range is given, and what is below it as reachable.
-pub fn reach(
-    cells: &[u8; 5120],
-    sets: &[u64; 256],
-    flags: &mut [u8; 256],
-    ranges: &mut [u64],
-    x: u8,
-    range: u64,
-    levels: u8,
-)
-    requires { length ranges.old ≡ 256 }
-    ensures { stores flags.new ranges.new ≡ reached_below levels (table cells.now sets.now) x range (stores flags.old ranges.old) }
+pub fn reach(nodes: &Nodes, ranges: &mut [Option<u64>; 256], x: u8, range: u64, levels: u8)
+    ensures { stores ranges.new ≡ reached_below levels (table nodes.now) x range (stores ranges.old) }
 {
-    nodes::fill(flags, ranges, x, range);
+    nodes::fill(ranges, x, range);
     if levels == 0 {
         return;
     }
-    let n = nodes::node_at(cells, sets, x);
+    let n = nodes::node_at(nodes, x);
     let kind = n.kind;
     if nodes::is_route(kind) {
         let low = container::lower(range, n.key);
         let high = container::upper(range, n.key);
-        reach(cells, sets, flags, ranges, n.left, low, levels - 1);
-        reach(cells, sets, flags, ranges, n.right, high, levels - 1);
+        reach(nodes, ranges, n.left, low, levels - 1);
+        reach(nodes, ranges, n.right, high, levels - 1);
     }
 }
 
@@ -65,109 +58,107 @@ fn stage_number(s: Stage) -> u8
 }
 
 // What a main agreed on: the union node, the neighbour, the grandparent and the other child.
-fn put_union(out: &mut [u8], at: usize, n: Node) -> usize
-    ensures { page out.new result ≡ put_all (page out.old at) (agreed_bytes Completing (plain n)) }
+fn put_union(out: &mut Page, n: Node)
+    ensures { Writes out.old out.new (agreed_bytes Completing (plain n)) }
 {
     let grandparent = n.grandparent;
-    let a = buffer::put_four(out, at, 1, n.union, 1, n.neighbour);
-    let b = super::bytes::put_link(out, a, grandparent);
-    buffer::put_two(out, b, 1, n.other)
+    out.put_all(&[1, n.union, 1, n.neighbour]);
+    put_link(out, grandparent);
+    out.put_all(&[1, n.other]);
 }
 
 // The same where its stage has it.
-fn put_agreed(out: &mut [u8], at: usize, n: Node) -> usize
-    ensures { page out.new result ≡ put_all (page out.old at) (agreed_bytes n.stage (plain n)) }
+fn put_agreed(out: &mut Page, n: Node)
+    ensures { Writes out.old out.new (agreed_bytes n.stage (plain n)) }
 {
     let stage = n.stage;
     match stage {
-        Stage::Preparing => super::bytes::put_zeros(out, at, 8),
-        Stage::Completing => put_union(out, at, n),
-        Stage::Aborted => super::bytes::put_zeros(out, at, 8),
-        Stage::Done => put_union(out, at, n),
+        Stage::Preparing | Stage::Aborted => put_zeros(out, 8),
+        Stage::Completing | Stage::Done => put_union(out, n),
     }
 }
 
 // A main's stage and what it agreed on.
-fn put_main(out: &mut [u8], at: usize, n: Node) -> usize
-    ensures { page out.new result ≡ put_all (page out.old at) (own_bytes Main (plain n)) }
+fn put_main(out: &mut Page, n: Node)
+    ensures { Writes out.old out.new (own_bytes Main (plain n)) }
 {
     let stage = n.stage;
     let number = stage_number(stage);
-    let a = buffer::put_two(out, at, number, 0);
-    let b = put_agreed(out, a, n);
-    super::bytes::put_zeros(out, b, 6)
+    out.put_all(&[number, 0]);
+    put_agreed(out, n);
+    put_zeros(out, 6);
 }
 
 // A base's parent and container.
-fn put_base(out: &mut [u8], at: usize, n: Node) -> usize
-    ensures { page out.new result ≡ put_all (page out.old at) (based n) }
+fn put_base(out: &mut Page, n: Node)
+    ensures { Writes out.old out.new (based n) }
 {
     let parent = n.parent;
-    let a = super::bytes::put_zeros(out, at, 6);
-    let b = super::bytes::put_link(out, a, parent);
-    super::bytes::put_word(out, b, n.container)
+    put_zeros(out, 6);
+    put_link(out, parent);
+    put_word(out, n.container);
 }
 
 // The fields of a node, 32 bytes.
-pub fn put_fields(out: &mut [u8], at: usize, n: Node) -> usize
-    ensures { page out.new result ≡ put_all (page out.old at) (field_bytes (plain n)) }
+pub fn put_fields(out: &mut Page, n: Node)
+    ensures { Writes out.old out.new (field_bytes (plain n)) }
 {
     let kind = n.kind;
     match kind {
         Kind::Normal => {
-            let a = put_base(out, at, n);
-            super::bytes::put_zeros(out, a, 16)
+            put_base(out, n);
+            put_zeros(out, 16);
         }
         Kind::Route => {
             let mark = n.mark;
-            let valid = super::bytes::flag_of(n.valid);
-            let a = buffer::put_four(out, at, n.key, n.left, n.right, valid);
-            let b = super::bytes::put_link(out, a, mark);
-            super::bytes::put_zeros(out, b, 26)
+            let valid = u8::from(n.valid);
+            out.put_all(&[n.key, n.left, n.right, valid]);
+            put_link(out, mark);
+            put_zeros(out, 26);
         }
         Kind::Main => {
-            let a = put_base(out, at, n);
-            put_main(out, a, n)
+            put_base(out, n);
+            put_main(out, n);
         }
         Kind::Neighbour => {
-            let a = put_base(out, at, n);
-            let b = super::bytes::put_zeros(out, a, 10);
-            let c = buffer::put_two(out, b, 1, n.main);
-            super::bytes::put_zeros(out, c, 4)
+            put_base(out, n);
+            put_zeros(out, 10);
+            out.put_all(&[1, n.main]);
+            put_zeros(out, 4);
         }
         Kind::Range => {
-            let a = put_base(out, at, n);
-            let b = super::bytes::put_zeros(out, a, 12);
-            buffer::put_four(out, b, n.lower, n.upper, 1, n.store)
+            put_base(out, n);
+            put_zeros(out, 12);
+            out.put_all(&[n.lower, n.upper, 1, n.store]);
         }
     }
 }
 
 // The depths of the stations of c in node x, two bytes each.
-pub fn put_depths(out: &mut [u8], at: usize, version: u8, depths: &[u16], x: u8, c: u64) -> usize
-    ensures { page out.new result ≡ put_all (page out.old at) (each (depth_bytes (version ∷ []) (container c (rows depths.now x))) 64) }
+pub fn put_depths(out: &mut Page, version: u8, depths: &[u16], x: u8, c: u64)
+    ensures { Writes out.old out.new (each (depth_bytes (version ∷ []) (container c (rows depths.now x))) 64) }
 {
     if version == 1 {
-        return super::bytes::put_zeros(out, at, 128);
+        put_zeros(out, 128);
+        return;
     }
     if c == 0 {
-        return super::bytes::put_zeros(out, at, 128);
+        put_zeros(out, 128);
+        return;
     }
     // from one station of c to the next; between two there are zeros alone
-    let mut next = at;
     let mut s = 0u8;
     while s < 64 {
         let rest = container::upper(c, s);
         let low = container::lowest(rest);
-        next = super::bytes::put_zeros(out, next, 2 * ((low - s) as usize));
+        put_zeros(out, 2 * usize::from(low - s));
         s = low;
         if low < 64 {
             let d = depths::depth_at(depths, x, low);
-            next = super::bytes::put_pair(out, next, d as u64);
+            put_pair(out, u64::from(d));
             s = low + 1;
         }
     }
-    next
 }
 
 // The container that a node holds: none of a route.
@@ -182,25 +173,24 @@ fn holding(n: Node) -> u64
 }
 
 // Node x, 176 bytes; `range` is its range where it is reachable.
+#[tactic(auto, using(buffer::proofs::Writes::writes), unfolding(crate::specs::Layout::node_bytes, container::specs::Choice::ite))]
 pub fn put_node(
-    out: &mut [u8],
-    at: usize,
-    cells: &[u8; 5120],
-    sets: &[u64; 256],
+    out: &mut Page,
+    nodes: &Nodes,
     depths: &[u16],
     version: u8,
-    range: Shared,
+    range: Option<u64>,
     x: u8,
-) -> usize
-    ensures { page out.new result ≡ put_all (page out.old at) (node_bytes (version ∷ []) range (full (table cells.now sets.now) (rows depths.now) x)) }
+)
+    ensures { Writes out.old out.new (node_bytes (version ∷ []) range (full (table nodes.now) (rows depths.now) x)) }
 {
-    let n = nodes::node_at(cells, sets, x);
+    let n = nodes::node_at(nodes, x);
     let kind = n.kind;
     let number = kind_number(kind);
     let held = holding(n);
-    let a = buffer::put_byte(out, at, number);
-    let b = super::bytes::put_shared(out, a, range);
-    let c = put_fields(out, b, n);
-    let d = super::bytes::put_zeros(out, c, 6);
-    put_depths(out, d, version, depths, x, held)
+    out.put(number);
+    put_shared(out, range);
+    put_fields(out, n);
+    put_zeros(out, 6);
+    put_depths(out, version, depths, x, held);
 }

@@ -5,58 +5,31 @@ ghost use Rattle.snapshot.specs.Layout.{spans, has_route, has_read, has_base, ha
 pub fn spans(a: u8, b: u8, p: u8) -> bool
     ensures { result ≡ spans a b p }
 {
-    if a <= p {
-        return p <= b;
-    }
-    false
+    a <= p && p <= b
 }
 
 pub fn has_route(p: u8) -> bool
     ensures { result ≡ has_route p }
 {
-    if p == 2 {
-        return true;
-    }
-    if p == 4 {
-        return true;
-    }
-    if p == 23 {
-        return true;
-    }
-    p == 32
+    p == 2 || p == 4 || p == 23 || p == 32
 }
 
 pub fn has_base(p: u8) -> bool
     ensures { result ≡ has_base p }
 {
-    if p == 3 {
-        return true;
-    }
-    if p == 5 {
-        return true;
-    }
-    if spans(10, 15, p) {
-        return true;
-    }
-    spans(19, 25, p)
+    p == 3 || p == 5 || spans(10, 15, p) || spans(19, 25, p)
 }
 
 pub fn has_main(p: u8) -> bool
     ensures { result ≡ has_main p }
 {
-    if p == 16 {
-        return true;
-    }
-    spans(26, 51, p)
+    p == 16 || spans(26, 51, p)
 }
 
 pub fn has_hand(p: u8) -> bool
     ensures { result ≡ has_hand p }
 {
-    if spans(62, 67, p) {
-        return true;
-    }
-    spans(74, 80, p)
+    spans(62, 67, p) || spans(74, 80, p)
 }
 
 pub fn has_done(p: u8) -> bool
@@ -68,8 +41,5 @@ pub fn has_done(p: u8) -> bool
 pub fn has_backup(p: u8) -> bool
     ensures { result ≡ has_backup p }
 {
-    if p < 60 {
-        return true;
-    }
-    spans(70, 80, p)
+    p < 60 || spans(70, 80, p)
 }

@@ -1,12 +1,15 @@
 // A thread as a state has it; its frames are written by themselves (frame).
 ghost use Rattle.std.specs.Prelude.{◌≡◌, [], ◌++◌};
-ghost use Rattle.buffer.specs.Page.{page, put_all};
+ghost use Rattle.buffer.specs.Writes.{Writes};
 ghost use Rattle.steps.specs.Decision.{thread};
 ghost use Rattle.definitions.specs.Records.{action_number};
 ghost use Rattle.snapshot.specs.Layout.{thread_head};
 ghost use Rattle.snapshot.specs.Parts.{number_of, read_of, side_of, own_of, operation, flags, early, late};
 
-use definitions::{Action, Link};
+use super::bytes::{put_noted, put_one, put_pair, put_zeros};
+use super::places;
+use buffer::Page;
+use definitions::Action;
 use steps::Notes;
 
 // An action's number.
@@ -51,7 +54,7 @@ fn read_of(th: Notes) -> u8
 fn side_of(th: Notes) -> u8
     ensures { result ≡ side_of (thread th []) }
 {
-    if super::places::spans(22, 34, th.place) {
+    if places::spans(22, 34, th.place) {
         if th.left {
             return 1;
         }
@@ -61,81 +64,80 @@ fn side_of(th: Notes) -> u8
 }
 
 // Whether the main is its own.
+#[tactic(auto, using(buffer::proofs::Writes::writes), unfolding(container::specs::Choice::ite))]
 fn own_of(th: Notes) -> u8
     ensures { result ≡ own_of (thread th []) }
 {
-    if super::places::has_main(th.place) {
-        return super::bytes::flag_of(th.owner);
+    if places::has_main(th.place) {
+        return u8::from(th.owner);
     }
     0
 }
 
 // Its operation.
-fn put_operation(out: &mut [u8], at: usize, th: Notes) -> usize
-    ensures { page out.new result ≡ put_all (page out.old at) (operation (thread th [])) }
+fn put_operation(out: &mut Page, th: Notes)
+    ensures { Writes out.old out.new (operation (thread th [])) }
 {
     let number = number_of(th);
-    let a = buffer::put_two(out, at, th.place, number);
-    let b = buffer::put_byte(out, a, th.station);
-    super::bytes::put_pair(out, b, th.extra as u64)
+    out.put_all(&[th.place, number, th.station]);
+    put_pair(out, u64::from(th.extra));
 }
 
 // Its notes that are no nodes.
-fn put_flags(out: &mut [u8], at: usize, th: Notes) -> usize
-    ensures { page out.new result ≡ put_all (page out.old at) (flags (thread th [])) }
+fn put_flags(out: &mut Page, th: Notes)
+    ensures { Writes out.old out.new (flags (thread th [])) }
 {
     let read = read_of(th);
     let side = side_of(th);
     let own = own_of(th);
-    let a = buffer::put_two(out, at, read, side);
-    buffer::put_byte(out, a, own)
+    out.put_all(&[read, side, own]);
 }
 
 // Its nodes until a join has found its neighbour.
-fn put_early(out: &mut [u8], at: usize, th: Notes) -> usize
-    ensures { page out.new result ≡ put_all (page out.old at) (early (thread th [])) }
+fn put_early(out: &mut Page, th: Notes)
+    ensures { Writes out.old out.new (early (thread th [])) }
 {
     let p = th.place;
-    let has_route = super::places::has_route(p);
-    let has_base = super::places::has_base(p);
-    let has_parent = super::places::spans(19, 37, p);
-    let has_found = super::places::spans(24, 29, p);
-    let a = super::bytes::put_noted(out, at, has_route, Link::To(th.route));
-    let b = super::bytes::put_noted(out, a, has_base, Link::To(th.base));
-    let c = super::bytes::put_noted(out, b, has_parent, Link::To(th.parent));
-    super::bytes::put_noted(out, c, has_found, Link::To(th.found))
+    let has_route = places::has_route(p);
+    let has_base = places::has_base(p);
+    let has_parent = places::spans(19, 37, p);
+    let has_found = places::spans(24, 29, p);
+    put_noted(out, has_route, Some(th.route));
+    put_noted(out, has_base, Some(th.base));
+    put_noted(out, has_parent, Some(th.parent));
+    put_noted(out, has_found, Some(th.found));
 }
 
 // Its nodes after that.
-fn put_late(out: &mut [u8], at: usize, th: Notes) -> usize
-    ensures { page out.new result ≡ put_all (page out.old at) (late (thread th [])) }
+fn put_late(out: &mut Page, th: Notes)
+    ensures { Writes out.old out.new (late (thread th [])) }
 {
     let p = th.place;
-    let has_neighbour = super::places::spans(30, 35, p);
-    let has_main = super::places::has_main(p);
-    let has_grandparent = super::places::spans(33, 36, p);
+    let has_neighbour = places::spans(30, 35, p);
+    let has_main = places::has_main(p);
+    let has_grandparent = places::spans(33, 36, p);
     let grandparent = th.grandparent;
-    let a = super::bytes::put_noted(out, at, has_neighbour, Link::To(th.neighbour));
-    let b = super::bytes::put_noted(out, a, has_main, Link::To(th.main));
-    let c = super::bytes::put_noted(out, b, has_grandparent, grandparent);
-    super::bytes::put_noted(out, c, p == 35, Link::To(th.other))
+    put_noted(out, has_neighbour, Some(th.neighbour));
+    put_noted(out, has_main, Some(th.main));
+    put_noted(out, has_grandparent, grandparent);
+    put_noted(out, p == 35, Some(th.other));
 }
 
 // Its first 24 bytes.
-fn put_notes(out: &mut [u8], at: usize, th: Notes) -> usize
-    ensures { page out.new result ≡ put_all (page out.old at) (operation (thread th []) ++ (flags (thread th []) ++ (early (thread th []) ++ late (thread th [])))) }
+fn put_notes(out: &mut Page, th: Notes)
+    ensures { Writes out.old out.new (operation (thread th []) ++ (flags (thread th []) ++ (early (thread th []) ++ late (thread th [])))) }
 {
-    let a = put_operation(out, at, th);
-    let b = put_flags(out, a, th);
-    let c = put_early(out, b, th);
-    put_late(out, c, th)
+    put_operation(out, th);
+    put_flags(out, th);
+    put_early(out, th);
+    put_late(out, th);
 }
 
 // Its first 32 bytes; n is how many frames it has.
-pub fn put_head(out: &mut [u8], at: usize, th: Notes, n: u64) -> usize
-    ensures { page out.new result ≡ put_all (page out.old at) (thread_head n (thread th [])) }
+pub fn put_head(out: &mut Page, th: Notes, n: u64)
+    ensures { Writes out.old out.new (thread_head n (thread th [])) }
 {
-    let a = put_notes(out, at, th);
-    let b = super::bytes::put_one(out, a, n);
-    super::bytes::put_zeros(out, b, 7)
+    put_notes(out, th);
+    put_one(out, n);
+    put_zeros(out, 7);
 }

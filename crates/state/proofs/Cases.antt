@@ -1,17 +1,16 @@
 -- What each function has written, one law for each way out; p is the page before, v the file's version. Assumes nothing.
-use mathlib.Core.Path.{◌≡◌, refl, sym, ap, ◌∙◌}
+use Rattle.std.specs.Prelude.{Option, None}
+use mathlib.Core.Path.{◌≡◌, refl, ap}
 use mathlib.Core.Bool.{false}
 use mathlib.Core.List.{List, [], ◌∷◌, ◌++◌}
 use Prim.Native.Nat.{ℕ, ◌+◌, ◌≤◌, ◌<◌}
 use native.Mathlib.Numerals.{add-one}
 use native.Mathlib.Omega.{arith}
-use borrow.Author.Tests.{eq-eqb, ne_eqb}
+use borrow.Author.Tests.{ne_eqb}
 use lib.Dec.{eqb}
 use lib.ListN.{length, get_or}
 use Rattle.container.specs.Choice.{ite}
 use Rattle.container.specs.Container.{all}
-use Rattle.buffer.specs.Page.{Page, put, put_all}
-use Rattle.buffer.proofs.Laws.{joined}
 use Rattle.depths.specs.Rows.{Rows, full}
 use Rattle.frames.specs.View.{frames_of}
 use Rattle.steps.specs.declared.Notes.{Notes}
@@ -19,16 +18,13 @@ use Rattle.steps.specs.Decision.{thread}
 use Rattle.definitions.specs.Nodes.{Shapes, Stores}
 use Rattle.definitions.specs.Threads.{Frame}
 use Rattle.definitions.specs.Schedule.{file_refusal}
+use Rattle.definitions.specs.Refusal.{code_of}
 use Rattle.definitions.specs.Run.{bytes_of}
 use Rattle.definitions.specs.declared.Action.TheVariants.{Lookup}
-use Rattle.definitions.specs.declared.Link.TheVariants.{Nil}
-use Rattle.definitions.specs.declared.Shared.{Shared}
-use Rattle.definitions.specs.declared.Shared.TheVariants.{Unset}
 use Rattle.run.specs.declared.Standing.{Standing}
-use Rattle.run.specs.Threads.{none, framed, threads_of}
-use Rattle.run.proofs.Threads.{within, framed_own, frames_count}
+use Rattle.run.specs.Threads.{none, threads_of}
+use Rattle.run.proofs.Threads.{within, frames_count}
 use Rattle.run.proofs.Room.{by_file, by_room, by_none}
-use Rattle.snapshot.proofs.Pages.{begun, four}
 use Rattle.snapshot.specs.Layout.{zeros, flag, each, shared_bytes, thread_head, frames_bytes, thread_bytes, reached_below, node_bytes}
 use Rattle.snapshot.specs.State.{state_refusal}
 use Rattle.state.specs.Parts.{head_bytes, bench_bytes}
@@ -48,52 +44,28 @@ module _ (file : List ℕ) (room : ℕ) {bad : ℕ} (e : bad ≡ file_refusal fi
   refusal_none z l = by_none room _ 25 e z l
 
 -- ---- the head
-pub stop_on : (v : ℕ) → v ≡ 3 → 1 ≡ flag (eqb v 3)
-stop_on v e = rw (eq-eqb v 3 e)
-
-pub stop_off : (v : ℕ) → (v ≡ 3 → ⊥) → 0 ≡ flag (eqb v 3)
-stop_off v n = rw (ne_eqb v 3 n)
-
-pub head_put : (p : Page) (v : ℕ) (s : Standing) {y n : ℕ} {a b c d e f g h : Page} → y ≡ flag (eqb v 3) → n ≡ get_or s.frames 4 0
-    → a ≡ put_all p (1 ∷ v ∷ []) → b ≡ put_all a (bytes_of 2 s.done) → c ≡ put_all b (s.refusal ∷ s.root ∷ []) → d ≡ put_all c (bytes_of 2 s.used) → e ≡ put_all d (bytes_of 1 s.shown)
-    → f ≡ put e y → g ≡ put_all f (bytes_of 1 n) → h ≡ put_all g (zeros 5) → h ≡ put_all p (head_bytes v s)
-head_put p v s {y} {n} i j ea eb ec ed ee ef eg eh =
-    let t5 = bytes_of 1 n ++ zeros 5 in
-    let t4 = bytes_of 1 s.shown ++ y ∷ t5 in
-    let t3 = bytes_of 2 s.used ++ t4 in
-    let t2 = bytes_of 2 s.done ++ s.refusal ∷ s.root ∷ t3 in
-    joined p (1 ∷ v ∷ []) t2 ea
-    (joined _ (bytes_of 2 s.done) (s.refusal ∷ s.root ∷ t3) eb
-    (joined _ (s.refusal ∷ s.root ∷ []) t3 ec
-    (joined _ (bytes_of 2 s.used) t4 ed
-    (joined _ (bytes_of 1 s.shown) (y ∷ t5) ee
-    (begun _ y t5 ef
-    (joined _ (bytes_of 1 n) (zeros 5) eg eh))))))
-    ∙ rw (i, j)
+pub head_parts : (v : ℕ) (s : Standing) {y r : ℕ} → y ≡ flag (eqb v 3) → r ≡ code_of s.refusal
+    → 1 ∷ v ∷ (bytes_of 2 s.done ++ r ∷ s.root ∷ (bytes_of 2 s.used ++ (bytes_of 1 s.shown ++ y ∷ (bytes_of 1 s.count ++ zeros 5)))) ≡ head_bytes v s
+head_parts v s i j = rw (i, j)
 
 -- ---- one after another
-module _ (p : Page) (f : ℕ → List ℕ) where
-  pub each_start : p ≡ put_all p (each f 0)
-  unfolding each put_all
-  each_start = refl
+pub each_more : (f : ℕ → List ℕ) (k : ℕ) {xs : List ℕ} → xs ≡ f k → each f k ++ xs ≡ each f (k + 1)
+unfolding each
+each_more f k e = rw (add-one k, e)
 
-  pub each_step : (k : ℕ) {ys : List ℕ} {q r : Page} → q ≡ put_all p (each f k) → r ≡ put_all q ys → ys ≡ f k → r ≡ put_all p (each f (k + 1))
-  unfolding each
-  each_step k {ys} e g h = rw (add-one k, ← h) (joined p (each f k) ys e g)
-
-  pub each_done : (k n : ℕ) {q : Page} → k ≤ n → n ≤ k → q ≡ put_all p (each f k) → q ≡ put_all p (each f n)
-  each_done k n l m e = let same : k ≡ n = omega arith in e ∙ ap (λ (j : ℕ). put_all p (each f j)) same
+pub each_none : (f : ℕ → List ℕ) → each f 0 ≡ []
+unfolding each
+each_none f = refl
 
 -- ---- a thread: its notes th, its n frames
-module _ (p : Page) (v : ℕ) (th : Notes) (h : ℕ → Frame) (t n : ℕ) where
-  pub thread_flat : {a b : Page} → v ≡ 1 → a ≡ put_all p (thread_head 0 (thread th [])) → b ≡ put_all a (zeros 784) → b ≡ put_all p (thread_bytes (v ∷ []) (thread th (frames_of h t n)))
+module _ (v : ℕ) (th : Notes) (h : ℕ → Frame) (t n : ℕ) where
+  pub thread_flat : v ≡ 1 → thread_head 0 (thread th []) ++ zeros 784 ≡ thread_bytes (v ∷ []) (thread th (frames_of h t n))
   unfolding thread_bytes thread_head ite
-  thread_flat e f g = joined p (thread_head 0 (thread th [])) (zeros 784) f g ∙ rw e
+  thread_flat e = rw e
 
-  pub thread_deep : {a b : Page} → (v ≡ 1 → ⊥) → a ≡ put_all p (thread_head n (thread th [])) → b ≡ put_all a (frames_bytes 4 th.place (frames_of h t n))
-      → b ≡ put_all p (thread_bytes (v ∷ []) (thread th (frames_of h t n)))
+  pub thread_deep : (v ≡ 1 → ⊥) → thread_head n (thread th []) ++ frames_bytes 4 th.place (frames_of h t n) ≡ thread_bytes (v ∷ []) (thread th (frames_of h t n))
   unfolding thread_bytes thread_head ite
-  thread_deep e f g = joined p (thread_head n (thread th [])) (frames_bytes 4 th.place (frames_of h t n)) f g ∙ rw (ne_eqb v 1 e, frames_count h t n)
+  thread_deep e = rw (ne_eqb v 1 e, frames_count h t n)
 
 -- what the code would read past the thread table's end
 abbrev pub past : Notes
@@ -112,7 +84,7 @@ past =
       neighbour = 0;
       main = 0;
       owner = false;
-      grandparent = Nil;
+      grandparent = None;
       other = 0;
     }
 
@@ -121,18 +93,14 @@ pub thread_at : (v : ℕ) (l : List Notes) (c : List ℕ) (h : ℕ → Frame) (t
     → thread_bytes (v ∷ []) (thread (get_or l t past) (frames_of h t (get_or c t 0))) ≡ thread_bytes (v ∷ []) (threads_of l c h t)
 thread_at v l c h t i j =
     ap (λ (w : Notes). thread_bytes (v ∷ []) (thread w (frames_of h t (get_or c t 0)))) (within l t past none (omega arith))
-    ∙ ap (λ (n : ℕ). thread_bytes (v ∷ []) (thread (get_or l t none) (frames_of h t n))) (sym (framed_own c t j))
-
-pub thread_few : (c : List ℕ) (t : ℕ) → ((u : ℕ) → framed c u ≤ 4) → t < 4 → get_or c t 0 ≤ 4
-thread_few c t h i = omega (arith, h t, framed_own c t i)
 
 -- ---- a node, whose range has been read
-pub node_at : (v : ℕ) (t : Shapes) (d : Rows) (x : ℕ) {range range' : Shared} → range ≡ range' → node_bytes (v ∷ []) range (full t d x) ≡ node_bytes (v ∷ []) range' (full t d x)
-node_at v t d x e = ap (λ (r : Shared). node_bytes (v ∷ []) r (full t d x)) e
+pub node_at : (v : ℕ) (t : Shapes) (d : Rows) (x : ℕ) {range range' : Option ℕ} → range ≡ range' → node_bytes (v ∷ []) range (full t d x) ≡ node_bytes (v ∷ []) range' (full t d x)
+node_at v t d x e = ap (λ (r : Option ℕ). node_bytes (v ∷ []) r (full t d x)) e
 
 -- ---- the whole; w has the ranges of the nodes that are reachable
-pub bench_put : (p : Page) (v : ℕ) (s : Standing) (t : Shapes) (d : Rows) (k : Stores) (h : ℕ → Frame) (w : Stores) {a b c e : Page} → w ≡ reached_below 63 t s.root all (λ _. Unset)
-    → a ≡ put_all p (head_bytes v s) → b ≡ put_all a (each (λ u. thread_bytes (v ∷ []) (threads_of s.threads s.frames h u)) 4)
-    → c ≡ put_all b (each (λ x. node_bytes (v ∷ []) (w x) (full t d x)) s.used) → e ≡ put_all c (each (λ j. shared_bytes (k j)) s.shown) → e ≡ put_all p (bench_bytes v s t d k h)
+pub bench_parts : (v : ℕ) (s : Standing) (t : Shapes) (d : Rows) (k : Stores) (h : ℕ → Frame) (w : Stores) → w ≡ reached_below 63 t s.root all (λ _. None)
+    → head_bytes v s ++ (each (λ u. thread_bytes (v ∷ []) (threads_of s.threads s.frames h u)) 4 ++ (each (λ x. node_bytes (v ∷ []) (w x) (full t d x)) s.used ++ each (λ j. shared_bytes (k j)) s.shown))
+    ≡ bench_bytes v s t d k h
 unfolding bench_bytes
-bench_put p v s t d k h w q ea eb ec ee = four p _ _ _ _ ea eb (rw q at ec) ee
+bench_parts v s t d k h w q = rw q

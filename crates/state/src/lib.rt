@@ -1,242 +1,189 @@
 // State: the whole bench after the first records of a schedule, as bytes in a lent buffer (docs/STATE.md).
-#![tactic(auto)]
+#![tactic(auto, using(buffer::proofs::Writes::writes, crate::proofs::Cases::each_none))]
 
-ghost use Rattle.std.specs.Prelude.{◌≡◌, [], ◌∷◌, ℕ, ◌+◌, ◌*◌, ◌<◌, ◌≤◌, eqb, length, get_or};
+ghost use Rattle.std.specs.Prelude.{◌≡◌, OnOk, [], ◌∷◌, ℕ, ◌+◌, ◌*◌, ◌<◌, ◌≤◌, eqb, length, get_or};
 ghost use Rattle.container.specs.Choice.{ite};
 ghost use Rattle.buffer.specs.Page.{page, put_all};
-ghost use Rattle.nodes.specs.Cells.{table};
+ghost use Rattle.buffer.specs.Writes.{Writes};
+ghost use Rattle.nodes.specs.Table.{table};
 ghost use Rattle.nodes.specs.Stores.{stores};
 ghost use Rattle.depths.specs.Rows.{rows, full};
-ghost use Rattle.frames.specs.View.{frames_of};
+ghost use Rattle.frames.specs.View.{held, frames_of};
 ghost use Rattle.steps.specs.Decision.{thread};
 ghost use Rattle.schedule.specs.Proper.{Proper};
 ghost use Rattle.definitions.specs.Versions.{version, width};
+ghost use Rattle.definitions.specs.Refusal.{code_of};
 ghost use Rattle.definitions.specs.Schedule.{count_of, file_refusal};
 ghost use Rattle.definitions.specs.Run.{after, ended, overlay};
-ghost use Rattle.run.specs.Standing.{Lent, Spare};
-ghost use Rattle.run.specs.Threads.{framed, threads_of, held_in};
+ghost use Rattle.run.specs.Standing.{Enough};
+ghost use Rattle.run.specs.Threads.{threads_of};
 ghost use Rattle.snapshot.specs.Layout.{flag, each, shared_bytes, thread_bytes, node_bytes};
 ghost use Rattle.snapshot.specs.State.{state_bytes, stated_at, state_refusal, state_report, state_buffer};
 ghost use Rattle.state.specs.Parts.{head_bytes, bench_bytes, There, Few};
 
+use buffer::Page;
+use definitions::{Nodes, Refusal};
+use frames::frame::Frame;
 use run::Standing;
 use snapshot::{Stated, bytes, frame, node, thread};
 use steps::Notes;
 
-// The refusal of a file and a buffer, 0 for none.
-pub fn refusal_of(schedule: &[u8], room: usize) -> u64
-    ensures { (result ≡ state_refusal schedule.now room) × (result ≡ 0 → Proper schedule.now) }
+// Whether State can be asked of a file and a buffer of `room` bytes.
+pub fn check(schedule: &[u8], room: usize) -> Result<(), Refusal>
+    ensures refusal { code_of result ≡ state_refusal schedule.now room }
+    ensures proper { OnOk result (Proper schedule.now) }
 {
-    let wrong = schedule::file_refusal(schedule);
-    if wrong == 0 {
-        if room < 48912 {
-            return 25;
-        }
-        return 0;
+    schedule::check(schedule)?;
+    if room < 48912 {
+        return Err(Refusal::StateBuffer);
     }
-    wrong
+    Ok(())
 }
 
 // 1 where the stop is on.
 fn stop_flag(v: u8) -> u8
     ensures { result ≡ flag (eqb v 3) }
 {
-    if v == 3 { 1 } else { 0 }
+    u8::from(v == 3)
 }
 
 // The first 16 bytes.
-fn put_head(out: &mut [u8], v: u8, s: Standing) -> usize
-    ensures { page out.new result ≡ put_all (page out.old 0) (head_bytes v s) }
+fn put_head(out: &mut Page, v: u8, s: Standing)
+    ensures { Writes out.old out.new (head_bytes v s) }
 {
-    let frames = s.frames;
+    let refusal = run::code(s.refusal);
     let on = stop_flag(v);
-    let a = buffer::put_two(out, 0, 1, v);
-    let b = bytes::put_pair(out, a, s.done as u64);
-    let c = buffer::put_two(out, b, s.refusal, s.root);
-    let d = bytes::put_pair(out, c, s.used as u64);
-    let e = bytes::put_one(out, d, s.shown as u64);
-    let f = buffer::put_byte(out, e, on);
-    let g = bytes::put_one(out, f, frames[4] as u64);
-    bytes::put_zeros(out, g, 5)
+    out.put_all(&[1, v]);
+    bytes::put_pair(out, s.done as u64);
+    out.put_all(&[refusal, s.root]);
+    bytes::put_pair(out, s.used as u64);
+    bytes::put_one(out, s.shown as u64);
+    out.put(on);
+    bytes::put_one(out, s.count as u64);
+    bytes::put_zeros(out, 5);
 }
 
 // Thread t, 816 bytes. Version 1 has no frames.
-fn put_thread(
-    out: &mut [u8],
-    at: usize,
-    v: u8,
-    th: Notes,
-    stacks: &[[u8; 1408]],
-    backups: &[[u8; 1408]],
-    notes: &[[u8; 128]],
-    words: &[[u64; 64]],
-    t: usize,
-    n: usize,
-) -> usize
-    requires { (t < 4) × ((n ≤ 4) × There v stacks.now backups.now notes.now words.now) }
-    ensures { page out.new result ≡ put_all (page out.old at) (thread_bytes (v ∷ []) (thread th (frames_of (held_in stacks.now backups.now notes.now words.now) t n))) }
+fn put_thread(out: &mut Page, v: u8, th: Notes, lent: &[Frame], t: usize, n: usize)
+    requires { (t < 4) × ((n ≤ 4) × There v lent.now) }
+    ensures { Writes out.old out.new (thread_bytes (v ∷ []) (thread th (frames_of (held lent.now) t n))) }
 {
     if v == 1 {
-        let a = thread::put_head(out, at, th, 0);
-        return bytes::put_zeros(out, a, 784);
+        thread::put_head(out, th, 0);
+        bytes::put_zeros(out, 784);
+    } else {
+        let place = th.place;
+        thread::put_head(out, th, n as u64);
+        frame::put_frames(out, lent, t, n, place);
     }
-    let a = thread::put_head(out, at, th, n as u64);
-    frame::put_frames(
-        out,
-        a,
-        &stacks[0],
-        &backups[0],
-        &notes[0],
-        &words[0],
-        t,
-        n,
-        th.place,
-    )
 }
 
 // The four threads.
-fn put_threads(
-    out: &mut [u8],
-    at: usize,
-    v: u8,
-    threads: [Notes; 4],
-    frames: [usize; 5],
-    stacks: &[[u8; 1408]],
-    backups: &[[u8; 1408]],
-    notes: &[[u8; 128]],
-    words: &[[u64; 64]],
-) -> usize
-    requires { ((t : ℕ) → framed frames t ≤ 4) × There v stacks.now backups.now notes.now words.now }
-    ensures { page out.new result ≡ put_all (page out.old at) (each (λ t. thread_bytes (v ∷ []) (threads_of threads frames (held_in stacks.now backups.now notes.now words.now) t)) 4) }
+fn put_threads(out: &mut Page, v: u8, threads: [Notes; 4], frames: [usize; 4], lent: &[Frame])
+    requires { ((t : ℕ) → get_or frames t 0 ≤ 4) × There v lent.now }
+    ensures { Writes out.old out.new (each (λ t. thread_bytes (v ∷ []) (threads_of threads frames (held lent.now) t)) 4) }
 {
-    let mut next = at;
-    let mut t = 0usize;
-    while t < 4 {
-        let th = threads[t];
-        let n = frames[t];
-        next = put_thread(out, next, v, th, stacks, backups, notes, words, t, n);
-        t += 1;
+    for t in 0..4 {
+        put_thread(out, v, threads[t], lent, t, frames[t]);
     }
-    next
 }
 
-// The nodes below `used`; `seen` and `ranges` have the ranges of those that are reachable.
+// The nodes below `used`; `ranges` has the ranges of those that are reachable.
 fn put_nodes(
-    out: &mut [u8],
-    at: usize,
-    cells: &[u8; 5120],
-    sets: &[u64; 256],
+    out: &mut Page,
+    nodes: &Nodes,
     depths: &[u16],
     v: u8,
-    seen: &[u8; 256],
-    ranges: &[u64],
+    ranges: &[Option<u64>],
     used: u16,
-) -> usize
+)
     requires { used ≤ 256 }
-    ensures { page out.new result ≡ put_all (page out.old at) (each (λ x. node_bytes (v ∷ []) (stores seen.now ranges.now x) (full (table cells.now sets.now) (rows depths.now) x)) used) }
+    ensures { Writes out.old out.new (each (λ x. node_bytes (v ∷ []) (stores ranges.now x) (full (table nodes.now) (rows depths.now) x)) used) }
 {
-    let mut next = at;
-    let mut x = 0u16;
-    while x < used {
-        let i = x as u8;
-        let range = nodes::result_at(seen, ranges, i);
-        next = node::put_node(out, next, cells, sets, depths, v, range, i);
-        x += 1;
+    for x in 0..used {
+        let range = nodes::result_at(ranges, x as u8);
+        node::put_node(out, nodes, depths, v, range, x as u8);
     }
-    next
 }
 
 // The stores below `shown`.
-fn put_stores(out: &mut [u8], at: usize, flags: &[u8; 256], results: &[u64], shown: u16) -> usize
+fn put_stores(out: &mut Page, results: &[Option<u64>], shown: u16)
     requires { shown ≤ 256 }
-    ensures { page out.new result ≡ put_all (page out.old at) (each (λ j. shared_bytes (stores flags.now results.now j)) shown) }
+    ensures { Writes out.old out.new (each (λ j. shared_bytes (stores results.now j)) shown) }
 {
-    let mut next = at;
-    let mut j = 0u16;
-    while j < shown {
-        let i = j as u8;
-        let result = nodes::result_at(flags, results, i);
-        next = bytes::put_shared(out, next, result);
-        j += 1;
+    for j in 0..shown {
+        bytes::put_shared(out, nodes::result_at(results, j as u8));
     }
-    next
 }
 
 // The whole bench, where a run stands as s says over the memory that it was lent.
 fn put_bench(
+    out: &mut Page,
+    v: u8,
+    s: Standing,
+    nodes: &Nodes,
+    depths: &[u16],
+    results: &[Option<u64>],
+    lent: &[Frame],
+)
+    requires { Few s × There v lent.now }
+    ensures { Writes out.old out.new (bench_bytes v s (table nodes.now) (rows depths.now) (stores results.now) (held lent.now)) }
+{
+    let mut ranges = [None; 256];
+    node::reach(nodes, &mut ranges, s.root, u64::MAX, 63);
+    put_head(out, v, s);
+    put_threads(out, v, s.threads, s.frames, lent);
+    put_nodes(out, nodes, depths, v, &ranges, s.used);
+    put_stores(out, results, s.shown);
+}
+
+// The same from the start of a buffer; gives its length.
+fn write_bench(
     out: &mut [u8],
     v: u8,
     s: Standing,
-    cells: &[u8; 5120],
-    sets: &[u64; 256],
+    nodes: &Nodes,
     depths: &[u16],
-    flags: &[u8; 256],
-    results: &[u64],
-    stacks: &[[u8; 1408]],
-    backups: &[[u8; 1408]],
-    notes: &[[u8; 128]],
-    words: &[[u64; 64]],
+    results: &[Option<u64>],
+    lent: &[Frame],
 ) -> usize
-    requires { Few s × There v stacks.now backups.now notes.now words.now }
-    ensures { page out.new result ≡ put_all (page out.old 0) (bench_bytes v s (table cells.now sets.now) (rows depths.now) (stores flags.now results.now) (held_in stacks.now backups.now notes.now words.now)) }
+    requires { Few s × There v lent.now }
+    ensures { page out.new result ≡ put_all (page out.old 0) (bench_bytes v s (table nodes.now) (rows depths.now) (stores results.now) (held lent.now)) }
 {
-    let mut seen = [0u8; 256];
-    let mut ranges = [0u64; 256];
-    node::reach(
-        cells,
-        sets,
-        &mut seen,
-        &mut ranges[..],
-        s.root,
-        18446744073709551615,
-        63,
-    );
-    let threads = s.threads;
-    let frames = s.frames;
-    let a = put_head(out, v, s);
-    let b = put_threads(out, a, v, threads, frames, stacks, backups, notes, words);
-    let c = put_nodes(out, b, cells, sets, depths, v, &seen, &ranges[..], s.used);
-    put_stores(out, c, flags, results, s.shown)
+    let mut bytes = Page { bytes: out, at: 0 };
+    put_bench(&mut bytes, v, s, nodes, depths, results, lent);
+    bytes.at
 }
 
-// State of a file that is not refused, over the memory that is lent. Each thread's frames are written, so from version 2 on their arrays
-// are there, also for a file that asks for no query.
-fn report(
-    depths: &mut [u16],
-    results: &mut [u64],
-    stacks: &mut [[u8; 1408]],
-    backups: &mut [[u8; 1408]],
-    notes: &mut [[u8; 128]],
-    words: &mut [[u64; 64]],
+// State of a file that is not refused, with so many depths, results of stores, and frames. Each thread's frames are written, so from version
+// 2 on they are there, also for a file that asks for no query. Each instance has a stack frame of its own, as Run's.
+#[inline(never)]
+fn report<const DEPTHS: usize, const RESULTS: usize, const FRAMES: usize>(
     schedule: &[u8],
     out: &mut [u8],
 ) -> Stated
-    requires { Proper schedule.now × (Lent schedule.now depths.old × (Spare schedule.now results.old stacks.old backups.old notes.old words.old × (There (version schedule.now) stacks.old backups.old notes.old words.old × (48912 ≤ length out.old)))) }
+    requires proper { Proper schedule.now }
+    requires enough { Enough schedule.now DEPTHS RESULTS FRAMES }
+    requires there { (version schedule.now ≡ 1 → ⊥) → FRAMES ≡ 16 }
+    requires room { 48912 ≤ length out.old }
     ensures { (result ≡ stated_at schedule.now (ended schedule.now)) × (out.new ≡ overlay (state_bytes schedule.now (ended schedule.now)) out.old) }
 {
-    let mut cells = [0u8; 5120];
-    let mut sets = [0u64; 256];
-    let mut flags = [0u8; 256];
-    let mut none = [0u8; 1];
-    let v = schedule[0];
+    let mut nodes = nodes::fresh();
+    let mut depths = [0u16; DEPTHS];
+    let mut results = [None; RESULTS];
+    let mut lent = [Frame::EMPTY; FRAMES];
+    let mut none = [0u8; 0];
     let p = run::carry_out(
-        &mut cells,
-        &mut sets,
-        depths,
-        &mut flags,
-        results,
-        stacks,
-        backups,
-        notes,
-        words,
+        &mut nodes,
+        &mut depths,
+        &mut results,
+        &mut lent,
         schedule,
-        &mut none[..0],
+        &mut none,
     );
-    let at = put_bench(
-        out, v, p, &cells, &sets, depths, &flags, results, stacks, backups, notes, words,
-    );
+    let at = write_bench(out, schedule[0], p, &nodes, &depths, &results, &lent);
     Stated {
-        refusal: p.refusal as u64,
+        refusal: u64::from(run::code(p.refusal)),
         records: p.done as u64,
         length: at as u64,
     }
@@ -248,39 +195,10 @@ fn whole(schedule: &[u8], out: &mut [u8]) -> Stated
     ensures { (result ≡ stated_at schedule.now (ended schedule.now)) × (out.new ≡ overlay (state_bytes schedule.now (ended schedule.now)) out.old) }
 {
     if schedule[0] == 1 {
-        let mut depths = [0u16; 0];
-        let mut results = [0u64; 0];
-        let mut stacks = [[0u8; 1408]; 0];
-        let mut backups = [[0u8; 1408]; 0];
-        let mut notes = [[0u8; 128]; 0];
-        let mut words = [[0u64; 64]; 0];
-        return report(
-            &mut depths[..],
-            &mut results[..],
-            &mut stacks[..],
-            &mut backups[..],
-            &mut notes[..],
-            &mut words[..],
-            schedule,
-            out,
-        );
+        report::<0, 0, 0>(schedule, out)
+    } else {
+        report::<16384, 256, 16>(schedule, out)
     }
-    let mut depths = [0u16; 16384];
-    let mut results = [0u64; 256];
-    let mut stacks = [[0u8; 1408]; 1];
-    let mut backups = [[0u8; 1408]; 1];
-    let mut notes = [[0u8; 128]; 1];
-    let mut words = [[0u64; 64]; 1];
-    report(
-        &mut depths[..],
-        &mut results[..],
-        &mut stacks[..],
-        &mut backups[..],
-        &mut notes[..],
-        &mut words[..],
-        schedule,
-        out,
-    )
 }
 
 // State of the first k records, which end at byte `end`: they are a file of their own, with k in its header.
@@ -299,21 +217,19 @@ fn before(schedule: &[u8], end: usize, k: usize, out: &mut [u8]) -> Stated
 pub fn state(schedule: &[u8], records: u64, out: &mut [u8]) -> Stated
     ensures { (result ≡ state_report schedule.now records (length out.old)) × (out.new ≡ state_buffer schedule.now records out.old) }
 {
-    let room = out.len();
-    let bad = refusal_of(schedule, room);
-    if bad == 0 {
-        let count = schedule::count_of(schedule);
-        if records < count as u64 {
-            let k = records as usize;
-            let v = schedule::version_of(schedule);
-            let end = writer::start_of(v, k);
-            return before(schedule, end, k, out);
-        }
-        return whole(schedule, out);
+    if let Err(r) = check(schedule, out.len()) {
+        return Stated {
+            refusal: u64::from(r),
+            records: 0,
+            length: 0,
+        };
     }
-    Stated {
-        refusal: bad,
-        records: 0,
-        length: 0,
+    let count = schedule::count_of(schedule);
+    if records < count as u64 {
+        let k = records as usize;
+        let v = schedule::version_of(schedule);
+        let end = writer::start_of(v, k);
+        return before(schedule, end, k, out);
     }
+    whole(schedule, out)
 }

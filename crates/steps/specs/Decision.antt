@@ -1,62 +1,46 @@
 -- A thread in code: its notes, and its frames apart from them. The turn of the definitions that a decision of the code stands for.
-use Rattle.std.specs.Prelude.{ℕ, zero, suc, ◌≡◌, Bool, true, false, List, [], ◌∷◌, eqb}
+use Rattle.std.specs.Prelude.{ℕ, ◌≡◌, Bool, List, [], ◌∷◌, eqb, Option, None}
 use Rattle.container.specs.Choice.{ite}
-use Rattle.definitions.specs.Nodes.{Shapes, child_for}
+use Rattle.definitions.specs.Nodes.{Shapes, child_for, is_route}
 use Rattle.definitions.specs.Threads.{Frame, Thread, new_frame, Turn, Moves, Finishes, Finds, Full, NoStore}
 use Rattle.definitions.specs.Frames.{back}
 use Rattle.definitions.specs.Places.{to, to_route, to_base, to_parent, to_side, to_found, to_neighbour, to_main, to_grandparent, to_other, to_frames}
-use Rattle.definitions.specs.Steps.{goes, reached, onward, one_more, followed, at_leaf, beside}
-use Rattle.definitions.specs.declared.Link.TheVariants.{Nil, To}
-use Rattle.definitions.specs.declared.Effect.{Effect}
+use Rattle.definitions.specs.Steps.{goes, reached, onward, one_more, followed, at_leaf}
 use Rattle.definitions.specs.declared.Effect.TheVariants.{Quiet}
-use Rattle.definitions.specs.declared.Answer.{Answer}
-use Rattle.effects.specs.declared.Write.{Write}
 use Rattle.effects.specs.Writes.{effect_of}
 use Rattle.steps.specs.declared.Notes.{Notes}
 use Rattle.steps.specs.declared.Note.{Note}
-use Rattle.steps.specs.declared.Note.TheVariants.{Nothing, Route, Base, Parent, Left, Right, Found, Neighbour, Owned, Helped, Topmost, Grandparent, Other, Opened}
 use Rattle.steps.specs.declared.Decision.{Decision}
+use Rattle.steps.specs.declared.Decision.TheVariants.{Goes, Answers, NodesOut, Back}
 
 -- the thread with these notes and these frames
 abbrev pub thread : Notes → List Frame → Thread
 thread n fs = record { action = n.action; station = n.station; extra = n.extra; place = n.place; route = n.route; read = n.read; base = n.base; parent = n.parent; left = n.left; found = n.found; neighbour = n.neighbour; main = n.main; owner = n.owner; grandparent = n.grandparent; other = n.other; frames = fs }
 
--- the thread th at the place p, with the value v noted, or with a new frame on top of the others
-abbrev pub noted : Note → Frame → ℕ → ℕ → Thread → Thread
-noted Nothing f p v th = to p th
-noted Route f p v th = to_route p v th
-noted Base f p v th = to_base p v th
-noted Parent f p v th = to_parent p v th
-noted Left f p v th = to_side p true th
-noted Right f p v th = to_side p false th
-noted Found f p v th = to_found p v th
-noted Neighbour f p v th = to_neighbour p v th
-noted Owned f p v th = to_main p v true th
-noted Helped f p v th = to_main p v false th
-noted Topmost f p v th = to_grandparent p Nil th
-noted Grandparent f p v th = to_grandparent p (To v) th
-noted Other f p v th = to_other p v th
-noted Opened f p v th = to_frames p (f ∷ th.frames) th
-
--- what is written
-abbrev pub written : Bool → Write → Effect
-written false w = Quiet
-written true w = effect_of w
-
--- v is the thread th with its note
-abbrev pub turn_by : ℕ → Thread → Thread → Effect → Answer → Turn
-turn_by zero th v e a = Moves v e
-turn_by (suc zero) th v e a = Finishes e a
-turn_by (suc (suc zero)) th v e a = Full
-turn_by (suc (suc (suc _))) th v e a = back e th
+-- the thread th at the place p, with a note of its own, or with the frame f on top of the others
+abbrev pub noted : Note → Frame → ℕ → Thread → Thread
+noted Note.Nothing f p th = to p th
+noted (Note.Route x) f p th = to_route p x th
+noted (Note.Base x) f p th = to_base p x th
+noted (Note.Parent x) f p th = to_parent p x th
+noted (Note.Side d) f p th = to_side p d th
+noted (Note.Found x) f p th = to_found p x th
+noted (Note.Neighbour x) f p th = to_neighbour p x th
+noted (Note.Main x o) f p th = to_main p x o th
+noted (Note.Grandparent g) f p th = to_grandparent p g th
+noted (Note.Other x) f p th = to_other p x th
+noted Note.Opened f p th = to_frames p (f ∷ th.frames) th
 
 -- the turn of the thread th; f is the frame that it puts on top, where it does
 abbrev pub turn_of : Frame → Thread → Decision → Turn
-turn_of f th d = turn_by d.what th (noted d.note f d.place d.value th) (written d.writes d.effect) d.answer
+turn_of f th (Goes e p n) = Moves (noted n f p th) (effect_of e)
+turn_of f th (Answers e a) = Finishes (effect_of e) a
+turn_of f th NodesOut = Full
+turn_of f th (Back e) = back (effect_of e) th
 
 -- the frame on top after a turn
 abbrev pub top_of : List Frame → Frame
-top_of [] = new_frame 0 0 Nil
+top_of [] = new_frame 0 0 None
 top_of (f ∷ fs) = f
 
 abbrev pub top_after : Turn → Frame
@@ -70,15 +54,9 @@ top_after NoStore = top_of []
 pub record Decides (n : Notes) (d : Decision) (f : Thread → Turn) : Type 0 where
   pub turn : (fs : List Frame) → turn_of (top_after (f (thread n fs))) (thread n fs) d ≡ f (thread n fs)
 
--- 1, 2 and 22, 23 with the thread last: under a binder `search` does not see a law's arguments
-unfoldable pub reaching : Shapes → ℕ → Thread → Turn
-reaching n x th = reached n th x
-
-unfoldable pub following : Bool → Shapes → ℕ → Thread → Turn
-following on n x th = followed on n th x
-
-unfoldable pub besides : Shapes → ℕ → Thread → Turn
-besides n x th = beside n th x
+-- 31, 32: x is read on the way to the parent, which leads to p with the grandparent g
+unfoldable pub rising : Shapes → ℕ → Option ℕ → ℕ → Thread → Turn
+rising n x g p th = ite (eqb x th.parent) (goes (to_grandparent p g th)) (ite (is_route (n x).kind) (goes (to_route 32 x th)) (goes (to 37 th)))
 
 -- ---- the stop
 
@@ -90,12 +68,6 @@ read_at p k = ite (eqb p 2) (one_more k) 0
 unfoldable pub finding : ℕ → Bool → Shapes → ℕ → Thread → Turn
 finding p on n root th = ite (eqb p 1) (reached n th root) (ite (eqb p 2) (followed on n th (child_for th.station (n th.route))) (goes th))
 
--- 4 and 5 but for the count
-unfoldable pub passing : Shapes → ℕ → Thread → Turn
-passing n x th = onward Quiet n th x
-
-unfoldable pub releasing : Shapes → Thread → Turn
-releasing n th = at_leaf th.action n th th.base
-
+-- what 4 and 5 decide, but for the count
 unfoldable pub counting : ℕ → Shapes → Thread → Turn
 counting p n th = ite (eqb p 4) (onward Quiet n th th.route) (ite (eqb p 5) (at_leaf th.action n th th.base) (goes th))

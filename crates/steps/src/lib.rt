@@ -2,17 +2,15 @@
 #![tactic(auto)]
 
 ghost use Rattle.std.specs.Prelude.{◌<◌, ◌≤◌};
-ghost use Rattle.nodes.specs.Cells.{table};
-ghost use Rattle.nodes.specs.Stores.{stores};
-ghost use Rattle.definitions.specs.Bench.{stop, sight};
+ghost use Rattle.nodes.specs.View.{seen};
 ghost use Rattle.definitions.specs.Places.{place_of};
 ghost use Rattle.definitions.specs.Steps.{step};
 ghost use Rattle.steps.specs.Decision.{Decides};
 
-use definitions::{Action, Answer, Link};
+use definitions::{Action, Answer};
 use effects::Write;
+use nodes::View;
 
-pub mod turns; // what a step decides
 pub mod search; // 1 to 5, 15, 16: the search, the base reached, a base that is blocked
 pub mod swap; // 10 to 13, 26 to 29, 41 to 44: the four-step swap
 pub mod join; // 19 to 38: a join until its stage is a node number
@@ -42,44 +40,95 @@ pub struct Notes {
     pub main: u8,
     pub owner: bool,
     // of a join: the grandparent, and the parent's other child
-    pub grandparent: Link,
+    pub grandparent: Option<u8>,
     pub other: u8,
 }
 
-// Which note of its thread a step changes.
+// What a step notes of its thread, beside the place.
 #[derive(Clone, Copy)]
 pub enum Note {
     Nothing,
-    Route,
-    Base,
-    Parent,
-    // the base is its parent's left child, or the right one
-    Left,
-    Right,
-    Found,
-    Neighbour,
-    // the main is the thread's own, or another's
-    Owned,
-    Helped,
-    // there is no grandparent, or there is one
-    Topmost,
-    Grandparent,
-    Other,
+    Route(u8),
+    Base(u8),
+    Parent(u8),
+    // whether the base is its parent's left child
+    Side(bool),
+    Found(u8),
+    Neighbour(u8),
+    Main { main: u8, owner: bool },
+    Grandparent(Option<u8>),
+    Other(u8),
     // a new frame on top of the others, with the ends and the store of the range base reached
     Opened,
 }
 
-// What a step decides: 0, the thread goes on; 1, it finishes with the answer; 2, numbers have run out; 3, it goes back where its
-// frames lead. A thread that goes on has a new place, and its note gets the value. The effect counts where the step writes.
+// What a step decides: the thread goes on, it finishes with the answer, node numbers have run out, or it goes back where its frames lead.
+// The effect lies first in each, so that a run finds it at one offset.
 #[derive(Clone, Copy)]
-pub struct Decision {
-    pub what: u8,
-    pub place: u8,
-    pub writes: bool,
-    pub answer: Answer,
-    pub note: Note,
-    pub value: u8,
-    pub effect: Write,
+pub enum Decision {
+    Goes {
+        effect: Write,
+        place: u8,
+        note: Note,
+    },
+    Answers {
+        effect: Write,
+        answer: Answer,
+    },
+    NodesOut,
+    Back {
+        effect: Write,
+    },
+}
+
+impl Decision {
+    ghost use Rattle.std.specs.Prelude.{◌≡◌};
+    ghost use Rattle.effects.specs.declared.Write.TheVariants.{Quiet};
+    ghost use Rattle.steps.specs.declared.Note.TheVariants.{Nothing};
+    ghost use Rattle.steps.specs.declared.Decision.TheVariants.{Goes, Answers};
+
+    // To a place.
+    #[inline]
+    pub fn go(place: u8) -> Self
+        ensures { result ≡ Goes Quiet place Nothing }
+    {
+        Self::note(place, Note::Nothing)
+    }
+
+    // To a place, with a note.
+    #[inline]
+    pub fn note(place: u8, note: Note) -> Self
+        ensures { result ≡ Goes Quiet place note }
+    {
+        Decision::Goes {
+            effect: Write::Quiet,
+            place,
+            note,
+        }
+    }
+
+    // To a place; the effect is written.
+    #[inline]
+    pub fn write(place: u8, effect: Write) -> Self
+        ensures { result ≡ Goes effect place Nothing }
+    {
+        Decision::Goes {
+            effect,
+            place,
+            note: Note::Nothing,
+        }
+    }
+
+    // The operation finishes.
+    #[inline]
+    pub fn say(answer: Answer) -> Self
+        ensures { result ≡ Answers Quiet answer }
+    {
+        Decision::Answers {
+            effect: Write::Quiet,
+            answer,
+        }
+    }
 }
 
 // The place decides, below 60 (from there on: crate queries). A run takes the four parts apart (crate run): a part reads few of the
@@ -87,72 +136,27 @@ pub struct Decision {
 // and 5.
 
 // 10 to 13: the swap of the thread's own base.
-pub fn decide_swap(
-    cells: &[u8; 5120],
-    sets: &[u64; 256],
-    flags: &[u8; 256],
-    results: &[u64],
-    root: u8,
-    used: u16,
-    shown: u16,
-    on: bool,
-    count: usize,
-    th: Notes,
-) -> Decision
+#[tactic(auto, using(crate::proofs::DecideLaws::at_swap))]
+pub fn decide_swap(view: &View, th: Notes) -> Decision
     requires { (10 ≤ th.place) × (th.place < 14) }
-    ensures { Decides th result (step (place_of th.place) (sight (table cells.now sets.now) root used (stores flags.now results.now) shown (stop on count))) }
+    ensures { Decides th result (step (place_of th.place) (seen view.now)) }
 {
-    let place = th.place;
-    let q = swap::quarter(place - 10);
-    swap::own(
-        cells, sets, flags, results, root, used, shown, on, count, th, q,
-    )
+    swap::own(view, th, swap::quarter(th.place - 10))
 }
 
 // 15 to 51: a base that is blocked, and a join with its two swaps.
-pub fn decide_join(
-    cells: &[u8; 5120],
-    sets: &[u64; 256],
-    flags: &[u8; 256],
-    results: &[u64],
-    root: u8,
-    used: u16,
-    shown: u16,
-    on: bool,
-    count: usize,
-    th: Notes,
-) -> Decision
+#[tactic(auto, using(crate::proofs::DecideLaws::at_swap))]
+pub fn decide_join(view: &View, th: Notes) -> Decision
     requires { (14 ≤ th.place) × (th.place < 60) }
-    ensures { Decides th result (step (place_of th.place) (sight (table cells.now sets.now) root used (stores flags.now results.now) shown (stop on count))) }
+    ensures { Decides th result (step (place_of th.place) (seen view.now)) }
 {
-    let place = th.place;
-    match place {
-        0..=18 => search::unblock(
-            cells, sets, flags, results, root, used, shown, on, count, th,
-        ),
-        19..=25 => join::approach(
-            cells, sets, flags, results, root, used, shown, on, count, th,
-        ),
-        26..=29 => {
-            let q = swap::quarter(place - 26);
-            swap::found(
-                cells, sets, flags, results, root, used, shown, on, count, th, q,
-            )
-        }
-        30..=39 => join::prepare(
-            cells, sets, flags, results, root, used, shown, on, count, th,
-        ),
-        40 => complete::begin(
-            cells, sets, flags, results, root, used, shown, on, count, th,
-        ),
-        41..=44 => {
-            let q = swap::quarter(place - 41);
-            swap::united(
-                cells, sets, flags, results, root, used, shown, on, count, th, q,
-            )
-        }
-        _ => complete::finish(
-            cells, sets, flags, results, root, used, shown, on, count, th,
-        ),
+    match th.place {
+        0..=18 => search::unblock(view, th),
+        19..=25 => join::approach(view, th),
+        26..=29 => swap::found(view, th, swap::quarter(th.place - 26)),
+        30..=39 => join::prepare(view, th),
+        40 => complete::begin(view, th),
+        41..=44 => swap::united(view, th, swap::quarter(th.place - 41)),
+        _ => complete::finish(view, th),
     }
 }

@@ -1,103 +1,97 @@
 // 1 to 3: the search and the base reached; with the stop on, 4 and 5, where a search is counted and no longer. 15 and 16: a base that
 // is blocked. The check of a base is nodes::check, at 3 and at 15.
 // Of these places a query comes to 15 and 16 alone; at the others it is Full, as the definitions say.
-ghost use Rattle.std.specs.Prelude.{◌≡◌, [], ◌<◌, ◌≤◌};
-ghost use Rattle.nodes.specs.Cells.{table};
-ghost use Rattle.nodes.specs.Stores.{stores};
-ghost use Rattle.definitions.specs.Bench.{stop, sight};
-ghost use Rattle.definitions.specs.Places.{place_of};
-ghost use Rattle.definitions.specs.Steps.{help_by, blocked, lacks, cleared, lost, step};
-ghost use Rattle.steps.specs.Decision.{thread, Decides, read_at, reaching, passing, following, releasing, finding, counting};
+#![tactic(auto, using(std::proofs::lemmas::Bool::Decides::nat_tests), unfolding(container::specs::Choice::ite, definitions::specs::Steps::reached, definitions::specs::Steps::onward, definitions::specs::Steps::followed, definitions::specs::Steps::lost, definitions::specs::Steps::lacks, definitions::specs::Steps::blocked, definitions::specs::Steps::cleared, definitions::specs::Steps::step, definitions::specs::Nodes::replaceable, crate::specs::Decision::read_at, crate::specs::Decision::finding, crate::specs::Decision::counting))]
 
-use super::{Decision, Notes, turns};
-use definitions::{Action, Answer, Check, Link, Node, Stage};
+ghost use Rattle.std.specs.Prelude.{◌≡◌, [], ◌<◌, ◌≤◌};
+ghost use Rattle.nodes.specs.Table.{table};
+ghost use Rattle.nodes.specs.View.{seen};
+ghost use Rattle.container.specs.Choice.{ite};
+ghost use Rattle.container.specs.Container.{has};
+ghost use Rattle.definitions.specs.declared.Answer.TheVariants.{No, At};
+ghost use Rattle.definitions.specs.declared.Effect.TheVariants.{Quiet};
+ghost use Rattle.definitions.specs.Places.{place_of};
+ghost use Rattle.definitions.specs.Steps.{at_leaf, reached, onward, followed, help_by, blocked, lacks, cleared, lost, step};
+ghost use Rattle.steps.specs.Decision.{thread, Decides, read_at, finding, counting};
+
+use super::{Decision, Note, Notes};
+use definitions::{Action, Answer, Check, Node, Nodes, Stage};
 use effects::Write;
+use nodes::View;
 
 // 1, 2: the routes read since 1, after the step that a thread takes there with the stop on; 9 stands for more than 8.
 pub fn read_after(th: Notes) -> u8
     ensures { result ≡ read_at th.place th.read }
 {
-    if th.place == 2 {
-        let read = th.read;
-        if read < 9 {
-            return read + 1;
-        }
-        return 9;
+    match th.place {
+        2 if th.read < 9 => th.read + 1,
+        2 => 9,
+        _ => 0,
     }
-    0
+}
+
+// What a lookup of the station says at the base x, which is n.
+fn look_up(n: Node, station: u8, x: u8) -> Answer
+    ensures { result ≡ ite (has n.container station) (At x) No }
+{
+    if container::contains(n.container, station) {
+        Answer::At(x)
+    } else {
+        Answer::No
+    }
 }
 
 // 1, 2: node x is read.
-pub fn reach(cells: &[u8; 5120], sets: &[u64; 256], th: Notes, x: u8) -> Decision
-    ensures { Decides th result (reaching (table cells.now sets.now) x) }
+pub fn reach(nodes: &Nodes, th: Notes, x: u8) -> Decision
+    ensures { Decides th result (λ h. reached (table nodes.now) h x) }
 {
-    let n = nodes::node_at(cells, sets, x);
-    let kind = n.kind;
-    if nodes::is_route(kind) {
-        return turns::go_route(th, 2, x);
+    let n = nodes::node_at(nodes, x);
+    if nodes::is_route(n.kind) {
+        return Decision::note(2, Note::Route(x));
     }
-    let action = th.action;
-    let next = turns::go_base(th, 3, x);
-    match action {
-        Action::Lookup => {
-            let held = container::contains(n.container, th.station);
-            let answer = turns::found_at(held, x);
-            turns::say(th, answer)
-        }
-        Action::Insert => next,
-        Action::Remove => next,
-        Action::Split => next,
-        Action::Join => next,
-        Action::Query => turns::full(th),
+    match th.action {
+        Action::Lookup => Decision::say(look_up(n, th.station, x)),
+        Action::Query => Decision::NodesOut,
+        _ => Decision::note(3, Note::Base(x)),
     }
 }
 
 // 2, 4: a search that is counted goes on from x, to 2 or, at a base, to 5.
-pub fn pass(cells: &[u8; 5120], sets: &[u64; 256], th: Notes, x: u8) -> Decision
-    ensures { Decides th result (passing (table cells.now sets.now) x) }
+pub fn pass(nodes: &Nodes, th: Notes, x: u8) -> Decision
+    ensures { Decides th result (λ h. onward Quiet (table nodes.now) h x) }
 {
-    let n = nodes::node_at(cells, sets, x);
-    let kind = n.kind;
-    if nodes::is_route(kind) {
-        turns::go_route(th, 2, x)
+    let n = nodes::node_at(nodes, x);
+    if nodes::is_route(n.kind) {
+        Decision::note(2, Note::Route(x))
     } else {
-        turns::go_base(th, 5, x)
+        Decision::note(5, Note::Base(x))
     }
 }
 
 // 2: x, the child of a route, is read. With the stop on the 8th route leads to 4.
-pub fn follow(cells: &[u8; 5120], sets: &[u64; 256], on: bool, th: Notes, x: u8) -> Decision
-    ensures { Decides th result (following on (table cells.now sets.now) x) }
+pub fn follow(nodes: &Nodes, on: bool, th: Notes, x: u8) -> Decision
+    ensures { Decides th result (λ h. followed on (table nodes.now) h x) }
 {
-    if on {
-        if th.read == 8 {
-            return turns::go_route(th, 4, x);
-        }
-        if 8 < th.read {
-            return pass(cells, sets, th, x);
-        }
+    if !on || th.read < 8 {
+        reach(nodes, th, x)
+    } else if th.read == 8 {
+        Decision::note(4, Note::Route(x))
+    } else {
+        pass(nodes, th, x)
     }
-    reach(cells, sets, th, x)
 }
 
 // 5: a lookup finishes, others go to 3.
-pub fn release(cells: &[u8; 5120], sets: &[u64; 256], th: Notes) -> Decision
-    ensures { Decides th result (releasing (table cells.now sets.now)) }
+pub fn release(nodes: &Nodes, th: Notes) -> Decision
+    ensures { Decides th result (λ h. at_leaf h.action (table nodes.now) h h.base) }
 {
-    let action = th.action;
-    let next = turns::go(th, 3);
-    match action {
+    match th.action {
         Action::Lookup => {
-            let n = nodes::node_at(cells, sets, th.base);
-            let held = container::contains(n.container, th.station);
-            let answer = turns::found_at(held, th.base);
-            turns::say(th, answer)
+            let n = nodes::node_at(nodes, th.base);
+            Decision::say(look_up(n, th.station, th.base))
         }
-        Action::Insert => next,
-        Action::Remove => next,
-        Action::Split => next,
-        Action::Join => next,
-        Action::Query => turns::full(th),
+        Action::Query => Decision::NodesOut,
+        _ => Decision::go(3),
     }
 }
 
@@ -105,15 +99,11 @@ pub fn release(cells: &[u8; 5120], sets: &[u64; 256], th: Notes) -> Decision
 pub fn lose(th: Notes) -> Decision
     ensures { Decides th result lost }
 {
-    let action = th.action;
-    let next = turns::go(th, 15);
-    match action {
-        Action::Lookup => turns::say(th, Answer::No),
-        Action::Insert => next,
-        Action::Remove => next,
-        Action::Split => turns::say(th, Answer::Lost),
-        Action::Join => turns::say(th, Answer::Lost),
-        Action::Query => turns::full(th),
+    match th.action {
+        Action::Lookup => Decision::say(Answer::No),
+        Action::Insert | Action::Remove => Decision::go(15),
+        Action::Split | Action::Join => Decision::say(Answer::Lost),
+        Action::Query => Decision::NodesOut,
     }
 }
 
@@ -121,23 +111,10 @@ pub fn lose(th: Notes) -> Decision
 pub fn lacking(b: Node, th: Notes) -> bool
     ensures { result ≡ lacks b (thread th []) }
 {
-    let action = th.action;
-    match action {
-        Action::Lookup => false,
-        Action::Insert => false,
-        Action::Remove => false,
-        Action::Split => {
-            let size = container::count(b.container);
-            size < 2
-        }
-        Action::Join => {
-            let parent = b.parent;
-            match parent {
-                Link::Nil => true,
-                Link::To(_) => false,
-            }
-        }
-        Action::Query => false,
+    match th.action {
+        Action::Split => container::count(b.container) < 2,
+        Action::Join => b.parent.is_none(),
+        _ => false,
     }
 }
 
@@ -146,11 +123,12 @@ pub fn help(c: Check, th: Notes) -> Decision
     ensures { Decides th result (help_by c) }
 {
     match c {
-        Check::Replaceable => turns::go_back(th),
-        Check::Preparing(m) => { turns::go_helping(th, 16, m) }
-        Check::Completing(m) => { turns::go_helping(th, 40, m) }
-        Check::Stale => turns::go_back(th),
-        Check::Unset { .. } => turns::go_opened(th, 60),
+        Check::Replaceable | Check::Stale => Decision::Back {
+            effect: Write::Quiet,
+        },
+        Check::Preparing(main) => Decision::note(16, Note::Main { main, owner: false }),
+        Check::Completing(main) => Decision::note(40, Note::Main { main, owner: false }),
+        Check::Unset { .. } => Decision::note(60, Note::Opened),
     }
 }
 
@@ -158,14 +136,11 @@ pub fn help(c: Check, th: Notes) -> Decision
 pub fn block(c: Check, th: Notes) -> Decision
     ensures { Decides th result (blocked c) }
 {
-    let action = th.action;
-    match action {
-        Action::Lookup => turns::say(th, Answer::No),
-        Action::Insert => help(c, th),
-        Action::Remove => help(c, th),
-        Action::Split => turns::say(th, Answer::Blocked),
-        Action::Join => turns::say(th, Answer::Blocked),
-        Action::Query => turns::full(th),
+    match th.action {
+        Action::Lookup => Decision::say(Answer::No),
+        Action::Insert | Action::Remove => help(c, th),
+        Action::Split | Action::Join => Decision::say(Answer::Blocked),
+        Action::Query => Decision::NodesOut,
     }
 }
 
@@ -173,126 +148,81 @@ pub fn block(c: Check, th: Notes) -> Decision
 pub fn clear(b: Node, on: bool, th: Notes) -> Decision
     ensures { Decides th result (cleared on b) }
 {
-    let action = th.action;
-    let next = turns::go(th, 10);
-    match action {
-        Action::Lookup => turns::say(th, Answer::No),
-        Action::Insert => next,
-        Action::Remove => next,
-        Action::Split => next,
-        Action::Join => {
-            let parent = b.parent;
-            match parent {
-                Link::Nil => turns::say(th, Answer::Lacking),
-                Link::To(p) => {
-                    if on {
-                        turns::go_parent(th, 19, p)
-                    } else {
-                        turns::go_parent(th, 20, p)
-                    }
-                }
-            }
-        }
-        Action::Query => turns::full(th),
+    match th.action {
+        Action::Lookup => Decision::say(Answer::No),
+        Action::Insert | Action::Remove | Action::Split => Decision::go(10),
+        Action::Join => match b.parent {
+            None => Decision::say(Answer::Lacking),
+            Some(p) if on => Decision::note(19, Note::Parent(p)),
+            Some(p) => Decision::note(20, Note::Parent(p)),
+        },
+        Action::Query => Decision::NodesOut,
     }
 }
 
 // 1, 2, of a thread that has noted the routes read where the stop is on (`read_after`).
-pub fn find(cells: &[u8; 5120], sets: &[u64; 256], root: u8, on: bool, th: Notes) -> Decision
+pub fn find(nodes: &Nodes, root: u8, on: bool, th: Notes) -> Decision
     requires { th.place < 3 }
-    ensures { Decides th result (finding th.place on (table cells.now sets.now) root) }
+    ensures { Decides th result (finding th.place on (table nodes.now) root) }
 {
-    let place = th.place;
-    match place {
-        1 => reach(cells, sets, th, root),
+    match th.place {
+        1 => reach(nodes, th, root),
         2 => {
-            let n = nodes::node_at(cells, sets, th.route);
-            let x = nodes::child_for(th.station, n);
-            follow(cells, sets, on, th, x)
+            let n = nodes::node_at(nodes, th.route);
+            follow(nodes, on, th, nodes::child_for(th.station, n))
         }
-        _ => turns::stay(th),
+        _ => Decision::go(th.place),
     }
 }
 
 // 3: is the base replaceable?
-pub fn examine(
-    cells: &[u8; 5120],
-    sets: &[u64; 256],
-    flags: &[u8; 256],
-    results: &[u64],
-    root: u8,
-    used: u16,
-    shown: u16,
-    on: bool,
-    count: usize,
-    th: Notes,
-) -> Decision
+pub fn examine(view: &View, th: Notes) -> Decision
     requires { th.place ≡ 3 }
-    ensures { Decides th result (step (place_of th.place) (sight (table cells.now sets.now) root used (stores flags.now results.now) shown (stop on count))) }
+    ensures { Decides th result (step (place_of th.place) (seen view.now)) }
 {
-    let b = nodes::node_at(cells, sets, th.base);
+    let b = nodes::node_at(view.nodes, th.base);
     if lacking(b, th) {
-        turns::say(th, Answer::Lacking)
+        return Decision::say(Answer::Lacking);
+    }
+    let c = nodes::check(view.nodes, view.results, th.base);
+    if nodes::is_replaceable(c) {
+        clear(b, view.stop.on, th)
     } else {
-        let c = nodes::check(cells, sets, flags, results, th.base);
-        if nodes::is_replaceable(c) {
-            clear(b, on, th)
-        } else {
-            block(c, th)
-        }
+        block(c, th)
     }
 }
 
 // 4, 5: a search is counted, and no longer. The count itself is changed by the run.
-pub fn count(cells: &[u8; 5120], sets: &[u64; 256], th: Notes) -> Decision
+pub fn count(nodes: &Nodes, th: Notes) -> Decision
     requires { (3 < th.place) × (th.place < 10) }
-    ensures { Decides th result (counting th.place (table cells.now sets.now)) }
+    ensures { Decides th result (counting th.place (table nodes.now)) }
 {
-    let place = th.place;
-    match place {
-        4 => pass(cells, sets, th, th.route),
-        5 => release(cells, sets, th),
-        _ => turns::stay(th),
+    match th.place {
+        4 => pass(nodes, th, th.route),
+        5 => release(nodes, th),
+        _ => Decision::go(th.place),
     }
 }
 
 // 15, 16.
-pub fn unblock(
-    cells: &[u8; 5120],
-    sets: &[u64; 256],
-    flags: &[u8; 256],
-    results: &[u64],
-    root: u8,
-    used: u16,
-    shown: u16,
-    on: bool,
-    count: usize,
-    th: Notes,
-) -> Decision
+pub fn unblock(view: &View, th: Notes) -> Decision
     requires { (14 ≤ th.place) × (th.place < 19) }
-    ensures { Decides th result (step (place_of th.place) (sight (table cells.now sets.now) root used (stores flags.now results.now) shown (stop on count))) }
+    ensures { Decides th result (step (place_of th.place) (seen view.now)) }
 {
-    let place = th.place;
-    match place {
-        15 => {
-            let c = nodes::check(cells, sets, flags, results, th.base);
-            help(c, th)
-        }
+    match th.place {
+        15 => help(nodes::check(view.nodes, view.results, th.base), th),
         16 => {
-            let m = nodes::node_at(cells, sets, th.main);
-            let stage = m.stage;
-            if nodes::is_preparing(stage) {
-                turns::back_writing(
-                    th,
-                    Write::Settle {
-                        main: th.main,
-                        stage: Stage::Aborted,
-                    },
-                )
+            let m = nodes::node_at(view.nodes, th.main);
+            let effect = if nodes::is_preparing(m.stage) {
+                Write::Settle {
+                    main: th.main,
+                    stage: Stage::Aborted,
+                }
             } else {
-                turns::go_back(th)
-            }
+                Write::Quiet
+            };
+            Decision::Back { effect }
         }
-        _ => turns::stay(th),
+        _ => Decision::go(th.place),
     }
 }

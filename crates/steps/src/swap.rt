@@ -1,17 +1,21 @@
 // The four-step swap and its three kinds: 10 to 13, 26 to 29, 41 to 44.
+#![tactic(auto, using(std::proofs::lemmas::Bool::Decides::nat_tests), unfolding(container::specs::Choice::ite, definitions::specs::Steps::probe, definitions::specs::Steps::replaced, definitions::specs::Steps::step))]
+
 ghost use Rattle.std.specs.Prelude.{◌≡◌, ◌+◌, ◌<◌};
-ghost use Rattle.nodes.specs.Cells.{table};
-ghost use Rattle.nodes.specs.Stores.{stores};
-ghost use Rattle.definitions.specs.Bench.{stop, sight};
+ghost use Rattle.nodes.specs.Table.{table};
+ghost use Rattle.nodes.specs.View.{seen};
+ghost use Rattle.definitions.specs.Answers.{said};
 ghost use Rattle.definitions.specs.Places.{quarter_of, quarter_number, swap, own, found, united};
-ghost use Rattle.definitions.specs.Steps.{probe, replaced, step};
+ghost use Rattle.definitions.specs.Steps.{newer, probe, replaced, step};
+ghost use Rattle.effects.specs.Writes.{effect_of};
 ghost use Rattle.steps.specs.Decision.{Decides};
 
-use super::{Decision, Notes, search, turns};
-use definitions::{Action, Answer, Content, Kind, Link, Node, Probe, Quarter, Spot};
+use super::{Decision, Note, Notes, search};
+use definitions::{Action, Answer, Content, Kind, Node, Nodes, Probe, Quarter, Spot};
 use effects::Write;
+use nodes::View;
 
-// The step by its number from 0.
+// The step by its number, 0 to 3. No TryFrom: it never fails, and what lies over 3 is the last step.
 pub fn quarter(k: u8) -> Quarter
     ensures { result ≡ quarter_of k }
 {
@@ -28,71 +32,48 @@ pub fn place_of(first: u8, q: Quarter) -> u8
     requires { first < 128 }
     ensures { result ≡ first + quarter_number q }
 {
-    match q {
-        Quarter::ReadLeft => first + 0,
-        Quarter::SwapLeft => first + 1,
-        Quarter::ReadRight => first + 2,
-        Quarter::SwapRight => first + 3,
-    }
+    first + q as u8
 }
 
 // One of the four steps for the base x: where it hangs, the next step, or failure.
-pub fn look(
-    cells: &[u8; 5120],
-    sets: &[u64; 256],
-    root: u8,
-    parent: Link,
-    x: u8,
-    q: Quarter,
-) -> Probe
-    ensures { result ≡ probe q parent (table cells.now sets.now) root x }
+pub fn look(nodes: &Nodes, root: u8, parent: Option<u8>, x: u8, q: Quarter) -> Probe
+    ensures { result ≡ probe q parent (table nodes.now) root x }
 {
-    match parent {
-        Link::Nil => match q {
-            Quarter::ReadLeft => {
-                if root == x {
-                    Probe::Hit(Spot::Root)
-                } else {
-                    Probe::Miss
-                }
-            }
-            Quarter::SwapLeft => Probe::Miss,
-            Quarter::ReadRight => Probe::Miss,
-            Quarter::SwapRight => Probe::Miss,
-        },
-        Link::To(p) => {
-            let n = nodes::node_at(cells, sets, p);
-            match q {
-                Quarter::ReadLeft => {
-                    if n.left == x {
-                        Probe::Next(Quarter::SwapLeft)
-                    } else {
-                        Probe::Next(Quarter::ReadRight)
-                    }
-                }
-                Quarter::SwapLeft => {
-                    if n.left == x {
-                        Probe::Hit(Spot::Under(p, true))
-                    } else {
-                        Probe::Miss
-                    }
-                }
-                Quarter::ReadRight => {
-                    if n.right == x {
-                        Probe::Next(Quarter::SwapRight)
-                    } else {
-                        Probe::Miss
-                    }
-                }
-                Quarter::SwapRight => {
-                    if n.right == x {
-                        Probe::Hit(Spot::Under(p, false))
-                    } else {
-                        Probe::Miss
-                    }
-                }
-            }
-        }
+    let Some(p) = parent else {
+        return match q {
+            Quarter::ReadLeft if root == x => Probe::Hit(Spot::Root),
+            _ => Probe::Miss,
+        };
+    };
+    let n = nodes::node_at(nodes, p);
+    match q {
+        Quarter::ReadLeft if n.left == x => Probe::Next(Quarter::SwapLeft),
+        Quarter::ReadLeft => Probe::Next(Quarter::ReadRight),
+        Quarter::SwapLeft if n.left == x => Probe::Hit(Spot::Under(p, true)),
+        Quarter::ReadRight if n.right == x => Probe::Next(Quarter::SwapRight),
+        Quarter::SwapRight if n.right == x => Probe::Hit(Spot::Under(p, false)),
+        _ => Probe::Miss,
+    }
+}
+
+// The answer of an insert or a remove.
+fn yes_or_no(yes: bool) -> Answer
+    ensures { result ≡ said yes }
+{
+    if yes { Answer::Yes } else { Answer::No }
+}
+
+// An update's new base, in place of b.
+fn newer(spot: Spot, at: u8, b: Node, content: Content) -> Write
+    ensures { effect_of result ≡ newer spot at b content }
+{
+    Write::Base {
+        spot,
+        at,
+        kind: Kind::Normal,
+        parent: b.parent,
+        content,
+        main: 0,
     }
 }
 
@@ -100,183 +81,90 @@ pub fn look(
 pub fn replace(spot: Spot, b: Node, used: u16, th: Notes) -> Decision
     ensures { Decides th result (replaced spot b used) }
 {
-    let action = th.action;
-    let parent = b.parent;
-    match action {
-        Action::Lookup => turns::full(th),
-        Action::Insert => {
-            if 255 < used {
-                return turns::full(th);
-            }
+    match th.action {
+        Action::Insert if used < 256 => {
             let held = container::contains(b.container, th.station);
-            let answer = turns::yes_or_no(!held);
-            turns::say_writing(
-                th,
-                Write::Base {
-                    spot: spot,
-                    at: used as u8,
-                    kind: Kind::Normal,
-                    parent: parent,
-                    content: Content::With(th.base, th.station, th.extra),
-                    main: 0,
-                },
-                answer,
-            )
-        }
-        Action::Remove => {
-            if 255 < used {
-                return turns::full(th);
+            let content = Content::With(th.base, th.station, th.extra);
+            Decision::Answers {
+                effect: newer(spot, used as u8, b, content),
+                answer: yes_or_no(!held),
             }
+        }
+        Action::Remove if used < 256 => {
             let held = container::contains(b.container, th.station);
-            let answer = turns::yes_or_no(held);
-            turns::say_writing(
-                th,
-                Write::Base {
-                    spot: spot,
-                    at: used as u8,
-                    kind: Kind::Normal,
-                    parent: parent,
-                    content: Content::Without(th.base, th.station),
-                    main: 0,
-                },
-                answer,
-            )
-        }
-        Action::Split => {
-            if 253 < used {
-                return turns::full(th);
+            let content = Content::Without(th.base, th.station);
+            Decision::Answers {
+                effect: newer(spot, used as u8, b, content),
+                answer: yes_or_no(held),
             }
+        }
+        Action::Split if used < 254 => {
             let at = used as u8;
-            let key = container::split_key(b.container);
-            turns::say_writing(
-                th,
-                Write::Fork {
-                    spot: spot,
-                    at: at,
+            Decision::Answers {
+                effect: Write::Fork {
+                    spot,
+                    at,
                     left: at + 1,
                     right: at + 2,
-                    key: key,
+                    key: container::split_key(b.container),
                     base: th.base,
                 },
-                Answer::Yes,
-            )
+                answer: Answer::Yes,
+            }
         }
-        Action::Join => turns::full(th),
-        Action::Query => turns::full(th),
+        _ => Decision::NodesOut,
     }
 }
 
 // 10 to 13: the thread's own base.
-pub fn own(
-    cells: &[u8; 5120],
-    sets: &[u64; 256],
-    flags: &[u8; 256],
-    results: &[u64],
-    root: u8,
-    used: u16,
-    shown: u16,
-    on: bool,
-    count: usize,
-    th: Notes,
-    q: Quarter,
-) -> Decision
-    ensures { Decides th result (step (swap own q) (sight (table cells.now sets.now) root used (stores flags.now results.now) shown (stop on count))) }
+pub fn own(view: &View, th: Notes, q: Quarter) -> Decision
+    ensures { Decides th result (step (swap own q) (seen view.now)) }
 {
-    let b = nodes::node_at(cells, sets, th.base);
-    let parent = b.parent;
-    let seen = look(cells, sets, root, parent, th.base, q);
-    match seen {
-        Probe::Hit(spot) => replace(spot, b, used, th),
-        Probe::Next(r) => {
-            let place = place_of(10, r);
-            turns::go(th, place)
-        }
+    let b = nodes::node_at(view.nodes, th.base);
+    match look(view.nodes, view.root, b.parent, th.base, q) {
+        Probe::Hit(spot) => replace(spot, b, view.used, th),
+        Probe::Next(r) => Decision::go(place_of(10, r)),
         Probe::Miss => search::lose(th),
     }
 }
 
 // 26 to 29: the base found, for a new neighbour.
-pub fn found(
-    cells: &[u8; 5120],
-    sets: &[u64; 256],
-    flags: &[u8; 256],
-    results: &[u64],
-    root: u8,
-    used: u16,
-    shown: u16,
-    on: bool,
-    count: usize,
-    th: Notes,
-    q: Quarter,
-) -> Decision
-    ensures { Decides th result (step (swap found q) (sight (table cells.now sets.now) root used (stores flags.now results.now) shown (stop on count))) }
+pub fn found(view: &View, th: Notes, q: Quarter) -> Decision
+    ensures { Decides th result (step (swap found q) (seen view.now)) }
 {
-    let b = nodes::node_at(cells, sets, th.found);
-    let parent = b.parent;
-    let seen = look(cells, sets, root, parent, th.found, q);
-    match seen {
+    let b = nodes::node_at(view.nodes, th.found);
+    match look(view.nodes, view.root, b.parent, th.found, q) {
         Probe::Hit(spot) => {
-            if 255 < used {
-                return turns::full(th);
-            }
-            let at = used as u8;
-            turns::take_neighbour(
-                th,
-                30,
-                at,
-                Write::Base {
-                    spot: spot,
-                    at: at,
+            let Ok(at) = u8::try_from(view.used) else {
+                return Decision::NodesOut;
+            };
+            Decision::Goes {
+                effect: Write::Base {
+                    spot,
+                    at,
                     kind: Kind::Neighbour,
-                    parent: parent,
+                    parent: b.parent,
                     content: Content::Of(th.found),
                     main: th.main,
                 },
-            )
+                place: 30,
+                note: Note::Neighbour(at),
+            }
         }
-        Probe::Next(r) => {
-            let place = place_of(26, r);
-            turns::go(th, place)
-        }
-        Probe::Miss => { turns::go(th, 38) }
+        Probe::Next(r) => Decision::go(place_of(26, r)),
+        Probe::Miss => Decision::go(38),
     }
 }
 
 // 41 to 44: the neighbour, for the union node.
-pub fn united(
-    cells: &[u8; 5120],
-    sets: &[u64; 256],
-    flags: &[u8; 256],
-    results: &[u64],
-    root: u8,
-    used: u16,
-    shown: u16,
-    on: bool,
-    count: usize,
-    th: Notes,
-    q: Quarter,
-) -> Decision
-    ensures { Decides th result (step (swap united q) (sight (table cells.now sets.now) root used (stores flags.now results.now) shown (stop on count))) }
+pub fn united(view: &View, th: Notes, q: Quarter) -> Decision
+    ensures { Decides th result (step (swap united q) (seen view.now)) }
 {
-    let m = nodes::node_at(cells, sets, th.main);
-    let b = nodes::node_at(cells, sets, m.neighbour);
-    let parent = b.parent;
-    let seen = look(cells, sets, root, parent, m.neighbour, q);
-    match seen {
-        Probe::Hit(spot) => {
-            turns::go_writing(
-                th,
-                45,
-                Write::Swing {
-                    spot: spot,
-                    to: m.union,
-                },
-            )
-        }
-        Probe::Next(r) => {
-            let place = place_of(41, r);
-            turns::go(th, place)
-        }
-        Probe::Miss => { turns::go(th, 45) }
+    let m = nodes::node_at(view.nodes, th.main);
+    let b = nodes::node_at(view.nodes, m.neighbour);
+    match look(view.nodes, view.root, b.parent, m.neighbour, q) {
+        Probe::Hit(spot) => Decision::write(45, Write::Swing { spot, to: m.union }),
+        Probe::Next(r) => Decision::go(place_of(41, r)),
+        Probe::Miss => Decision::go(45),
     }
 }

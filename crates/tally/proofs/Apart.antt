@@ -1,14 +1,14 @@
 -- Eight bytes in a word, two in a lane of 16 bits; and in each lane the bits in which a record's first byte differs from a step of the
 -- thread before. Assumes nothing.
-use mathlib.Core.Path.{◌≡◌, refl, sym, ap, ap₂, ◌∙◌}
+use mathlib.Core.Path.{◌≡◌, refl, sym, ap, ap₂, ◌∙◌, subst}
 use mathlib.Core.List.{List}
-use Prim.Native.Nat.{ℕ, zero, suc, ◌+◌, ◌-◌, ◌*◌, ◌/◌, ◌%◌, ◌^◌, ◌≤◌, ◌<◌}
+use Prim.Native.Nat.{ℕ, zero, suc, ◌+◌, ◌-◌, ◌*◌, ◌/◌, ◌%◌, ◌≤◌, ◌<◌}
 use native.Mathlib.Omega.{arith}
-use native.Mathlib.Nat.{mod-eq_of_lt}
-use lib.Bits.{bit_and, bit_or, bit_xor, and_block, xor_block, and_high, and_mask, and_zero_r, and_le_r, xor_mod, xor_lt, or_shifted_r}
+use lib.Bits.{bit_and, bit_xor, and_block, xor_block, and_high, and_mask, and_zero_r, and_le_r, xor_mod, xor_lt}
 use lib.ListN.{get_or}
+use Rattle.container.specs.Choice.{ite}
 use Rattle.tally.specs.Walk.{packed}
-use Rattle.tally.specs.Marks.{step_after, apart, two_bytes, crossed, Bytes}
+use Rattle.tally.specs.Marks.{step_after, apart, two_bytes, crossed, in_lane, Bytes}
 
 -- ---- words of lanes
 
@@ -80,24 +80,6 @@ unfolding packed evens
 wide_firsts = refl
 
 -- ---- eight bytes
-module _ (b0 b1 b2 b3 b4 b5 b6 b7 : ℕ) (l0 : b0 < 256) (l1 : b1 < 256) (l2 : b2 < 256) (l3 : b3 < 256) (l4 : b4 < 256) (l5 : b5 < 256) (l6 : b6 < 256) (l7 : b7 < 256) where
-  -- one byte more
-  more : (k n b w : ℕ) → w ≡ n → n < 2 ^ k → b * 2 ^ k < 2 ^ 64 → bit_or w (b * 2 ^ k % 2 ^ 64) ≡ b * 2 ^ k + n
-  more k n b w e h s = ap₂ bit_or e (mod-eq_of_lt s) ∙ or_shifted_r b k n h
-
-  pub eight_bytes : bit_or (bit_or (bit_or (bit_or (bit_or (bit_or (bit_or b0 (b1 * 2 ^ 8 % 2 ^ 64)) (b2 * 2 ^ 16 % 2 ^ 64)) (b3 * 2 ^ 24 % 2 ^ 64)) (b4 * 2 ^ 32 % 2 ^ 64)) (b5 * 2 ^ 40 % 2 ^ 64))
-      (b6 * 2 ^ 48 % 2 ^ 64)) (b7 * 2 ^ 56 % 2 ^ 64)
-      ≡ b0 + 256 * b1 + 65536 * (b2 + 256 * b3 + 65536 * (b4 + 256 * b5 + 65536 * (b6 + 256 * b7)))
-  eight_bytes =
-      let e1 = more 8 b0 b1 _ refl (omega arith) (omega arith) in
-      let e2 = more 16 (b1 * 2 ^ 8 + b0) b2 _ e1 (omega arith) (omega arith) in
-      let e3 = more 24 (b2 * 2 ^ 16 + (b1 * 2 ^ 8 + b0)) b3 _ e2 (omega arith) (omega arith) in
-      let e4 = more 32 (b3 * 2 ^ 24 + (b2 * 2 ^ 16 + (b1 * 2 ^ 8 + b0))) b4 _ e3 (omega arith) (omega arith) in
-      let e5 = more 40 (b4 * 2 ^ 32 + (b3 * 2 ^ 24 + (b2 * 2 ^ 16 + (b1 * 2 ^ 8 + b0)))) b5 _ e4 (omega arith) (omega arith) in
-      let e6 = more 48 (b5 * 2 ^ 40 + (b4 * 2 ^ 32 + (b3 * 2 ^ 24 + (b2 * 2 ^ 16 + (b1 * 2 ^ 8 + b0))))) b6 _ e5 (omega arith) (omega arith) in
-      let e7 = more 56 (b6 * 2 ^ 48 + (b5 * 2 ^ 40 + (b4 * 2 ^ 32 + (b3 * 2 ^ 24 + (b2 * 2 ^ 16 + (b1 * 2 ^ 8 + b0)))))) b7 _ e6 (omega arith) (omega arith) in
-      e7 ∙ omega arith
-
 pub bytes_packed : (s : List ℕ) (at : ℕ) → get_or s at 0 + 256 * get_or s (at + 1) 0
     + 65536 * (get_or s (at + 2) 0 + 256 * get_or s (at + 3) 0 + 65536 * (get_or s (at + 4) 0 + 256 * get_or s (at + 5) 0 + 65536 * (get_or s (at + 6) 0 + 256 * get_or s (at + 7) 0)))
     ≡ packed 4 (two_bytes s at)
@@ -204,3 +186,19 @@ four_wide_is s at a b e g =
         ),
       ),
     )
+
+-- ---- four records of w bytes, in the code's words
+abbrev pub differs : List ℕ → ℕ → ℕ → ℕ → ℕ
+differs s w at mask = bit_and (bit_xor (packed 4 (two_bytes s at)) (bit_and (packed 4 (two_bytes s (at - w))) 13511005043687472)) mask
+
+module _ (s : List ℕ) (b : Bytes s) (at w : ℕ) where
+  pub four_narrow : (x : ℕ) → w ≡ 2 → w ≤ at → x ≡ differs s w at 17733194119839807 → x ≡ packed 4 (λ l. apart s w (at + w * in_lane w l))
+  unfolding ite
+  four_narrow x e =
+      subst (λ (n : ℕ). n ≤ at → x ≡ differs s n at 17733194119839807 → x ≡ packed 4 (λ l. apart s n (at + n * in_lane n l))) (sym e) (λ h p. p ∙ four_is s b at h)
+
+  pub four_wide : (x y : ℕ) → w ≡ 4 → w ≤ at → x ≡ differs s w at 270582939711 → y ≡ differs s w (at + 8) 270582939711 → x + 65536 * y ≡ packed 4 (λ l. apart s w (at + w * in_lane w l))
+  unfolding ite
+  four_wide x y e =
+      subst (λ (n : ℕ). n ≤ at → x ≡ differs s n at 270582939711 → y ≡ differs s n (at + 8) 270582939711 → x + 65536 * y ≡ packed 4 (λ l. apart s n (at + n * in_lane n l))) (sym e)
+      (λ h p q. (four_wide_is s at x y (p ∙ two_is s b at h) (q ∙ two_is s b (at + 8) (omega arith))).1.1)

@@ -12,7 +12,7 @@ use Rattle.definitions.specs.Versions.{version, width, row_width}
 use Rattle.definitions.specs.Run.{run_report, run_buffer}
 use Rattle.definitions.specs.declared.Report.{Report}
 use Rattle.season.specs.Tally.{Tally, empty, just, sum, refused_once, records_tally, file_tally, fits, added, add_refusal, numbers, tally_report, tally_numbers}
-use Rattle.tally.specs.Walk.{packed, lanes, begun, walked, answered, finished, closing, Room, Low, Spare, Words, Told}
+use Rattle.tally.specs.Walk.{packed, walked, answered, finished, closing, Held, Room, Low, Spare, Told}
 use Rattle.tally.proofs.Sums.{sum_assoc, sum_none, none_sum}
 use Rattle.tally.proofs.Laid.{laid_list}
 use Rattle.tally.proofs.Walks.{sum_most, just_most, walked_most, answered_most}
@@ -38,7 +38,7 @@ record_some file = by (eqb (version file) 1)
     by false = omega arith
 
 -- ---- all that a file adds
-module _ (file rows : List ℕ) (k d f : ℕ) (told : Told file rows k d f) where
+module _ {file rows : List ℕ} {k d f : ℕ} (told : Told file rows k d f) where
   pub refusal_low : k < 17
   refusal_low = omega (arith, told.refusal, (refusals_rule file (length rows)).0)
 
@@ -46,7 +46,7 @@ module _ (file rows : List ℕ) (k d f : ℕ) (told : Told file rows k d f) wher
   unfolding file_tally
   file_is = ap (λ (n : ℕ). sum (refused_once n) (records_tally file (length rows))) (sym told.refusal)
 
-  module _ (l l1 : List ℕ) (spare : Spare l k) (e1 : numbers l1 ≡ sum (numbers l) (refused_once k)) where
+  module _ {l : List ℕ} (spare : Spare l k) (l1 : List ℕ) (e1 : numbers l1 ≡ sum (numbers l) (refused_once k)) where
     room_all : Room l1 1000000000
     room_all = record { at = λ i h. omega (arith, spare.low i (omega arith), ap (λ (t : Tally). t i) e1, sum_most (numbers l) (refused_once k) i, refusal_most k i) }
 
@@ -57,12 +57,15 @@ module _ (file rows : List ℕ) (k d f : ℕ) (told : Told file rows k d f) wher
       s : Sound file rows d f
       s = sound file rows k d f told header
 
-      pub walk_needs : (1 ≤ w) × ((d ≤ 4096) × ((3 + w * d ≤ length file) × (Low file w d × Room l1 33554432)))
-      walk_needs = rw ew (record_some file, (s.few, (s.whole, (s.low, room_fewer l1 33554432 1000000000 (omega arith) room_all))))
+      pub records_need : (1 ≤ w) × ((d ≤ 4096) × ((3 + w * d ≤ length file) × Low file w d))
+      records_need = rw ew (record_some file, (s.few, (s.whole, s.low)))
 
-      module _ (l2 : List ℕ) (a b : ℕ) (e2 : numbers l2 ≡ sum (numbers l1) (walked file w d)) (ea : a ≡ packed 4 (lanes file w d)) (eb : b ≡ packed 4 (begun file w d)) where
+      pub walk_needs : Room l1 33554432
+      walk_needs = room_fewer l1 33554432 1000000000 (omega arith) room_all
+
+      module _ {l2 : List ℕ} {a b : ℕ} (held : Held file w d l1 l2 a b) where
         room_walked : Room l2 900000000
-        room_walked = room_less l1 l2 (walked file w d) 100000000 900000000 e2 (λ i. omega (arith, walked_most file w d i s.few, s.few)) (room_fewer l1 (900000000 + 100000000) 1000000000 (omega arith) room_all)
+        room_walked = room_less l1 l2 (walked file w d) 100000000 900000000 held.counts (λ i. omega (arith, walked_most file w d i s.few, s.few)) (room_fewer l1 (900000000 + 100000000) 1000000000 (omega arith) room_all)
 
         module _ (r : ℕ) (er : r ≡ row_width file) where
           pub answers_needs : (4 ≤ r) × ((f ≤ 4096) × ((r * f ≤ length rows) × Room l2 4096))
@@ -71,7 +74,7 @@ module _ (file rows : List ℕ) (k d f : ℕ) (told : Told file rows k d f) wher
           module _ (l3 : List ℕ) (n : ℕ) (e3 : numbers l3 ≡ sum (numbers l2) (answered rows r f)) (en : n ≡ packed 4 (finished rows r f)) where
             pub close_needs : (n ≤ b) × Room l3 32768
             close_needs = (
-              rw (en, eb, ew, er) s.order,
+              rw (en, held.begun, ew, er) s.order,
               room_fewer l3 32768 800000000 (omega arith) (room_less l2 l3 (answered rows r f) 100000000 800000000 e3 (λ i. omega (arith, answered_most rows r f i, s.rows_few)) (room_fewer l2 (800000000 + 100000000) 900000000 (omega arith) room_walked)),
             )
 
@@ -81,9 +84,9 @@ module _ (file rows : List ℕ) (k d f : ℕ) (told : Told file rows k d f) wher
             pub file_whole : (l4 : List ℕ) → numbers l4 ≡ sum (numbers l3) (closing 4 a (b - n)) → numbers l4 ≡ sum (numbers l) (file_tally file (length rows))
             file_whole l4 e4 =
                 e4
-                ∙ (ap (λ (v : Tally). sum v (closing 4 a (b - n))) (e3 ∙ ap (λ (v : Tally). sum v (answered rows r f)) (e2 ∙ ap (λ (v : Tally). sum v (walked file w d)) e1))
+                ∙ (ap (λ (v : Tally). sum v (closing 4 a (b - n))) (e3 ∙ ap (λ (v : Tally). sum v (answered rows r f)) (held.counts ∙ ap (λ (v : Tally). sum v (walked file w d)) e1))
                 ∙ (gather (numbers l) (refused_once k) (walked file w d) (answered rows r f) (closing 4 a (b - n))
-                ∙ ap (sum (numbers l)) (ap (sum (refused_once k)) (rw (ea, eb, en, ew, er) s.total) ∙ sym file_is)))
+                ∙ ap (sum (numbers l)) (ap (sum (refused_once k)) (rw (held.lanes, held.begun, en, ew, er) s.total) ∙ sym file_is)))
 
 -- ---- what Run handed back
 pub told_by : (file rows lent : List ℕ) (p : Report) → p ≡ run_report file (length lent) → rows ≡ run_buffer file lent → length rows ≡ length lent → Told file rows p.refusal p.records p.rows
@@ -118,8 +121,8 @@ module _ (file : List ℕ) (n : ℕ) (l : List ℕ) (p : Report) (ep : p ≡ run
   past_numbers h e = rw e (laid_list l (numbers l) h (λ i _. refl))
 
   -- what lies in 32 bits fits
-  pub words_fit : (m : List ℕ) → Words m → numbers m ≡ sum (numbers l) (file_tally file n) → fits (sum (numbers l) (file_tally file n)) ≡ true
-  words_fit m w f = sym (rw (← f) (within_all 65 (numbers m) (λ i _. w.at i)))
+  pub words_fit : (m : List ℕ) → ((i : ℕ) → get_or m i 0 < 4294967296) → numbers m ≡ sum (numbers l) (file_tally file n) → fits (sum (numbers l) (file_tally file n)) ≡ true
+  words_fit m w f = sym (rw (← f) (within_all 65 (numbers m) (λ i _. w i)))
 
 -- ---- a tally of nothing
 zeros : (n i : ℕ) → ◌≡◌ {A = ℕ} (get_or (replicate n 0) i 0) 0

@@ -6,7 +6,7 @@ use Prim.Native.Nat.{ℕ, zero, suc, ◌+◌, ◌-◌, ◌*◌, ◌/◌, ◌%◌
 use native.Mathlib.Omega.{arith}
 use native.Mathlib.Numerals.{add-one}
 use native.Mathlib.Decide.{ℕ_discrete}
-use native.Mathlib.Nat.{mul-suc, mul-le-mul_left, mod-eq_of_lt}
+use native.Mathlib.Nat.{mod-eq_of_lt}
 use borrow.Author.Tests.{eq-eqb, ne_eqb}
 use lib.ListN.{get_or}
 use Rattle.container.specs.Choice.{ite, upd}
@@ -16,26 +16,6 @@ use Rattle.tally.proofs.Sums.{sum_assoc, sum_none}
 use Rattle.tally.proofs.Walks.{lanes_step, lanes_start, begun_step, begun_start, walked_step, walked_start, sum_most, taken_most, just_most, lanes_most, begun_most, walked_most, answered_most, finished_most}
 use Rattle.tally.proofs.Lanes.{lane_is, packed_fits, lane_changed, lane_within, unit_small, power_is, closing_some, closing_end}
 
--- ---- where a record or a row lies
-pub part_in : (w k d at from n : ℕ) → at ≡ from + w * k → k < d → from + w * d ≤ n → (at + w ≤ n) × (at + w ≡ from + w * (k + 1))
-part_in w k d at from n e h l =
-    let q : w * (k + 1) ≡ w * k + w = ap (λ (m : ℕ). w * m) (add-one k) ∙ mul-suc w k in
-    let p : w * (k + 1) ≤ w * d = mul-le-mul_left w (let r : k + 1 ≤ d = omega arith in r) in
-    (omega arith, omega arith)
-
--- and four in a row
-pub record Four (w k at n : ℕ) : Type 0 where
-  pub one : at + w ≡ 3 + w * (k + 1)
-  pub two : at + 2 * w ≡ 3 + w * (k + 1 + 1)
-  pub three : at + 3 * w ≡ 3 + w * (k + 1 + 1 + 1)
-  pub four : at + 4 * w ≡ 3 + w * (k + 4)
-  pub fits : at + 4 * w ≤ n
-
-pub four_in : (w k d at n : ℕ) → at ≡ 3 + w * k → k + 3 < d → 3 + w * d ≤ n → Four w k at n
-four_in w k d at n e h l =
-    let p : w * (k + 4) ≤ w * d = mul-le-mul_left w (let r : k + 4 ≤ d = omega arith in r) in
-    record { one = omega arith; two = omega arith; three = omega arith; four = omega arith; fits = omega arith }
-
 -- what is added keeps within the room
 pub room_less : (l k : List ℕ) (u : Tally) (m n : ℕ) → numbers k ≡ sum (numbers l) u → ((i : ℕ) → u i ≤ m) → Room l (n + m) → Room k n
 room_less l k u m n e h r = record { at = λ i b. omega (arith, r.at i b, ap (λ (t : Tally). t i) e, sum_most (numbers l) u i, h i) }
@@ -44,9 +24,9 @@ pub room_fewer : (l : List ℕ) (m n : ℕ) → m ≤ n → Room l n → Room l 
 room_fewer l m n h r = record { at = λ i b. omega (arith, r.at i b) }
 
 -- ---- the records
-pub held_none : (file : List ℕ) (w : ℕ) (first : List ℕ) → Held file w 0 first first 0 0
+pub held_none : (file : List ℕ) (w : ℕ) (first : List ℕ) (a b : ℕ) → a ≡ 0 → b ≡ 0 → Held file w 0 first first a b
 unfolding walked lanes begun packed
-held_none file w first = record { counts = sym (sum_none (numbers first)); lanes = refl; begun = refl }
+held_none file w first a b p q = record { counts = sym (sum_none (numbers first)); lanes = p; begun = q }
 
 module _ (file : List ℕ) (w k : ℕ) (first tally : List ℕ) (a b : ℕ) (few : k < 4096) (h : Held file w k first tally a b) (x : ℕ) (e : first_byte file w k ≡ x) where
   small : thread_of x < 4
@@ -176,9 +156,6 @@ pub record Closes (total : Tally) (tally : List ℕ) (w o : ℕ) : Type 0 where
   pub left : sum (numbers tally) (closing lanes w o) ≡ total
   pub room : Room tally (8192 * lanes)
 
-pub closes_first : (l : List ℕ) (w o : ℕ) → w < 2 ^ 64 → Room l 32768 → Closes (sum (numbers l) (closing 4 w o)) l w o
-closes_first l w o h r = record { lanes = 4; low = h; left = refl; room = r }
-
 pub closes_last : (total : Tally) (l : List ℕ) (w o : ℕ) → Closes total l w o → w ≡ 0 → numbers l ≡ total
 closes_last total l w o c z = sym (sum_none (numbers l)) ∙ (ap (sum (numbers l)) (sym (closing_end c.lanes w o z)) ∙ c.left)
 
@@ -200,14 +177,7 @@ module _ (total : Tally) (l : List ℕ) (w o : ℕ) (some : w ≢ 0) where
     room = room_less l k u 8192 (8192 * n) f b (room_fewer l (8192 * n + 8192) (8192 * suc n) (omega arith) r);
   }
 
-  room_by : (n : ℕ) → w < 65536 ^ n → Room l (8192 * n) → Room l 8192
-  room_by zero h r = absurd (some (omega arith))
-  room_by (suc n) h r = room_fewer l 8192 (8192 * suc n) (omega arith) r
-
   module _ (c : Closes total l w o) where
-    pub closes_room : Room l 8192
-    closes_room = room_by c.lanes c.low c.room
-
     pub closes_steps : (k : List ℕ) → o % 65536 ≡ 0 → numbers k ≡ sum (numbers l) (taken (w % 65536 % 8) (w % 65536 / 8)) → Closes total k (w / 65536) (o / 65536)
     closes_steps k z f = by_lanes c.lanes c.low c.left c.room k (taken (w % 65536 % 8) (w % 65536 / 8)) (λ i. omega (arith, taken_most (w % 65536 % 8) (w % 65536 / 8) i)) f (closed_steps (w % 65536) (o % 65536) z)
 

@@ -1,5 +1,6 @@
 -- Marks: a lane is not 0 where its record is marked, and sixteen lanes are folded into sixteen bits. Assumes nothing.
 use mathlib.Core.Path.{◌≡◌, refl, sym, ap, ap₂, ◌∙◌}
+use mathlib.Core.Logic.{inl, inr}
 use mathlib.Core.Bool.{Bool, true, false}
 use mathlib.Core.List.{List}
 use Prim.Native.Nat.{ℕ, ◌+◌, ◌-◌, ◌*◌, ◌/◌, ◌%◌, ◌≤◌, ◌<◌}
@@ -12,7 +13,9 @@ use lib.Bits.{bit_and, bit_xor, and_block, and_high, and_le_l, and_le_r, xor_sel
 use lib.ListN.{get_or}
 use Rattle.container.specs.Choice.{ite}
 use Rattle.tally.specs.Walk.{packed}
-use Rattle.tally.specs.Marks.{step_after, mark, bits, apart, crossed}
+use Rattle.tally.specs.Marks.{step_after, mark, bits, apart, crossed, in_lane, Width}
+use native.Mathlib.Nat.{mul-add, mul_comm}
+use Rattle.tally.proofs.Bits.{bits_low}
 use Rattle.tally.proofs.Apart.{Below, lanes_same, packed_and, apart_low}
 
 tops : packed 4 (λ _. 16448) ≡ 4629771061636907072
@@ -139,10 +142,6 @@ module _ (f : ℕ → ℕ) (h : (i : ℕ) → f i ≤ 1) where
       folded_wide (lane f h 0) (lane f h 1) (lane f h 2) (lane f h 3) (lane_low f h 0) (lane_low f h 1) (lane_low f h 2) (lane_low f h 3) word_wide word_wide_is ∙ omega arith
 
 -- ---- from the words of the code
-pub marks_fit : (x y : ℕ → ℕ) → ((l : ℕ) → x l ≤ 1) → ((l : ℕ) → y l ≤ 1) → packed 4 (λ l. x l + 256 * y l) ≤ 72340172838076673
-unfolding packed
-marks_fit x y p q = omega (arith, p 0, p 1, p 2, p 3, q 0, q 1, q 2, q 3)
-
 module _ (s : List ℕ) (w : ℕ) (f g : ℕ → ℕ) (a c : ℕ) (p : a ≡ packed 4 (λ l. apart s w (f l))) (q : c ≡ packed 4 (λ l. apart s w (g l))) where
   pub pair_fits : (a ≤ 17733194119839807) × (c ≤ 17733194119839807)
   pair_fits = (
@@ -162,3 +161,47 @@ module _ (s : List ℕ) (w : ℕ) (f g : ℕ → ℕ) (a c : ℕ) (p : a ≡ pac
 pub placed : (s : List ℕ) (w : ℕ) (f g f' g' : ℕ → ℕ) → ((l : ℕ) → f l ≡ f' l) → ((l : ℕ) → g l ≡ g' l)
     → packed 4 (λ l. mark s w (f l) + 256 * mark s w (g l)) ≡ packed 4 (λ l. mark s w (f' l) + 256 * mark s w (g' l))
 placed s w f g f' g' p q = lanes_same 4 _ _ (λ l _. ap₂ (λ (x y : ℕ). mark s w x + 256 * mark s w y) (p l) (q l))
+
+-- n records of w bytes further
+pub further : (at w n i : ℕ) → at + n * w + w * i ≡ at + w * (n + i)
+further at w n i = let p = mul-add w n i in let q = mul_comm n w in omega arith
+
+-- ---- sixteen records of w bytes
+pub fold_is : (w : ℕ) → Width w → (f : ℕ → ℕ) → ((i : ℕ) → f i ≤ 1)
+    → let m = packed 4 (λ l. f (in_lane w l) + 256 * f (8 + in_lane w l)) + 16 * packed 4 (λ l. f (4 + in_lane w l) + 256 * f (12 + in_lane w l)) in
+    let h = m % 4294967296 + 8 / w * (m / 4294967296) in h % 65536 + w * (h / 65536) ≡ bits 16 f
+unfolding ite
+fold_is w (inl e) f h = rw e (sixteen_is f h)
+fold_is w (inr e) f h = rw e (sixteen_wide_is f h)
+
+module _ (s : List ℕ) (w at : ℕ) (wide : Width w) (a b c d : ℕ)
+    (pa : a ≡ packed 4 (λ l. apart s w (at + w * in_lane w l))) (pb : b ≡ packed 4 (λ l. apart s w (at + 4 * w + w * in_lane w l)))
+    (pc : c ≡ packed 4 (λ l. apart s w (at + 8 * w + w * in_lane w l))) (pd : d ≡ packed 4 (λ l. apart s w (at + 12 * w + w * in_lane w l))) where
+  pub even_fits : (a ≤ 17733194119839807) × (c ≤ 17733194119839807)
+  even_fits = pair_fits s w (λ l. at + w * in_lane w l) (λ l. at + 8 * w + w * in_lane w l) a c pa pc
+
+  pub odd_fits : (b ≤ 17733194119839807) × (d ≤ 17733194119839807)
+  odd_fits = pair_fits s w (λ l. at + 4 * w + w * in_lane w l) (λ l. at + 12 * w + w * in_lane w l) b d pb pd
+
+  abbrev at-bit : ℕ → ℕ
+  at-bit i = mark s w (at + w * i)
+
+  one_bit : (i : ℕ) → at-bit i ≤ 1
+  one_bit i = mark_low s w (at + w * i)
+
+  module _ (e o : ℕ) (pe : e ≡ bit_and (a + 256 * c + 4557430888798830399) 4629771061636907072 / 64) (po : o ≡ bit_and (b + 256 * d + 4557430888798830399) 4629771061636907072 / 64) where
+    even : e ≡ packed 4 (λ l. at-bit (in_lane w l) + 256 * at-bit (8 + in_lane w l))
+    even =
+        pe ∙ (pair_marks s w (λ l. at + w * in_lane w l) (λ l. at + 8 * w + w * in_lane w l) a c pa pc
+        ∙ placed s w (λ l. at + w * in_lane w l) (λ l. at + 8 * w + w * in_lane w l) (λ l. at + w * in_lane w l) (λ l. at + w * (8 + in_lane w l)) (λ l. refl) (λ l. further at w 8 (in_lane w l)))
+
+    odd : o ≡ packed 4 (λ l. at-bit (4 + in_lane w l) + 256 * at-bit (12 + in_lane w l))
+    odd =
+        po ∙ (pair_marks s w (λ l. at + 4 * w + w * in_lane w l) (λ l. at + 12 * w + w * in_lane w l) b d pb pd
+        ∙ placed s w (λ l. at + 4 * w + w * in_lane w l) (λ l. at + 12 * w + w * in_lane w l) (λ l. at + w * (4 + in_lane w l)) (λ l. at + w * (12 + in_lane w l)) (λ l. further at w 4 (in_lane w l)) (λ l. further at w 12 (in_lane w l)))
+
+    pub folded_is : let m = e + 16 * o in let h = m % 4294967296 + 8 / w * (m / 4294967296) in
+        (h % 65536 + w * (h / 65536) ≡ bits 16 (λ i. mark s w (at + w * i))) × (h % 65536 + w * (h / 65536) < 65536)
+    folded_is =
+        let p = ap (λ (m : ℕ). let h = m % 4294967296 + 8 / w * (m / 4294967296) in h % 65536 + w * (h / 65536)) (ap₂ (λ (x y : ℕ). x + 16 * y) even odd) ∙ fold_is w wide at-bit one_bit in
+        (p, rw p (bits_low 16 at-bit one_bit))

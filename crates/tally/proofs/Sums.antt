@@ -4,60 +4,15 @@ use mathlib.Core.Path.{◌≡◌, refl, sym, ap, ◌∙◌, fun_ext}
 use mathlib.Core.Logic.{◌≢◌}
 use mathlib.Core.Bool.{Bool, true, false}
 use mathlib.Core.List.{List}
-use Prim.Native.Nat.{ℕ, ◌+◌, ◌/◌, ◌≤◌, ◌<◌}
+use Prim.Native.Nat.{ℕ, max, ◌+◌, ◌/◌, ◌≤◌, ◌<◌}
 use native.Mathlib.Omega.{arith}
 use native.Mathlib.Decide.{ℕ_discrete}
-use borrow.Author.Tests.{ltb-true, ltb-false, lt-ltb, le-ltb, eq-eqb, ne_eqb}
-use lib.Dec.{eqb, ltb}
+use borrow.Author.Tests.{eq-eqb, ne_eqb}
+use lib.Dec.{eqb}
 use lib.ListN.{length, get_or, set}
 use lib.Seq.{get_or-set_same, get_or-set_other}
 use Rattle.container.specs.Choice.{ite}
-use Rattle.season.specs.Tally.{Tally, empty, just, larger, join, sum, numbers}
-
--- ---- the larger of two
-
--- it is the least number that neither passes
-larger_left : (a b : ℕ) → a ≤ larger a b
-unfolding ite
-larger_left a b = by (ltb a b) refl
-  where
-    by : (c : Bool) → ltb a b ≡ c → a ≤ ite c b a
-    by true e = omega (arith, ltb-true a b e)
-    by false e = omega arith
-
-larger_right : (a b : ℕ) → b ≤ larger a b
-unfolding ite
-larger_right a b = by (ltb a b) refl
-  where
-    by : (c : Bool) → ltb a b ≡ c → b ≤ ite c b a
-    by true e = omega arith
-    by false e = omega (arith, ltb-false a b e)
-
-pub larger_least : (a b m : ℕ) → a ≤ m → b ≤ m → larger a b ≤ m
-unfolding ite
-larger_least a b m p q = by (ltb a b)
-  where
-    by : (c : Bool) → ite c b a ≤ m
-    by true = q
-    by false = p
-
-larger_comm : (a b : ℕ) → larger a b ≡ larger b a
-larger_comm a b =
-    let p = larger_least a b (larger b a) (larger_right b a) (larger_left b a) in
-    let q = larger_least b a (larger a b) (larger_right a b) (larger_left a b) in
-    omega arith
-
-larger_assoc : (a b c : ℕ) → larger (larger a b) c ≡ larger a (larger b c)
-larger_assoc a b c =
-    let m = larger a (larger b c) in
-    let n = larger (larger a b) c in
-    let b-in : b ≤ m = omega (arith, larger_left b c, larger_right a (larger b c)) in
-    let c-in : c ≤ m = omega (arith, larger_right b c, larger_right a (larger b c)) in
-    let b-on : b ≤ n = omega (arith, larger_right a b, larger_left (larger a b) c) in
-    let a-on : a ≤ n = omega (arith, larger_left a b, larger_left (larger a b) c) in
-    let p : n ≤ m = larger_least (larger a b) c m (larger_least a b m (larger_left a (larger b c)) b-in) c-in in
-    let q : m ≤ n = larger_least a (larger b c) n a-on (larger_least b c n b-on (larger_right (larger a b) c)) in
-    omega arith
+use Rattle.season.specs.Tally.{Tally, empty, just, join, sum, numbers}
 
 -- ---- two numbers of a place
 module _ (i : ℕ) where
@@ -65,24 +20,24 @@ module _ (i : ℕ) where
   unfolding join ite
   join_comm a b = by (eqb (i / 8) 5)
     where
-      by : (c : Bool) → ite c (larger a b) (a + b) ≡ ite c (larger b a) (b + a)
-      by true = larger_comm a b
+      by : (c : Bool) → ite c (max a b) (a + b) ≡ ite c (max b a) (b + a)
+      by true = omega arith
       by false = omega arith
 
   join_assoc : (a b d : ℕ) → join i (join i a b) d ≡ join i a (join i b d)
   unfolding join ite
   join_assoc a b d = by (eqb (i / 8) 5)
     where
-      by : (c : Bool) → ite c (larger (ite c (larger a b) (a + b)) d) (ite c (larger a b) (a + b) + d) ≡ ite c (larger a (ite c (larger b d) (b + d))) (a + ite c (larger b d) (b + d))
-      by true = larger_assoc a b d
+      by : (c : Bool) → ite c (max (ite c (max a b) (a + b)) d) (ite c (max a b) (a + b) + d) ≡ ite c (max a (ite c (max b d) (b + d))) (a + ite c (max b d) (b + d))
+      by true = omega arith
       by false = omega arith
 
   pub join_zero : (a : ℕ) → join i a 0 ≡ a
   unfolding join ite
   join_zero a = by (eqb (i / 8) 5)
     where
-      by : (c : Bool) → ite c (larger a 0) (a + 0) ≡ a
-      by true = rw (le-ltb a 0 (omega arith))
+      by : (c : Bool) → ite c (max a 0) (a + 0) ≡ a
+      by true = omega arith
       by false = omega arith
 
   -- a join is at most the sum
@@ -90,8 +45,8 @@ module _ (i : ℕ) where
   unfolding join ite
   join_most a b = by (eqb (i / 8) 5)
     where
-      by : (c : Bool) → ite c (larger a b) (a + b) ≤ a + b
-      by true = larger_least a b (a + b) (omega arith) (omega arith)
+      by : (c : Bool) → ite c (max a b) (a + b) ≤ a + b
+      by true = omega arith
       by false = omega arith
 
   -- and at least the first
@@ -99,12 +54,12 @@ module _ (i : ℕ) where
   unfolding join ite
   join_least a b = by (eqb (i / 8) 5)
     where
-      by : (c : Bool) → a ≤ ite c (larger a b) (a + b)
-      by true = larger_left a b
+      by : (c : Bool) → a ≤ ite c (max a b) (a + b)
+      by true = omega arith
       by false = omega arith
 
 -- where the larger counts, and where the sum
-pub join_larger : (i a b : ℕ) → i / 8 ≡ 5 → join i a b ≡ larger a b
+pub join_larger : (i a b : ℕ) → i / 8 ≡ 5 → join i a b ≡ max a b
 unfolding join ite
 join_larger i a b e = rw (eq-eqb (i / 8) 5 e)
 
@@ -170,17 +125,6 @@ module _ (l : List ℕ) (i n v : ℕ) (in_List : i < length l) (e : v ≡ join i
 pub more_is : (l : List ℕ) (i n : ℕ) → i < length l → i / 8 ≢ 5 → numbers (set l i (get_or l i 0 + n)) ≡ sum (numbers l) (just i n)
 more_is l i n h q = stored_is l i n (get_or l i 0 + n) h (sym (join_sum i (get_or l i 0) n q))
 
--- a largest number that is smaller is replaced, and one that is not stays
-pub larger_is : (l : List ℕ) (i n : ℕ) → i < length l → i / 8 ≡ 5 → get_or l i 0 < n → numbers (set l i n) ≡ sum (numbers l) (just i n)
-unfolding ite
-larger_is l i n h q s = stored_is l i n n h (sym (join_larger i (get_or l i 0) n q ∙ rw (lt-ltb (get_or l i 0) n s)))
-
-pub smaller_is : (l : List ℕ) (i n : ℕ) → i / 8 ≡ 5 → n ≤ get_or l i 0 → numbers l ≡ sum (numbers l) (just i n)
-unfolding sum ite
-smaller_is l i n q s = fun_ext at
-  where
-    at : (j : ℕ) → get_or l j 0 ≡ join j (get_or l j 0) (just i n j)
-    at j = elim (ℕ_discrete j i) [
-      | yes e ↦ rw e (sym (ap (join i (get_or l i 0)) (just_same i n) ∙ (join_larger i (get_or l i 0) n q ∙ rw (le-ltb (get_or l i 0) n s))))
-      | no e ↦ sym (ap (join j (get_or l j 0)) (just_other i n j e) ∙ join_zero j (get_or l j 0))
-    ]
+-- the largest number
+pub larger_is : (l : List ℕ) (i n v : ℕ) → i < length l → i / 8 ≡ 5 → v ≡ max (get_or l i 0) n → numbers (set l i v) ≡ sum (numbers l) (just i n)
+larger_is l i n v h q e = stored_is l i n v h (e ∙ sym (join_larger i (get_or l i 0) n q))

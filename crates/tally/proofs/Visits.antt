@@ -1,25 +1,24 @@
 -- Records that are not marked are steps of the thread before them; so between two records that are visited the lanes grow by the distance.
 -- What the loop over the marks holds. Assumes nothing.
 use mathlib.Core.Path.{◌≡◌, refl, sym, ap, ap₂, ◌∙◌, subst, subst₂}
-use mathlib.Core.Logic.{◌≢◌, inl, inr}
+use mathlib.Core.Logic.{◌≢◌}
 use mathlib.Core.List.{List}
 use Prim.Native.Nat.{ℕ, zero, suc, ◌+◌, ◌-◌, ◌*◌, ◌/◌, ◌%◌, ◌^◌, ◌≤◌, ◌<◌}
 use native.Mathlib.Omega.{arith}
 use native.Mathlib.Numerals.{add-one}
 use native.Mathlib.Decide.{ℕ_discrete}
-use native.Mathlib.Nat.{mul-add, add-mul, mul-one, zero-mul, mul-le-mul_left}
+use native.Mathlib.Nat.{mul-add, add-mul, mul-one, zero-mul}
 use borrow.Author.Tests.{eq-eqb, ne_eqb}
 use lib.Dec.{eqb}
 use lib.Bits.{bit_and}
 use lib.Count.{count_trailing_zeros}
-use lib.ListN.{length, get_or}
+use lib.ListN.{get_or}
 use Rattle.container.specs.Choice.{ite}
 use Rattle.season.specs.Tally.{Tally, empty, just, sum, taken, numbers}
 use Rattle.tally.specs.Walk.{first_byte, thread_of, lanes, lane_in, Ready, Turned, Visited, Held, Reached, Onward, Low}
-use Rattle.tally.specs.Marks.{Width, mark, bits, step_after, step_word}
+use Rattle.tally.specs.Marks.{mark, bits, step_after, step_word}
 use Rattle.tally.proofs.Bits.{bits_same, Found, found, none_set}
 use Rattle.tally.proofs.Marking.{mark_low}
-use Rattle.tally.proofs.Blocks.{width_some}
 use Rattle.tally.proofs.Sums.{sum_none, just_none}
 use Rattle.tally.proofs.Walks.{lanes_most}
 use Rattle.tally.proofs.Lanes.{packed_fits, unit_small}
@@ -157,22 +156,6 @@ pub record Visiting (file : List ℕ) (w k n mask one last a b : ℕ) (l : List 
   pub same : thread_of (first_byte file w (k + from - 1)) ≡ thread
   pub held : (first : List ℕ) → Held file w k first l₀ a₀ b₀ → Held file w (k + from) first l (step_word a (from - last) one) b
 
-place_in : (w k n len i : ℕ) → 3 + w * (k + n) ≤ len → i < n → 1 ≤ w → (3 + w * k + w * i ≡ 3 + w * (k + i)) × (3 + w * k + w * i < len)
-place_in w k n len i h l s =
-    let e = mul-add w k i in
-    let p : w * (k + i + 1) ≤ w * (k + n) = mul-le-mul_left w (let q : k + i + 1 ≤ k + n = omega arith in q) in
-    let r = mul-add w (k + i) 1 in
-    (omega arith, omega arith)
-
--- where the block lies
-begin_in : (w k n len : ℕ) → Width w → 1 ≤ k → k + n ≤ 4096 → 3 + w * (k + n) ≤ len → (w * k ≤ 16384) × ((w ≤ 3 + w * k) × (3 + w * k - w < len))
-begin_in w k n len (inl e) a b c = rw e (omega (arith, ap (λ (m : ℕ). m * (k + n)) e))
-begin_in w k n len (inr e) a b c = rw e (omega (arith, ap (λ (m : ℕ). m * (k + n)) e))
-
-times_in : (w i : ℕ) → Width w → i < 64 → w * i ≤ 256
-times_in w i (inl e) l = rw e (omega arith)
-times_in w i (inr e) l = rw e (omega arith)
-
 -- ---- a record that is visited
 module _ (file : List ℕ) (w k : ℕ) (first tally : List ℕ) (a b : ℕ) (few : k < 4096) (h : Held file w k first tally a b) (x : ℕ) (e : first_byte file w k ≡ x) (low : x < 64) where
   visited_held : (f a' b' u : ℕ) (l : List ℕ) → f ≡ ite (eqb (x % 16) 0) 0 1 → u ≡ 65536 ^ (x / 16) → Visited x a b tally a' b' l
@@ -191,23 +174,17 @@ module _ (file : List ℕ) (w k : ℕ) (first tally : List ℕ) (a b : ℕ) (few
         (omega (arith, z), turned_held file w k first tally a b few h x e low (step_word a' (1 - f) u) b' l turned)
   ]
 
--- ---- what a turn needs and makes: the record of the lowest mark, its place i in the block, x its first byte
-abbrev at : ℕ → ℕ → ℕ → ℕ
-at w k mask = 3 + w * k + w * count_trailing_zeros 64 mask
-
+-- ---- what a turn needs and makes: the record of the lowest mark, the i-th of the block, x its first byte
 pub record Lowest (file : List ℕ) (w k n mask one last a b : ℕ) (l : List ℕ) (a₀ b₀ : ℕ) (l₀ : List ℕ) : Type 0 where
   pub seen : last ≤ count_trailing_zeros 64 mask
-  pub near : count_trailing_zeros 64 mask < 64
-  pub short : w * count_trailing_zeros 64 mask ≤ 256
-  pub inside : at w k mask < length file
-  pub low : get_or file (at w k mask) 0 < 64
+  pub inside : count_trailing_zeros 64 mask < n
+  pub near : n ≤ 64
   pub unit : one ≤ 281474976710656
   pub fits : step_word a (count_trailing_zeros 64 mask - last) one < 18446744073709551616
   pub less : bit_and mask (mask - 1) < mask
-  pub ready : (g : ℕ) → g ≡ step_word a (count_trailing_zeros 64 mask - last) one → Ready (get_or file (at w k mask) 0) g b l
-  pub small : (f : ℕ) → f ≡ ite (eqb (get_or file (at w k mask) 0 % 16) 0) 0 1 → f ≤ 1
-  pub next : (g f a' b' u : ℕ) (l' : List ℕ) → g ≡ step_word a (count_trailing_zeros 64 mask - last) one → f ≡ ite (eqb (get_or file (at w k mask) 0 % 16) 0) 0 1
-      → u ≡ 65536 ^ (get_or file (at w k mask) 0 / 16) → Visited (get_or file (at w k mask) 0) g b l a' b' l'
+  pub ready : (x g : ℕ) → x ≡ first_byte file w (k + count_trailing_zeros 64 mask) → g ≡ step_word a (count_trailing_zeros 64 mask - last) one → Ready x g b l
+  pub next : (x g f a' b' u : ℕ) (l' : List ℕ) → x ≡ first_byte file w (k + count_trailing_zeros 64 mask) → g ≡ step_word a (count_trailing_zeros 64 mask - last) one
+      → f ≡ ite (eqb (x % 16) 0) 0 1 → u ≡ 65536 ^ (x / 16) → Visited x g b l a' b' l'
       → Visiting file w k n (bit_and mask (mask - 1)) u (count_trailing_zeros 64 mask + f) a' b' l' a₀ b₀ l₀
 
 -- what is left when there is no mark any more
@@ -218,7 +195,7 @@ pub record Ended (file : List ℕ) (w k n one last a b : ℕ) (l : List ℕ) (a�
   pub fits : step_word a (n - last) one < 18446744073709551616
   pub onward : (g : ℕ) → g ≡ step_word a (n - last) one → Onward file w k n a₀ b₀ l₀ g b l
 
-one_bit : (x f : ℕ) → f ≡ ite (eqb (x % 16) 0) 0 1 → f ≤ 1
+pub one_bit : (x f : ℕ) → f ≡ ite (eqb (x % 16) 0) 0 1 → f ≤ 1
 unfolding ite
 one_bit x f e = elim (ℕ_discrete (x % 16) 0) [
   | yes s ↦ let z : f ≡ 0 = e ∙ (rw (eq-eqb (x % 16) 0 s)) in omega (arith, z)
@@ -227,24 +204,18 @@ one_bit x f e = elim (ℕ_discrete (x % 16) 0) [
 
 -- ---- the loop over the marks of a block
 module _ (file : List ℕ) (w k n m₀ a₀ b₀ : ℕ) (l₀ : List ℕ) (h : Reached file w k n m₀ a₀ b₀ l₀) where
-  pub begins : (w * k ≤ 16384) × ((w ≤ 3 + w * k) × (3 + w * k - w < length file))
-  begins = begin_in w k n (length file) h.width h.some h.end h.inside
-
-  pub before_low : get_or file (3 + w * k - w) 0 < 64
-  before_low = rw (before_it w k h.some) (h.low.at (k - 1) (omega (arith, h.some)))
-
-  pub visiting_first : (u : ℕ) → u ≡ 65536 ^ (get_or file (3 + w * k - w) 0 / 16) → Visiting file w k n m₀ u 0 a₀ b₀ l₀ a₀ b₀ l₀
-  visiting_first u e = record {
+  pub visiting_first : (x u : ℕ) → x ≡ first_byte file w (k - 1) → u ≡ 65536 ^ (x / 16) → Visiting file w k n m₀ u 0 a₀ b₀ l₀ a₀ b₀ l₀
+  visiting_first x u q e = record {
     from = 0;
     seen = omega arith;
     end = omega arith;
     left = h.marks
         ∙ (bits_same n _ _ (λ i _. ap (λ (j : ℕ). mark file w (3 + w * k + w * j)) (let q : i ≡ 0 + i = omega arith in q))
         ∙ (ap (λ (j : ℕ). bits j (λ i. mark file w (3 + w * k + w * (0 + i)))) (let q : n ≡ n - 0 = omega arith in q) ∙ sym (mul-one (bits (n - 0) (λ i. mark file w (3 + w * k + w * (0 + i)))))));
-    thread = get_or file (3 + w * k - w) 0 / 16;
+    thread = x / 16;
     unit = e;
     same = ap (λ (j : ℕ). thread_of (first_byte file w j)) (let q : k + 0 - 1 ≡ k - 1 = omega arith in q)
-        ∙ (ap (λ (j : ℕ). thread_of (get_or file j 0)) (sym (before_it w k h.some)) ∙ omega (arith, before_low));
+        ∙ (ap thread_of (sym q) ∙ omega (arith, q, h.low.at (k - 1) (omega (arith, h.some))));
     held = λ first g. subst₂ (λ (i m : ℕ). Held file w i first l₀ m b₀) (let q : k ≡ k + 0 = omega arith in q) (sym (word_none a₀ u)) g;
   }
 
@@ -300,12 +271,6 @@ module _ (file : List ℕ) (w k n m₀ a₀ b₀ : ℕ) (l₀ : List ℕ) (h : R
       inside : (last ≤ i) × (i < n)
       inside = (omega (arith, is, v.seen), omega (arith, is, here.inside))
 
-      lies : (3 + w * k + w * i ≡ 3 + w * (k + i)) × (3 + w * k + w * i < length file)
-      lies = place_in w k n (length file) i h.inside inside.1 (width_some w h.width)
-
-      byte_low : get_or file (3 + w * k + w * i) 0 < 64
-      byte_low = rw lies.0 (h.low.at (k + i) (omega (arith, inside.1)))
-
       come : (first : List ℕ) → Held file w k first l₀ a₀ b₀ → Held file w (k + i) first l (step_word a (i - last) one) b
       come first g = up_to i (omega (arith, is)) (omega (arith, inside.1)) (λ j r. here.quiet j (omega (arith, is))) first g
 
@@ -315,11 +280,8 @@ module _ (file : List ℕ) (w k n m₀ a₀ b₀ : ℕ) (l₀ : List ℕ) (h : R
       few_here : k + i < 4096
       few_here = omega (arith, inside.1, h.end)
 
-      byte_is : first_byte file w (k + i) ≡ get_or file (3 + w * k + w * i) 0
-      byte_is = ap (λ (j : ℕ). get_or file j 0) (sym lies.0)
-
-      ready_here : Ready (get_or file (3 + w * k + w * i) 0) (step_word a (i - last) one) b l
-      ready_here = ready file w (k + i) h.first l (step_word a (i - last) one) b few_here (come h.first h.held) (get_or file (3 + w * k + w * i) 0) byte_is byte_low h.room
+      byte_low : first_byte file w (k + i) < 64
+      byte_low = h.low.at (k + i) (omega (arith, inside.1))
 
       rest : bit_and mask (mask - 1) ≡ bits (n - (i + 1)) (λ j. mark file w (3 + w * k + w * (i + 1 + j))) * 2 ^ (i + 1)
       rest =
@@ -329,39 +291,45 @@ module _ (file : List ℕ) (w k n m₀ a₀ b₀ : ℕ) (l₀ : List ℕ) (h : R
           ∙ bits_same (n - (i + 1)) _ _ (λ j _. ap (λ (m : ℕ). mark file w (3 + w * k + w * m)) (let q : v.from + (suc here.i + j) ≡ i + 1 + j = omega (arith, is) in q)))
           (let q : v.from + suc here.i ≡ i + 1 = omega (arith, is) in q)
 
-      module _ (f a' b' u : ℕ) (l' : List ℕ) (ef : f ≡ ite (eqb (get_or file (3 + w * k + w * i) 0 % 16) 0) 0 1) (eu : u ≡ 65536 ^ (get_or file (3 + w * k + w * i) 0 / 16))
-          (t : Visited (get_or file (3 + w * k + w * i) 0) (step_word a (i - last) one) b l a' b' l') where
-        done : (first : List ℕ) → Held file w k first l₀ a₀ b₀ → (f ≤ 1) × Held file w (k + i + 1) first l' (step_word a' (1 - f) u) b'
-        done first g = visited_held file w (k + i) first l (step_word a (i - last) one) b few_here (come first g) (get_or file (3 + w * k + w * i) 0) byte_is byte_low f a' b' u l' ef eu t
+      module _ (x g : ℕ) (ex : x ≡ first_byte file w (k + i)) (eg : g ≡ step_word a (i - last) one) where
+        low : x < 64
+        low = rw ex byte_low
 
-        small : f ≤ 1
-        small = (done h.first h.held).0
+        come_as : (first : List ℕ) → Held file w k first l₀ a₀ b₀ → Held file w (k + i) first l g b
+        come_as first r = rw eg (come first r)
 
-        visiting_next : Visiting file w k n (bit_and mask (mask - 1)) u (i + f) a' b' l' a₀ b₀ l₀
-        visiting_next = record {
-          from = i + 1;
-          seen = omega (arith, small);
-          end = omega (arith, inside.1);
-          left = rest;
-          thread = get_or file (3 + w * k + w * i) 0 / 16;
-          unit = eu;
-          same = ap (λ (j : ℕ). thread_of (first_byte file w j)) (let q : k + (i + 1) - 1 ≡ k + i = omega arith in q) ∙ (ap thread_of byte_is ∙ omega (arith, byte_low));
-          held = λ first g. subst₂ (λ (m c : ℕ). Held file w m first l' c b') (let q : k + i + 1 ≡ k + (i + 1) = omega arith in q)
-              (ap (λ (m : ℕ). step_word a' m u) (let q : 1 - f ≡ i + 1 - (i + f) = omega (arith, small) in q))
-              (done first g).1;
-        }
+        ready_here : Ready x g b l
+        ready_here = ready file w (k + i) h.first l g b few_here (come_as h.first h.held) x (sym ex) low h.room
+
+        module _ (f a' b' u : ℕ) (l' : List ℕ) (ef : f ≡ ite (eqb (x % 16) 0) 0 1) (eu : u ≡ 65536 ^ (x / 16)) (t : Visited x g b l a' b' l') where
+          done : (first : List ℕ) → Held file w k first l₀ a₀ b₀ → (f ≤ 1) × Held file w (k + i + 1) first l' (step_word a' (1 - f) u) b'
+          done first r = visited_held file w (k + i) first l g b few_here (come_as first r) x (sym ex) low f a' b' u l' ef eu t
+
+          small : f ≤ 1
+          small = one_bit x f ef
+
+          visiting_next : Visiting file w k n (bit_and mask (mask - 1)) u (i + f) a' b' l' a₀ b₀ l₀
+          visiting_next = record {
+            from = i + 1;
+            seen = omega (arith, small);
+            end = omega (arith, inside.1);
+            left = rest;
+            thread = x / 16;
+            unit = eu;
+            same = ap (λ (j : ℕ). thread_of (first_byte file w j)) (let q : k + (i + 1) - 1 ≡ k + i = omega arith in q) ∙ (ap thread_of (sym ex) ∙ omega (arith, low));
+            held = λ first r. subst₂ (λ (m c : ℕ). Held file w m first l' c b') (let q : k + i + 1 ≡ k + (i + 1) = omega arith in q)
+                (ap (λ (m : ℕ). step_word a' m u) (let q : 1 - f ≡ i + 1 - (i + f) = omega (arith, small) in q))
+                (done first r).1;
+          }
 
       pub lowest : Lowest file w k n mask one last a b l a₀ b₀ l₀
       lowest = record {
         seen = inside.0;
-        near = omega (arith, inside.1, h.few);
-        short = times_in w i h.width (omega (arith, inside.1, h.few));
-        inside = lies.1;
-        low = byte_low;
+        inside = inside.1;
+        near = h.few;
         unit = one_small;
         fits = come_fits;
         less = here.less;
-        ready = λ g e. subst (λ (m : ℕ). Ready (get_or file (at w k mask) 0) m b l) (sym e) ready_here;
-        small = λ f e. one_bit (get_or file (at w k mask) 0) f e;
-        next = λ g f a' b' u l' eg ef eu t. visiting_next f a' b' u l' ef eu (subst (λ (m : ℕ). Visited (get_or file (at w k mask) 0) m b l a' b' l') eg t);
+        ready = ready_here;
+        next = λ x g f a' b' u l' ex eg ef eu t. visiting_next x g ex eg f a' b' u l' ef eu t;
       }

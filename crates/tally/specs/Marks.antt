@@ -1,5 +1,5 @@
 -- Marks: of the records from the second on, those that are not a step of the thread of the record before.
-use Rattle.std.specs.Prelude.{ℕ, zero, suc, ◌+◌, ◌-◌, ◌*◌, ◌/◌, ◌%◌, ◌<◌, ◌≡◌, ◌⊎◌, List, eqb, ltb, get_or}
+use Rattle.std.specs.Prelude.{ℕ, zero, suc, ◌+◌, ◌-◌, ◌*◌, ◌/◌, ◌%◌, ◌<◌, ◌≡◌, ◌⊎◌, List, eqb, get_or, min}
 use Rattle.std.specs.Int.Bits.{bit_xor}
 use Rattle.container.specs.Choice.{ite}
 
@@ -22,7 +22,7 @@ bits (suc n) f = f 0 + 2 * bits n (λ i. f (suc i))
 
 -- how many records the next block has, of n that are left
 abbrev pub block_size : ℕ → ℕ
-block_size n = ite (ltb n 64) n 64
+block_size n = min n 64
 
 -- ---- in the code's words: the bits in which the two bytes differ, and 16 bits in a lane
 
@@ -36,6 +36,10 @@ two_bytes s at l = get_or s (at + 2 * l) 0 + 256 * get_or s (at + 2 * l + 1) 0
 -- lanes 1 and 2 change places
 abbrev pub crossed : ℕ → ℕ
 crossed l = 2 * (l % 2) + l / 2
+
+-- of four records of w bytes, the one in lane l
+abbrev pub in_lane : ℕ → ℕ → ℕ
+in_lane w l = ite (eqb w 2) l (crossed l)
 
 -- numbers of 8 bits
 pub record Bytes (l : List ℕ) : Type 0 where

@@ -134,10 +134,6 @@ pub record Spare (l : List ℕ) (k : ℕ) : Type 0 where
   pub low : (i : ℕ) → i < 48 → get_or l i 0 < 2147483648
   pub refusal : (k ≡ 0 → ⊥) → get_or l (48 + k) 0 < 4294967295
 
--- numbers of 32 bits
-pub record Words (l : List ℕ) : Type 0 where
-  pub at : (i : ℕ) → get_or l i 0 < 4294967296
-
 -- what Run handed back: its refusal, records done and rows, and the row buffer, which was `lent`
 pub record Told (file rows : List ℕ) (k d f : ℕ) : Type 0 where
   pub lent : List ℕ

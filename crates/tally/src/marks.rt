@@ -1,60 +1,54 @@
 // Marks: of the records of a schedule, those that are not a step of the thread of the record before; 64 records at once, a bit for each.
 ghost use Rattle.std.specs.Prelude.{◌≡◌, ℕ, ◌+◌, ◌-◌, ◌*◌, ◌/◌, ◌%◌, ◌<◌, ◌≤◌, length, get_or};
-ghost use Rattle.std.specs.Int.Bits.{bit_and};
+ghost use Rattle.std.specs.Int.Bits.{bit_and, bit_xor};
 ghost use Rattle.tally.specs.Walk.{packed};
-ghost use Rattle.tally.specs.Marks.{Width, mark, bits, block_size, apart, two_bytes, crossed, Bytes};
+ghost use Rattle.tally.specs.Marks.{Width, mark, bits, block_size, apart, two_bytes, in_lane, Bytes};
 
 // ---- eight bytes in a word, two in a lane of 16 bits
 
-// A byte in 64 bits.
-fn wide(x: u8) -> u64
-    ensures { (result ≡ x) × (result < 256) }
-{
-    x as u64
-}
+// The thread of the first of two bytes in each lane.
+const THREADS: u64 = 0x0030_0030_0030_0030;
+
+// What a step of a thread is known by, in each lane, and in lanes 0 and 2.
+const FIRSTS: u64 = 0x003f_003f_003f_003f;
+
+const EVEN_FIRSTS: u64 = 0x0000_003f_0000_003f;
 
 fn word(s: &[u8], at: usize) -> u64
     requires { at + 8 ≤ length s.now }
     ensures { (result ≡ packed 4 (two_bytes s.now at)) × Bytes s.now }
 {
-    let a = wide(s[at]);
-    let b = wide(s[at + 1]);
-    let c = wide(s[at + 2]);
-    let d = wide(s[at + 3]);
-    let e = wide(s[at + 4]);
-    let f = wide(s[at + 5]);
-    let g = wide(s[at + 6]);
-    let h = wide(s[at + 7]);
-    a | (b << 8) | (c << 16) | (d << 24) | (e << 32) | (f << 40) | (g << 48) | (h << 56)
+    u64::from_le_bytes([
+        s[at],
+        s[at + 1],
+        s[at + 2],
+        s[at + 3],
+        s[at + 4],
+        s[at + 5],
+        s[at + 6],
+        s[at + 7],
+    ])
 }
 
-// Four records of two bytes, a lane for each: 0 for a step of the thread of the record before.
-fn four(s: &[u8], at: usize) -> u64
-    requires { (2 ≤ at) × (at + 8 ≤ length s.now) }
-    ensures { result ≡ packed 4 (λ l. apart s.now 2 (at + 2 * l)) }
+// In each lane, where its two bytes differ from a step of the thread W bytes before, as far as the mask goes.
+fn difference<const W: usize>(s: &[u8], at: usize, mask: u64) -> u64
+    requires { (W ≤ at) × (at + 8 ≤ length s.now) }
+    ensures { (result ≡ bit_and (bit_xor (packed 4 (two_bytes s.now at)) (bit_and (packed 4 (two_bytes s.now (at - W))) 13511005043687472)) mask) × Bytes s.now }
 {
-    let w = word(s, at);
-    let q = word(s, at - 2);
-    (w ^ (q & 0x0030_0030_0030_0030)) & 0x003f_003f_003f_003f
+    (word(s, at) ^ (word(s, at - W) & THREADS)) & mask
 }
 
-// Two records of four bytes, in lanes 0 and 2.
-fn two(s: &[u8], at: usize) -> u64
-    requires { (4 ≤ at) × (at + 8 ≤ length s.now) }
-    ensures { result ≡ apart s.now 4 at + 4294967296 * apart s.now 4 (at + 4) }
+// Four records of W bytes, a lane for each: 0 for a step of the thread of the record before. Of those of four bytes the second is in lane 2
+// and the third in lane 1.
+fn four<const W: usize>(s: &[u8], at: usize) -> u64
+    requires { Width W × ((W ≤ at) × (at + 4 * W ≤ length s.now)) }
+    ensures { result ≡ packed 4 (λ l. apart s.now W (at + W * in_lane W l)) }
 {
-    let w = word(s, at);
-    let q = word(s, at - 4);
-    (w ^ (q & 0x0030_0030_0030_0030)) & 0x0000_003f_0000_003f
-}
-
-// Four records of four bytes, the second in lane 2 and the third in lane 1.
-fn four_wide(s: &[u8], at: usize) -> u64
-    requires { (4 ≤ at) × (at + 16 ≤ length s.now) }
-    ensures { result ≡ packed 4 (λ l. apart s.now 4 (at + 4 * crossed l)) }
-{
-    let a = two(s, at);
-    let b = two(s, at + 8);
+    if W == 2 {
+        return difference::<W>(s, at, FIRSTS);
+    }
+    let a = difference::<W>(s, at, EVEN_FIRSTS);
+    let b = difference::<W>(s, at + 8, EVEN_FIRSTS);
     a + 65536 * b
 }
 
@@ -68,36 +62,33 @@ fn pair(t: u64, u: u64) -> u64
 
 // ---- marks, a bit for each record
 
-// Of sixteen records of two bytes: four in a lane, folded into sixteen bits.
-fn sixteen(s: &[u8], at: usize) -> u64
-    requires { (2 ≤ at) × (at + 32 ≤ length s.now) }
-    ensures { (result ≡ bits 16 (λ i. mark s.now 2 (at + 2 * i))) × (result < 65536) }
+// Of sixteen records of W bytes: four in a lane, folded into sixteen bits.
+fn sixteen<const W: usize>(s: &[u8], at: usize) -> u64
+    requires { Width W × ((W ≤ at) × (at + 16 * W ≤ length s.now)) }
+    ensures { (result ≡ bits 16 (λ i. mark s.now W (at + W * i))) × (result < 65536) }
 {
-    let a = four(s, at);
-    let b = four(s, at + 8);
-    let c = four(s, at + 16);
-    let d = four(s, at + 24);
+    let a = four::<W>(s, at);
+    let b = four::<W>(s, at + 4 * W);
+    let c = four::<W>(s, at + 8 * W);
+    let d = four::<W>(s, at + 12 * W);
     let even = pair(a, c);
     let odd = pair(b, d);
+    let width = W as u64;
     let m = even + 16 * odd;
-    let h = m % 4294967296 + 4 * (m / 4294967296);
-    h % 65536 + 2 * (h / 65536)
+    let h = m % 4294967296 + 8 / width * (m / 4294967296);
+    h % 65536 + width * (h / 65536)
 }
 
-// Of sixteen records of four bytes.
-fn sixteen_wide(s: &[u8], at: usize) -> u64
-    requires { (4 ≤ at) × (at + 64 ≤ length s.now) }
-    ensures { (result ≡ bits 16 (λ i. mark s.now 4 (at + 4 * i))) × (result < 65536) }
+// Of 64 records of W bytes.
+fn sixty_four<const W: usize>(s: &[u8], at: usize) -> u64
+    requires { Width W × ((W ≤ at) × (at + 64 * W ≤ length s.now)) }
+    ensures { result ≡ bits 64 (λ i. mark s.now W (at + W * i)) }
 {
-    let a = four_wide(s, at);
-    let b = four_wide(s, at + 16);
-    let c = four_wide(s, at + 32);
-    let d = four_wide(s, at + 48);
-    let even = pair(a, c);
-    let odd = pair(b, d);
-    let m = even + 16 * odd;
-    let h = m % 4294967296 + 2 * (m / 4294967296);
-    h % 65536 + 4 * (h / 65536)
+    let a = sixteen::<W>(s, at);
+    let b = sixteen::<W>(s, at + 16 * W);
+    let c = sixteen::<W>(s, at + 32 * W);
+    let d = sixteen::<W>(s, at + 48 * W);
+    a + 65536 * b + 4294967296 * c + 281474976710656 * d
 }
 
 // Of 64 records.
@@ -106,27 +97,16 @@ fn block(s: &[u8], width: usize, at: usize) -> u64
     ensures { result ≡ bits 64 (λ i. mark s.now width (at + width * i)) }
 {
     if width == 2 {
-        let a = sixteen(s, at);
-        let b = sixteen(s, at + 32);
-        let c = sixteen(s, at + 64);
-        let d = sixteen(s, at + 96);
-        return a + 65536 * b + 4294967296 * c + 281474976710656 * d;
+        return sixty_four::<2>(s, at);
     }
-    let a = sixteen_wide(s, at);
-    let b = sixteen_wide(s, at + 64);
-    let c = sixteen_wide(s, at + 128);
-    let d = sixteen_wide(s, at + 192);
-    a + 65536 * b + 4294967296 * c + 281474976710656 * d
+    sixty_four::<4>(s, at)
 }
 
 // How many records the next block has, of `left`.
 pub fn block_size(left: usize) -> usize
     ensures { result ≡ block_size left }
 {
-    if left < 64 {
-        return left;
-    }
-    64
+    left.min(64)
 }
 
 // Of the next block, of `left` records from `at` on. Where they are fewer than 64, of the last 64, less those before them.

@@ -57,10 +57,9 @@ stored_fits j k t x y low high e f = omega (arith, count_le j t x low, count_le 
 
 -- ---- the way of a station: n is node x as a step reads it
 
-pub way_down : (k : ℕ) (t : Nodes) (x s : ℕ) {n : Node} {v : Bool} {y r : ℕ} → n ≡ shape (t x) → 0 < k → v ≡ is_route n.kind → v ≡ true → y ≡ child_for s n → depth_under k t x s ≡ r → depth_under (k - 1) t y s ≡ r
+pub way_down : (j k : ℕ) (t : Nodes) (x s : ℕ) {n : Node} {v : Bool} {y r : ℕ} → j ≡ suc k → n ≡ shape (t x) → v ≡ is_route n.kind → v ≡ true → y ≡ child_for s n → depth_under j t x s ≡ r → depth_under k t y s ≡ r
 unfolding depth_under ite
-way_down zero t x s e z f g c q = absurd (omega arith)
-way_down (suc k) t x s {n} {v} e z f g c q = let h : is_route (t x).kind ≡ true = sym (ap (λ (m : Node). is_route m.kind) e) ∙ (sym f ∙ g) in rw (sub-one (suc k), c, e) (rw h at q)
+way_down j k t x s {n} {v} z e f g c q = let h : is_route (t x).kind ≡ true = sym (ap (λ (m : Node). is_route m.kind) e) ∙ (sym f ∙ g) in rw (c, e) (rw h at (rw z at q))
 
 pub way_end : (k : ℕ) (t : Nodes) (x s : ℕ) {n : Node} {v : Bool} {r d : ℕ} → n ≡ shape (t x) → v ≡ is_route n.kind → v ≡ false → depth_under k t x s ≡ r → d ≡ (t x).container.depth s → d ≡ r
 unfolding depth_under ite
@@ -71,4 +70,6 @@ pub way_out : (k : ℕ) (t : Nodes) (x s : ℕ) {r d : ℕ} → k ≡ 0 → dept
 unfolding depth_under
 way_out k t x s z q h = h ∙ (rw z at q)
 
-pub ruleset tree_cases = (set_end, set_base, set_route, stored_end, stored_base, stored_route)
+pub ruleset set_cases = (set_end, set_base, set_route)
+
+pub ruleset stored_cases = (stored_end, stored_base, stored_route)

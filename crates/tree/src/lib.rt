@@ -2,71 +2,57 @@
 #![tactic(auto)]
 
 ghost use Rattle.std.specs.Prelude.{◌≡◌};
-ghost use Rattle.nodes.specs.Cells.{table};
+ghost use Rattle.nodes.specs.Table.{table};
 ghost use Rattle.depths.specs.Rows.{rows, full};
 ghost use Rattle.tree.specs.Below.{set_below, count_below, depth_under};
 
+use definitions::Nodes;
+
 // The stations below node x, whose range is given.
-pub fn set_below(cells: &[u8; 5120], sets: &[u64; 256], x: u8, range: u64, levels: u8) -> u64
-    ensures { result ≡ set_below levels (table cells.now sets.now) x range }
+#[tactic(auto, using(crate::proofs::Cases::set_cases))]
+pub fn set_below(nodes: &Nodes, x: u8, range: u64, levels: u8) -> u64
+    ensures { result ≡ set_below levels (table nodes.now) x range }
 {
-    let n = nodes::node_at(cells, sets, x);
-    let kind = n.kind;
-    if levels == 0 {
+    let n = nodes::node_at(nodes, x);
+    if levels == 0 || !nodes::is_route(n.kind) {
         return container::common(n.container, range);
     }
-    if nodes::is_route(kind) {
-        let low = container::lower(range, n.key);
-        let high = container::upper(range, n.key);
-        let a = set_below(cells, sets, n.left, low, levels - 1);
-        let b = set_below(cells, sets, n.right, high, levels - 1);
-        return container::united(a, b);
-    }
-    container::common(n.container, range)
+    let low = container::lower(range, n.key);
+    let high = container::upper(range, n.key);
+    let a = set_below(nodes, n.left, low, levels - 1);
+    let b = set_below(nodes, n.right, high, levels - 1);
+    container::united(a, b)
 }
 
-// How many stations are below node x, whose range is given: in each base's container, inside the base's range.
-pub fn stored_below(cells: &[u8; 5120], sets: &[u64; 256], x: u8, range: u64, levels: u8) -> u64
-    ensures { result ≡ count_below levels (table cells.now sets.now) x range }
+// How many stations are below node x, whose range is given: in each base's container, inside the base's range. It walks as `set_below`
+// does, but counts at a base, and adds two sides up: a walk of both would take both steps as parameters, and be no plainer.
+#[tactic(auto, using(crate::proofs::Cases::stored_cases))]
+pub fn stored_below(nodes: &Nodes, x: u8, range: u64, levels: u8) -> u64
+    ensures { result ≡ count_below levels (table nodes.now) x range }
 {
-    let n = nodes::node_at(cells, sets, x);
-    let kind = n.kind;
-    let inside = container::common(n.container, range);
-    if levels == 0 {
+    let n = nodes::node_at(nodes, x);
+    if levels == 0 || !nodes::is_route(n.kind) {
+        let inside = container::common(n.container, range);
         return container::count(inside) as u64;
     }
-    if nodes::is_route(kind) {
-        let low = container::lower(range, n.key);
-        let high = container::upper(range, n.key);
-        let a = stored_below(cells, sets, n.left, low, levels - 1);
-        let b = stored_below(cells, sets, n.right, high, levels - 1);
-        return a + b;
-    }
-    container::count(inside) as u64
+    let low = container::lower(range, n.key);
+    let high = container::upper(range, n.key);
+    let a = stored_below(nodes, n.left, low, levels - 1);
+    let b = stored_below(nodes, n.right, high, levels - 1);
+    a + b
 }
 
 // The depth of station s where it leads to from node x, with at most so many steps down.
-pub fn depth_under(
-    cells: &[u8; 5120],
-    sets: &[u64; 256],
-    depths: &[u16],
-    x: u8,
-    levels: u8,
-    s: u8,
-) -> u16
-    ensures { result ≡ depth_under levels (full (table cells.now sets.now) (rows depths.now)) x s }
+pub fn depth_under(nodes: &Nodes, depths: &[u16], x: u8, levels: u8, s: u8) -> u16
+    ensures { result ≡ depth_under levels (full (table nodes.now) (rows depths.now)) x s }
 {
     let mut y = x;
-    let mut k = levels;
-    while 0 < k {
-        let n = nodes::node_at(cells, sets, y);
-        let kind = n.kind;
-        if nodes::is_route(kind) {
-            y = nodes::child_for(s, n);
-            k -= 1;
-        } else {
-            return depths::depth_at(depths, y, s);
+    for k in 0..levels {
+        let n = nodes::node_at(nodes, y);
+        if !nodes::is_route(n.kind) {
+            break;
         }
+        y = nodes::child_for(s, n);
     }
     depths::depth_at(depths, y, s)
 }

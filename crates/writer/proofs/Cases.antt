@@ -29,7 +29,7 @@ unhalted r e = rw (ne_eqb r.refusal 0 e)
 
 -- ---- a file of version 3
 
-pub three_short : (file : List ℕ) → length file < 3 → false ≡ leb 3 (length file) && stop_of file
+pub three_short : (file : List ℕ) → length file < 3 → leb 3 (length file) ≡ leb 3 (length file) && stop_of file
 three_short file h = rw (lt-leb 3 (length file) h)
 
 pub three_long : (file : List ℕ) {b : Bool} → 3 ≤ length file → b ≡ stop_of file → b ≡ leb 3 (length file) && stop_of file

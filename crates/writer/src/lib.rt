@@ -10,7 +10,7 @@ ghost use Rattle.definitions.specs.Profile.{outside, profile_report, profile_buf
 ghost use Rattle.profile.specs.Cut.{Cut};
 ghost use Rattle.writer.specs.Part.{halt};
 
-use definitions::Report;
+use definitions::{Refusal, Report};
 
 // Whether a record with the first byte x is barred in a file of version v: an insert, a remove, a split or a join of threads
 // 1 to 3, or a range query, which version 1 has not.
@@ -47,15 +47,10 @@ fn first_barred(s: &[u8], v: u8, count: usize) -> usize
     requires { (v ≡ version s.now) × ((count ≤ 4096) × (3 + ite (eqb v 1) 2 4 * count ≤ length s.now)) }
     ensures { Cut s.now count result }
 {
-    let mut k = 0usize;
-    while k < count {
-        let at = start_of(v, k);
-        let x = s[at];
-        let bars = is_barred(v, x);
-        if bars {
+    for k in 0..count {
+        if is_barred(v, s[start_of(v, k)]) {
             return k;
         }
-        k = k + 1;
     }
     count
 }
@@ -65,11 +60,8 @@ pub fn copy(s: &[u8], n: usize, out: &mut [u8])
     requires { (n ≤ length s.now) × (n ≤ length out.old) }
     ensures { take n out.new ≡ take n s.now }
 {
-    let mut k = 0usize;
-    while k < n {
-        let x = s[k];
-        out[k] = x;
-        k = k + 1;
+    for k in 0..n {
+        out[k] = s[k];
     }
 }
 
@@ -79,7 +71,7 @@ fn before(schedule: &[u8], end: usize, k: usize, rows: &mut [u8]) -> Report
     ensures { (result ≡ report_of (after schedule.now k)) × (rows.new ≡ overlay (after schedule.now k).rows rows.old) }
 {
     let mut part = [0u8; 16387];
-    copy(schedule, end, &mut part[..]);
+    copy(schedule, end, &mut part);
     part[1] = (k / 256) as u8;
     part[2] = (k % 256) as u8;
     run::run(&part[..end], rows)
@@ -90,26 +82,20 @@ fn stopped(r: Report) -> Report
     ensures { result ≡ halt r }
 {
     if r.refusal == 0 {
-        return Report {
-            refusal: 24,
-            records: r.records,
-            rows: r.rows,
-            set: r.set,
-            stored: r.stored,
-            used: r.used,
-        };
+        Report {
+            refusal: u64::from(Refusal::Barred),
+            ..r
+        }
+    } else {
+        r
     }
-    r
 }
 
 // Whether a file is of version 3, which has the stop on; a file under three bytes is of none.
 fn is_of_3(s: &[u8]) -> bool
     ensures { result ≡ leb 3 (length s.now) && stop_of s.now }
 {
-    if s.len() < 3 {
-        return false;
-    }
-    s[0] == 3
+    s.len() >= 3 && s[0] == 3
 }
 
 // The profile run: the report, and the rows in the buffer. Version 3 is refused. Another file that is refused, or that has no barred
@@ -119,7 +105,7 @@ pub fn run(schedule: &[u8], rows: &mut [u8]) -> Report
 {
     if is_of_3(schedule) {
         return Report {
-            refusal: 2,
+            refusal: u64::from(Refusal::Version),
             records: 0,
             rows: 0,
             set: 0,
@@ -127,9 +113,7 @@ pub fn run(schedule: &[u8], rows: &mut [u8]) -> Report
             used: 0,
         };
     }
-    let room = rows.len();
-    let bad = run::refusal_of(schedule, room);
-    if bad == 0 {
+    if run::check(schedule, rows.len()).is_ok() {
         let v = schedule::version_of(schedule);
         let count = schedule::count_of(schedule);
         let k = first_barred(schedule, v, count);

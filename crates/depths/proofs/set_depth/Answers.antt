@@ -2,8 +2,5 @@
 use Rattle.depths.proofs.Fill.{cases}
 use Rattle.depths.proofs.set_depth.Goals as goal
 
-pub returns-then-s-lt64 : goal.returns-then-s-lt64
-returns-then-s-lt64 c = search cases
-
 pub returns-else-s-lt64 : goal.returns-else-s-lt64
 returns-else-s-lt64 c = search cases

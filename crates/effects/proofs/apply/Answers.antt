@@ -2,21 +2,6 @@
 use Rattle.effects.proofs.Laws.{apply_cases, apply_fork, apply_commit}
 use Rattle.effects.proofs.apply.Goals as goal
 
-pub returns-in-Quiet : goal.returns-in-Quiet
-returns-in-Quiet c = search apply_cases
-
-pub returns-in-Mark : goal.returns-in-Mark
-returns-in-Mark c = search apply_cases
-
-pub returns-in-Settle : goal.returns-in-Settle
-returns-in-Settle c = search apply_cases
-
-pub returns-in-Invalid : goal.returns-in-Invalid
-returns-in-Invalid c = search apply_cases
-
-pub returns-in-Swing : goal.returns-in-Swing
-returns-in-Swing c = search apply_cases
-
 pub returns-in-Base : goal.returns-in-Base
 returns-in-Base c = search apply_cases
 

@@ -1,6 +1,6 @@
 -- `frames::enter` meets its contract. Assumes nothing.
-use Rattle.frames.proofs.Threads.{thread_cases}
+use Rattle.frames.proofs.Threads.{entered}
 use Rattle.frames.proofs.enter.Goals as goal
 
 pub returns : goal.returns
-returns c = search thread_cases
+returns c = entered _ _ _ _ c.told-frames c.requires.thread c.requires.room c.new.ensures

@@ -1,11 +1,8 @@
--- `history::count_starts`: what its loop keeps true, and its measure.
-use Prim.Native.Nat.{◌-◌, ◌≤◌}
+-- `history::count_starts`: what its loop keeps true.
+use Prim.Native.Nat.{◌≤◌}
 use mathlib.Core.Path.{◌≡◌}
 use Rattle.history.specs.Ahead.{starts_to}
 use Rattle.history.proofs.count_starts.Given as goal
 
 abbrev pub invariant-loop-k : goal.invariant-loop-k
-invariant-loop-k l = (l.k ≤ l.done) × ((l.starts ≡ starts_to l.schedule l.k) × (l.starts ≤ l.k))
-
-abbrev pub decreases-loop-k : goal.decreases-loop-k
-decreases-loop-k l = l.done - l.k
+invariant-loop-k l = (l.starts ≡ starts_to l.schedule l.k) × (l.starts ≤ l.k)

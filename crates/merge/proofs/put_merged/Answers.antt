@@ -16,10 +16,10 @@ bounds-out-2 c = in_two c.args.out.now _ _ _ _ _ (omega (arith, c.requires.room)
 
 pub put_turns-requires : goal.put_turns-requires
 put_turns-requires c = (
-  omega (arith, c.count_of-a.ensures, c.count_of-b.ensures, c.smaller_of-n.ensures, c.requires.few),
-  omega (arith, c.count_of-a.ensures, c.count_of-b.ensures, c.smaller_of-n.ensures, c.requires.one.whole),
-  omega (arith, c.count_of-a.ensures, c.count_of-b.ensures, c.smaller_of-n.ensures, c.requires.other.whole),
-  in_three c.args.out.now _ _ _ _ _ _ _ (omega (arith, c.count_of-a.ensures, c.count_of-b.ensures, c.smaller_of-n.ensures, c.requires.room)),
+  omega (arith, c.count_of-a.ensures, c.count_of-b.ensures, c.min.ensures, c.requires.few),
+  omega (arith, c.count_of-a.ensures, c.count_of-b.ensures, c.min.ensures, c.requires.one.whole),
+  omega (arith, c.count_of-a.ensures, c.count_of-b.ensures, c.min.ensures, c.requires.other.whole),
+  in_three c.args.out.now _ _ _ _ _ _ _ (omega (arith, c.count_of-a.ensures, c.count_of-b.ensures, c.min.ensures, c.requires.room)),
 )
 
 pub shape_of-out : goal.shape_of-out
@@ -28,4 +28,4 @@ shape_of-out c =
 
 pub returns : goal.returns
 returns c =
-    output_put _ _ _ c.requires c.count_of-a.ensures c.count_of-b.ensures c.smaller_of-n.ensures c.put_turns.ensures
+    output_put _ _ _ c.requires c.count_of-a.ensures c.count_of-b.ensures c.min.ensures c.put_turns.ensures

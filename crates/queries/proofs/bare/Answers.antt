@@ -1,21 +1,19 @@
 -- `queries::bare` meets its contract. Assumes nothing.
-use Rattle.queries.proofs.Dispatch.{bare_cases}
+use native.Mathlib.Omega.{arith}
+use Rattle.queries.proofs.Dispatch.{bare_stays, bare_out}
 use Rattle.queries.proofs.bare.Goals as goal
 
-pub returns-then-place-eq63 : goal.returns-then-place-eq63
-returns-then-place-eq63 c = search bare_cases
+pub returns-in_default : goal.returns-in_default
+returns-in_default c = bare_out _ c.requires (λ e. grind arith) (λ e. grind arith) (λ e. grind arith) (λ e. grind arith) (omega arith)
 
-pub returns-then-place-eq68 : goal.returns-then-place-eq68
-returns-then-place-eq68 c = search bare_cases
+pub returns-in_default-2 : goal.returns-in_default-2
+returns-in_default-2 c = bare_out _ c.requires (λ e. grind arith) (λ e. grind arith) (λ e. grind arith) (λ e. grind arith) (omega arith)
 
-pub returns-then-place-eq69 : goal.returns-then-place-eq69
-returns-then-place-eq69 c = search bare_cases
+pub returns-in-63 : goal.returns-in-63
+returns-in-63 c = bare_stays c.requires (λ h. omega arith) (λ h i. omega arith) (λ h i. omega arith) (λ h i. omega arith)
 
-pub returns-then-place-eq75 : goal.returns-then-place-eq75
-returns-then-place-eq75 c = search bare_cases
+pub returns-in-63-2 : goal.returns-in-63-2
+returns-in-63-2 c = bare_stays c.requires (λ h. omega arith) (λ h i. omega arith) (λ h i. omega arith) (λ h i. omega arith)
 
-pub returns-then-place-gt82 : goal.returns-then-place-gt82
-returns-then-place-gt82 c = search bare_cases
-
-pub returns : goal.returns
-returns c = search bare_cases
+pub returns-in-63-3 : goal.returns-in-63-3
+returns-in-63-3 c = bare_stays c.requires (λ h. omega arith) (λ h i. omega arith) (λ h i. omega arith) (λ h i. omega arith)

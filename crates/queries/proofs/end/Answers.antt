@@ -1,7 +1,6 @@
 -- `queries::end` meets its contract. Assumes nothing.
 use Rattle.queries.proofs.Dispatch.{ends}
-use borrow.Author.Rules.{rules}
 use Rattle.queries.proofs.end.Goals as goal
 
 pub returns : goal.returns
-returns c = search (ends, rules)
+returns c = ends _ _ _ _ _ c.told-frames c.requires.thread c.requires.few c.requires.some c.store_number-store.ensures c.result_at-found.ensures c.finish.ensures

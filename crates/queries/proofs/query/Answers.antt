@@ -1,23 +1,14 @@
 -- `queries::query` meets its contract. Assumes nothing.
-use Rattle.queries.proofs.Dispatch.{query_cases}
-use Rattle.frames.proofs.Threads.{top_room}
-use borrow.Author.Rules.{rules}
+use Rattle.std.proofs.Common.{rules}
+use Rattle.frames.proofs.Threads.{takes_top, top_room}
+use Rattle.queries.proofs.Dispatch.{bare_takes}
 use Rattle.queries.proofs.query.Goals as goal
 
 pub returns-then-depth-eq0 : goal.returns-then-depth-eq0
-returns-then-depth-eq0 c = search query_cases
+returns-then-depth-eq0 c = search (bare_takes, rules)
 
-pub returns-then-place-eq82 : goal.returns-then-place-eq82
-returns-then-place-eq82 c = search query_cases
-
-pub returns-then-place-eq60 : goal.returns-then-place-eq60
-returns-then-place-eq60 c = search query_cases
-
-pub returns-then-place-gt80 : goal.returns-then-place-gt80
-returns-then-place-gt80 c = search query_cases
-
-pub act-requires : goal.act-requires
-act-requires c = search (top_room, rules)
+pub act-requires-clause-room : goal.act-requires-clause-room
+act-requires-clause-room c = top_room _ _ _ _ _ c.told-frames c.requires.thread c.requires.few c.if-depth-eq0.false c.requires.room
 
 pub returns : goal.returns
-returns c = search query_cases
+returns c = takes_top _ _ _ _ _ _ _ _ _ _ c.told-frames c.requires.thread c.requires.few c.if-depth-eq0.false c.act.ensures

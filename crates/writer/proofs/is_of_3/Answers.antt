@@ -4,8 +4,8 @@ use native.Mathlib.Omega.{arith}
 use Rattle.writer.proofs.Cases.{three_short, three_long}
 use Rattle.writer.proofs.is_of_3.Goals as goal
 
-pub returns-then-s-lt3 : goal.returns-then-s-lt3
-returns-then-s-lt3 c = three_short c.args.s.now c.if-s-lt3.true
+pub returns-else-s-ge3 : goal.returns-else-s-ge3
+returns-else-s-ge3 c = three_short c.args.s.now (omega (arith, c.if-s-ge3.false))
 
-pub returns : goal.returns
-returns c = three_long c.args.s.now (omega (arith, c.if-s-lt3.false)) refl
+pub returns-then-s-ge3 : goal.returns-then-s-ge3
+returns-then-s-ge3 c = three_long c.args.s.now (omega (arith, c.if-s-ge3.true)) refl

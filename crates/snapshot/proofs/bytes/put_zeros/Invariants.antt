@@ -1,19 +1,14 @@
--- `snapshot::bytes::put_zeros` meets its contract. Assumes nothing.
+-- `snapshot::bytes::put_zeros`: k zeros are written. Assumes nothing.
 use mathlib.Core.Path.{◌≡◌}
-use Prim.Native.Nat.{◌+◌, ◌-◌, ◌≤◌}
+use Prim.Native.Nat.{◌+◌}
 use lib.ListN.{length}
 use Rattle.buffer.specs.Page.{page, put_all}
+use Rattle.buffer.specs.Writes.{Writes}
 use Rattle.snapshot.specs.Layout.{zeros}
 use Rattle.snapshot.proofs.bytes.put_zeros.Given as goal
 
 abbrev pub invariant-loop-k : goal.invariant-loop-k
-invariant-loop-k l = (l.k ≤ l.n) × ((length l.out ≡ length l.initial.out) × (page l.out (l.at + l.k) ≡ put_all (page l.initial.out l.at) (zeros l.k)))
+invariant-loop-k l = (l.out.bytes.ghost_name ≡ l.initial.out.bytes.ghost_name) × ((length l.out.bytes.now ≡ length l.initial.out.bytes.now) × (page l.out.bytes.now (l.at + l.k) ≡ put_all (page l.initial.out.bytes.now l.at) (zeros l.k)))
 
-abbrev pub decreases-loop-k : goal.decreases-loop-k
-decreases-loop-k l = l.n - l.k
-
-abbrev pub invariant-loop-k-2 : goal.invariant-loop-k-2
-invariant-loop-k-2 l = (l.k ≤ l.n) × ((length l.out ≡ length l.initial.out) × (page l.out l.next ≡ put_all (page l.initial.out l.at) (zeros l.k)))
-
-abbrev pub decreases-loop-k-2 : goal.decreases-loop-k-2
-decreases-loop-k-2 l = l.n - l.k
+abbrev pub invariant-loop : goal.invariant-loop
+invariant-loop l = Writes l.initial.out l.out (zeros l.counter)

@@ -6,10 +6,10 @@ use Rattle.snapshot.proofs.NodeCases.{depths_flat, depths_empty, depths_start, d
 use Rattle.snapshot.proofs.node.put_depths.Goals as goal
 
 pub returns-then-version-eq1 : goal.returns-then-version-eq1
-returns-then-version-eq1 c = search depths_flat
+returns-then-version-eq1 c = (search rules, search depths_flat)
 
 pub returns-then-c-eq0 : goal.returns-then-c-eq0
-returns-then-c-eq0 c = search depths_empty
+returns-then-c-eq0 c = (search rules, search depths_empty)
 
 pub loop-s-init : goal.loop-s-init
 loop-s-init c = (search rules, (search rules, search depths_start))
@@ -24,21 +24,18 @@ pub loop-s-preserved-then-low-lt64 : goal.loop-s-preserved-then-low-lt64
 loop-s-preserved-then-low-lt64 c = (
   omega (arith, c.if-low-lt64.true),
   (
-    c.put_pair-next.auto.out ∙ (c.put_zeros-next.auto.out ∙ c.loop-s.invariant.1.0),
-    depths_there _ _ _ _ _ c.if-version-eq1.false refl (next_there _ _ c.loop-s-test.true c.upper-rest.ensures c.lowest-low.ensures c.if-low-lt64.true) c.depth_at-d.ensures
-        (depths_next _ _ _ _ _ c.if-version-eq1.false c.loop-s-test.true c.upper-rest.ensures c.lowest-low.ensures c.loop-s.invariant.1.1 c.put_zeros-next.ensures)
-        c.put_pair-next.ensures,
+    search rules,
+    depths_there _ _ _ _ _ c.if-version-eq1.false refl (next_there _ _ c.loop-s-test.true c.upper-rest.ensures c.lowest-low.ensures c.if-low-lt64.true) (c.from-then-low-lt64.ensures ∙ c.depth_at-d.ensures)
+        (depths_next _ _ _ _ _ c.if-version-eq1.false c.loop-s-test.true c.upper-rest.ensures c.lowest-low.ensures c.from.ensures c.loop-s.invariant.1.1 c.put_zeros-in-loop-s.ensures.1)
+        c.put_pair.ensures.1,
   ),
 )
-
-pub loop-s-smaller : goal.loop-s-smaller
-loop-s-smaller c = omega (arith, next_past _ _ c.loop-s-test.true c.upper-rest.ensures c.lowest-low.ensures, c.loop-s-test.true, c.if-low-lt64.false)
 
 pub loop-s-preserved : goal.loop-s-preserved
 loop-s-preserved c = (
   next_le _ c.lowest-low.ensures,
-  (c.put_zeros-next.auto.out ∙ c.loop-s.invariant.1.0, depths_next _ _ _ _ _ c.if-version-eq1.false c.loop-s-test.true c.upper-rest.ensures c.lowest-low.ensures c.loop-s.invariant.1.1 c.put_zeros-next.ensures),
+  (search rules, depths_next _ _ _ _ _ c.if-version-eq1.false c.loop-s-test.true c.upper-rest.ensures c.lowest-low.ensures c.from.ensures c.loop-s.invariant.1.1 c.put_zeros-in-loop-s.ensures.1),
 )
 
 pub returns : goal.returns
-returns c = search depths_done
+returns c = (search rules, search depths_done)

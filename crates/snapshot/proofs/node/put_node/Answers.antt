@@ -1,11 +1,12 @@
 -- `snapshot::node::put_node` meets its contract. Assumes nothing.
-use Rattle.nodes.specs.Cells.{table}
+use Rattle.nodes.specs.Table.{table}
 use Rattle.depths.specs.Rows.{rows}
-use Rattle.snapshot.proofs.NodeCases.{node_put}
+use Rattle.buffer.proofs.Writes.{next, said}
+use Rattle.snapshot.proofs.NodeCases.{node_parts}
 use Rattle.snapshot.proofs.node.put_node.Goals as goal
 
 pub returns : goal.returns
 returns c =
     let g = c.args in
-    node_put _ g.version g.range (table g.cells.now g.sets.now) (rows g.depths.now) g.x c.node_at-n.ensures c.kind_number-number.ensures c.holding-held.ensures
-    c.put_byte-a.ensures c.put_shared-b.ensures c.put_fields-c.ensures c.put_zeros-d.ensures c.put_depths.ensures
+    said _ (node_parts g.version g.range (table g.nodes.now) (rows g.depths.now) g.x c.node_at-n.ensures c.kind_number-number.ensures c.holding-held.ensures)
+    (next _ _ _ c.put.ensures (next _ _ _ c.put_shared.ensures (next _ _ _ c.put_fields.ensures (next _ _ _ c.put_zeros.ensures c.put_depths.ensures))))

@@ -1,6 +1,7 @@
 -- `snapshot::thread::put_head` meets its contract. Assumes nothing.
-use Rattle.snapshot.proofs.Heads.{head_put}
+use Rattle.buffer.proofs.Writes.{next, said}
+use Rattle.snapshot.proofs.Heads.{head_parts}
 use Rattle.snapshot.proofs.thread.put_head.Goals as goal
 
 pub returns : goal.returns
-returns c = search head_put
+returns c = said _ (head_parts _ _) (next _ _ _ c.put_notes.ensures (next _ _ _ c.put_one.ensures c.put_zeros.ensures))

@@ -1,11 +1,12 @@
 -- `tally::marks::four` meets its contract. Assumes nothing.
-use mathlib.Core.Path.{ap₂, ◌∙◌}
-use Prim.Native.Nat.{ℕ}
-use lib.Bits.{bit_and, bit_xor}
-use Rattle.tally.proofs.Apart.{four_is}
+use Rattle.tally.proofs.Apart.{four_narrow, four_wide}
+use Rattle.tally.proofs.Blocks.{width_four}
 use Rattle.tally.proofs.marks.four.Goals as goal
 
+pub returns-then-this-eq2 : goal.returns-then-this-eq2
+returns-then-this-eq2 g c = four_narrow c.args.s.now c.difference.ensures.1 c.args.at g.row.W c.difference.result c.if-this-eq2.true c.requires.1.0 c.difference.ensures.0
+
 pub returns : goal.returns
-returns c =
-    ap₂ (λ (x y : ℕ). bit_and (bit_xor x (bit_and y 13511005043687472)) 17733194119839807) c.word-w.ensures.0 c.word-q.ensures.0
-    ∙ four_is c.args.s.now c.word-q.ensures.1 c.args.at c.requires.0
+returns g c =
+    four_wide c.args.s.now c.difference-a.ensures.1 c.args.at g.row.W c.difference-a.result c.difference-b.result (width_four g.row.W c.requires.0 c.if-this-eq2.false) c.requires.1.0
+    c.difference-a.ensures.0 c.difference-b.ensures.0

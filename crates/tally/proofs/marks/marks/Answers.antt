@@ -1,10 +1,9 @@
 -- `tally::marks::marks` meets its contract. Assumes nothing.
 use mathlib.Core.Path.{sym, ap, ◌∙◌}
 use Prim.Native.Nat.{ℕ, ◌+◌, ◌-◌, ◌*◌, ◌/◌, ◌^◌, ◌≤◌}
-use native.Mathlib.Omega.{arith}
 use lib.ListN.{length}
 use Rattle.tally.specs.Marks.{mark, bits}
-use Rattle.tally.proofs.Blocks.{size_few, size_all, none_left, back_in_lem, few_marks, all_in}
+use Rattle.tally.proofs.Blocks.{size_few, none_left, back_in_lem, few_marks}
 use Rattle.tally.proofs.marks.marks.Goals as goal
 use Rattle.tally.proofs.marks.marks.Goals.{Then-left-lt64}
 
@@ -17,25 +16,8 @@ back c =
 pub returns-then-left-eq0 : goal.returns-then-left-eq0
 returns-then-left-eq0 c = none_left c.args.left (λ i. mark c.args.s.now c.args.width (c.args.at + c.args.width * i)) c.if-left-eq0.true
 
-pub overflow_mul-width : goal.overflow_mul-width
-overflow_mul-width c = omega (arith, (back (goal.at.overflow_mul-width c).Then-left-lt64).0, c.ranges.at)
-
-pub overflow_sub-at : goal.overflow_sub-at
-overflow_sub-at c = (back (goal.at.overflow_sub-at c).Then-left-lt64).0
-
-pub block-all-requires : goal.block-all-requires
-block-all-requires c = (c.requires.0, (back (goal.at.block-all-requires c).Then-left-lt64).1)
-
 pub returns-then-left-lt64 : goal.returns-then-left-lt64
 returns-then-left-lt64 c =
     ap (λ (n : ℕ). n / 2 ^ (64 - c.args.left)) c.block-all.ensures
     ∙ (few_marks c.args.s.now c.args.width c.args.at c.args.left c.if-left-lt64.true (back (goal.at.returns-then-left-lt64 c).Then-left-lt64).0
     ∙ ap (λ (n : ℕ). bits n (λ i. mark c.args.s.now c.args.width (c.args.at + c.args.width * i))) (sym (size_few c.args.left c.if-left-lt64.true)))
-
-pub block-requires : goal.block-requires
-block-requires c =
-    (c.requires.0, (c.requires.1.1.0, all_in c.args.width c.args.at c.args.left (length c.args.s.now) c.requires.0 (omega (arith, c.if-left-lt64.false)) c.requires.1.1.1))
-
-pub returns : goal.returns
-returns c =
-    c.block.ensures ∙ ap (λ (n : ℕ). bits n (λ i. mark c.args.s.now c.args.width (c.args.at + c.args.width * i))) (sym (size_all c.args.left (omega (arith, c.if-left-lt64.false))))

@@ -1,9 +1,0 @@
--- `with` meets its contract.
-use Rattle.container.proofs.Cases.{cases}
-use Rattle.container.proofs.with.Goals as goal
-
-pub returns-then-s-lt64 : goal.returns-then-s-lt64
-returns-then-s-lt64 c = search cases
-
-pub returns-else-s-lt64 : goal.returns-else-s-lt64
-returns-else-s-lt64 c = search cases

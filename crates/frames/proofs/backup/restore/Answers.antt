@@ -1,6 +1,0 @@
--- `frames::backup::restore` meets its contract. Assumes nothing.
-use Rattle.frames.proofs.Parts.{part_cases}
-use Rattle.frames.proofs.backup.restore.Goals as goal
-
-pub returns : goal.returns
-returns c = search part_cases

@@ -1,6 +1,0 @@
--- `frames::frame::ask` meets its contract. Assumes nothing.
-use Rattle.frames.proofs.Parts.{part_cases}
-use Rattle.frames.proofs.frame.ask.Goals as goal
-
-pub returns : goal.returns
-returns c = search part_cases

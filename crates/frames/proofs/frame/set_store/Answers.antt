@@ -1,6 +1,0 @@
--- `frames::frame::set_store` meets its contract. Assumes nothing.
-use Rattle.frames.proofs.Parts.{part_cases}
-use Rattle.frames.proofs.frame.set_store.Goals as goal
-
-pub returns : goal.returns
-returns c = search part_cases

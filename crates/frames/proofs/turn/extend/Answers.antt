@@ -1,6 +1,0 @@
--- `frames::turn::extend` meets its contract. Assumes nothing.
-use Rattle.frames.proofs.Turns.{turn_cases}
-use Rattle.frames.proofs.turn.extend.Goals as goal
-
-pub returns : goal.returns
-returns c = search turn_cases

@@ -1,6 +1,0 @@
--- `listing::put_base` meets its contract. Assumes nothing.
-use Rattle.listing.proofs.Cases.{listing_cases}
-use Rattle.listing.proofs.put_base.Goals as goal
-
-pub returns : goal.returns
-returns c = search listing_cases

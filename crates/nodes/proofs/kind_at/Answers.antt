@@ -1,6 +1,0 @@
--- `nodes::kind_at` meets its contract. Assumes nothing.
-use Rattle.nodes.proofs.Laws.{field_cases}
-use Rattle.nodes.proofs.kind_at.Goals as goal
-
-pub returns : goal.returns
-returns c = search field_cases

@@ -1,6 +1,0 @@
--- `nodes::set_mark` meets its contract. Assumes nothing.
-use Rattle.nodes.proofs.Laws.{write_cases}
-use Rattle.nodes.proofs.set_mark.Goals as goal
-
-pub returns : goal.returns
-returns c = search write_cases

@@ -1,6 +1,0 @@
--- `nodes::set_stage` meets its contract. Assumes nothing.
-use Rattle.nodes.proofs.Laws.{write_cases}
-use Rattle.nodes.proofs.set_stage.Goals as goal
-
-pub returns : goal.returns
-returns c = search write_cases

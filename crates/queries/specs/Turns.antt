@@ -1,0 +1,31 @@
+-- What a step of a range query does where it reads a node or its thread has no frames, and how many frames its thread has after it.
+use Rattle.std.specs.Prelude.{ℕ, ◌-◌, List, [], ◌≡◌}
+use Rattle.definitions.specs.Nodes.{Shapes}
+use Rattle.definitions.specs.Bench.{Sight}
+use Rattle.definitions.specs.Threads.{Frame, Thread, Turn}
+use Rattle.definitions.specs.Places.{place_of}
+use Rattle.definitions.specs.Queries.{reached_first, reached_next}
+use Rattle.definitions.specs.Steps.{step}
+use Rattle.frames.specs.Outcomes.{told_in}
+use Rattle.frames.specs.declared.Outcome.{Outcome}
+use Rattle.frames.specs.declared.Outcome.TheVariants.{Onward, Blocked, Back, Found, NodesOut, StoresOut}
+
+-- 60, 61: x is read and pushed on the stack; 71, 73 likewise
+unfoldable pub first_turn : Shapes → ℕ → Frame → List Frame → Thread → Turn
+first_turn n x f fs th = reached_first n x f.stack f fs th
+
+unfoldable pub next_turn : Shapes → ℕ → Frame → List Frame → Thread → Turn
+next_turn n x f fs th = reached_next n x f fs th
+
+-- the outcome of a thread without frames at the place p; no thread comes here without one
+abbrev pub Bare : Outcome → ℕ → Type 0
+Bare r p = (s : Sight) (th : Thread) → th.frames ≡ [] → th.place ≡ p → told_in r [] [] th ≡ step (place_of p) s th
+
+-- how many frames the thread has after it, of d
+abbrev pub depth_after : Outcome → ℕ → ℕ
+depth_after (Onward p e) d = d
+depth_after (Blocked x) d = d
+depth_after (Back p) d = d - 1
+depth_after (Found c) d = 0
+depth_after NodesOut d = d
+depth_after StoresOut d = d

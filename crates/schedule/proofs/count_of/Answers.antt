@@ -1,7 +1,0 @@
--- `schedule::count_of` meets its contract. Assumes nothing.
-use Rattle.definitions.specs.Schedule.{count_of}
-use Rattle.schedule.proofs.count_of.Goals as goal
-
-pub returns : goal.returns
-unfolding count_of
-returns c = c.word.ensures

@@ -1,6 +1,0 @@
--- `snapshot::node::put_main` meets its contract. Assumes nothing.
-use Rattle.snapshot.proofs.NodeCases.{node_cases}
-use Rattle.snapshot.proofs.node.put_main.Goals as goal
-
-pub returns : goal.returns
-returns c = search node_cases
