@@ -1,5 +1,6 @@
--- The select table has each byte's row: all rows are computed, once. Assumes nothing.
-use mathlib.Core.Path.{◌≡◌, ap, ◌∙◌}
+-- A rule of a table, proved at every entry by one test that is computed over the whole table; and that the select table has each byte's
+-- row, by that test. Assumes nothing.
+use mathlib.Core.Path.{◌≡◌}
 use mathlib.Core.Bool.{Bool, true, ◌&&◌}
 use mathlib.Core.List.{List, [], ◌∷◌}
 use Prim.Native.Nat.{ℕ, zero, suc, ◌+◌, ◌<◌}
@@ -14,19 +15,31 @@ use Rattle.container.specs.Container.{has}
 use Rattle.container.specs.Select.{row_of, entries, selected, seek}
 use Rattle.container.specs.declared.select.TheConstants.{ROWS}
 
--- the list has the rows of the bytes from b on
-abbrev are_rows : ℕ → List ℕ → Bool
-are_rows b [] = true
-are_rows b (r ∷ rs) = eqb r (row_of b) && are_rows (suc b) rs
+-- ---- any table
 
-row_in : (rs : List ℕ) (b k j : ℕ) → T (are_rows b rs) → k < length rs → j ≡ b + k → get_or rs k 0 ≡ row_of j
-row_in [] b k j t h e = absurd (omega arith)
-row_in (r ∷ rs) b zero j t h e = let s : b ≡ j = omega arith in eqb_yes (and_l _ _ t) ∙ ap row_of s
-row_in (r ∷ rs) b (suc k) j t h e = row_in rs (suc b) k j (and_r (eqb r (row_of b)) _ t) (omega arith) (omega arith)
+-- the test f passes at each entry of the list and its place, counted from i
+abbrev pub every : (ℕ → ℕ → Bool) → ℕ → List ℕ → Bool
+every f i [] = true
+every f i (x ∷ xs) = f i x && every f (suc i) xs
 
-all_rows : T (are_rows 0 ROWS)
+from : (f : ℕ → ℕ → Bool) (xs : List ℕ) (i k j : ℕ) → T (every f i xs) → k < length xs → j ≡ i + k → T (f j (get_or xs k 0))
+from f [] i k j t h e = absurd (omega arith)
+from f (x ∷ xs) i zero j t h e = let s : j ≡ i = omega arith in rw s (and_l _ _ t)
+from f (x ∷ xs) i (suc k) j t h e = from f xs (suc i) k j (and_r (f i x) _ t) (omega arith) (omega arith)
+
+-- a test that every entry passes holds at entry k
+pub at : (f : ℕ → ℕ → Bool) (xs : List ℕ) → T (every f 0 xs) → (k : ℕ) → k < length xs → T (f k (get_or xs k 0))
+at f xs t k h = from f xs 0 k k t h (omega arith)
+
+-- ---- the select table
+
+-- r is the row of the byte b
+abbrev is_row : ℕ → ℕ → Bool
+is_row b r = eqb r (row_of b)
+
+all_rows : T (every is_row 0 ROWS)
 unfolding row_of entries selected seek ite has ones_in
 all_rows = tt
 
 pub row_at : (b : ℕ) → b < 256 → get_or ROWS b 0 ≡ row_of b
-row_at b h = row_in ROWS 0 b b all_rows h (omega arith)
+row_at b h = eqb_yes (at is_row ROWS all_rows b h)

@@ -264,14 +264,15 @@ static ROWS: [u64; 256] = [
     0x0706_0504_0302_0100,
 ];
 
-// A byte's row of it.
+// A byte's row of it, a word of eight places. The 8 for none is a byte of the word, and no Option could stand there.
 pub fn row_of(byte: u8) -> u64
     ensures { result ≡ row_of byte }
 {
     ROWS[byte as usize]
 }
 
-// The place of the byte's set bit that has `position` set bits below it.
+// The place of the byte's set bit that has `position` set bits below it. A byte is taken out by a shift and a remainder, as in `split_key`,
+// where it is named by its first bit: `to_le_bytes` and an index would be no shorter.
 pub fn selected_place(byte: u64, position: u64) -> u8
     requires { (byte < 256) × (position < 8) }
     ensures { result ≡ selected byte position }

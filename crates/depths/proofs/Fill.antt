@@ -1,5 +1,5 @@
--- What stores of depths do to the rows: one store, and a loop that fills a row from the first station up. Assumes nothing.
-use mathlib.Core.Path.{◌≡◌, refl, sym, ◌∙◌, fun_ext}
+-- What stores of depths do to the rows: one store, a row copied, and a loop that fills a row from the first station up. Assumes nothing.
+use mathlib.Core.Path.{◌≡◌, refl, sym, ap, ◌∙◌, fun_ext}
 use mathlib.Core.Logic.{◌≢◌}
 use mathlib.Core.Bool.{Bool, true, false}
 use mathlib.Core.List.{List}
@@ -9,6 +9,7 @@ use native.Mathlib.Decide.{ℕ_discrete, dec_lt}
 use lib.ListN.{get_or, set, length, get_or-eq_default}
 use lib.Seq.{get_or-set_same, get_or-set_other}
 use borrow.Author.Tests.{eq-eqb, ne_eqb, lt-ltb, le-ltb}
+use Rattle.std.specs.List.{CopiedTo, SameBelow, SameFrom}
 use Rattle.container.specs.Choice.{ite, upd}
 use Rattle.container.specs.Container.{has}
 use Rattle.depths.specs.Rows.{rows, changed, selected}
@@ -65,8 +66,18 @@ whole_row {c} {c'} {to} {g} {k} f h i z = fun_ext (λ j. elim (ℕ_discrete j to
 
 -- ---- the functions
 
-pub copied : {c c' : List ℕ} {to k : ℕ} (from : ℕ) → Filled c c' to (rows c from) k → 64 ≤ k → k ≤ 64 → rows c' ≡ upd (rows c) to (rows c from)
-copied {c} {c'} {to} {k} from f h i = whole_row f h i (row_out c from)
+-- n numbers from a on stand from b on too, and the others are as they were
+pub copied : (c c' : List ℕ) (from to : ℕ) {a b n : ℕ} → a ≡ from * 64 + 0 → b ≡ to * 64 + 0 → n ≡ 64 → CopiedTo c c' a b n → SameBelow c c' b → SameFrom c c' (b + n) → rows c' ≡ upd (rows c) to (rows c from)
+copied c c' from to {a} {b} {n} e f g u v w = fun_ext (λ j. elim (ℕ_discrete j to) [
+  | yes q ↦ rw (q, eq-eqb to to refl) (fun_ext (λ m. elim (dec_lt m 64) [
+    | yes l ↦ row_in c' to m l ∙ (u (to * 64 + m) 0 (omega arith) (omega arith) ∙ (ap (λ (i : ℕ). get_or c i 0) (omega arith) ∙ sym (row_in c from m l)))
+    | no l ↦ row_out c' to m (omega arith) ∙ sym (row_out c from m (omega arith))
+  ]))
+  | no q ↦ rw (ne_eqb j to q) (fun_ext (λ m. elim (dec_lt m 64) [
+    | yes l ↦ row_in c' j m l ∙ (elim (dec_lt j to) [ yes h ↦ v (j * 64 + m) 0 (omega arith) | no h ↦ w (j * 64 + m) 0 (omega arith) ] ∙ sym (row_in c j m l))
+    | no l ↦ row_out c' j m (omega arith) ∙ sym (row_out c j m (omega arith))
+  ]))
+])
 
 pub chosen : {c c' : List ℕ} {to k : ℕ} (a b s : ℕ) → Filled c c' to (selected s (rows c a) (rows c b)) k → 64 ≤ k → k ≤ 64 → rows c' ≡ upd (rows c) to (selected s (rows c a) (rows c b))
 unfolding ite

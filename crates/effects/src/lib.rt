@@ -14,7 +14,8 @@ use definitions::{Content, Kind, Node, Nodes, Spot, Stage};
 use depths::Depths;
 
 // What a step at a place below 60 writes: an effect that makes no range base and sets no result. It stands beside definitions' `Effect`
-// because that holds a result, a word, and is wider in every decision: 27 instructions a record, of 99 (docs/DECISIONS.md).
+// because that holds a result, a word, and is wider in every decision: an `Effect` in place of this was measured to cost 27
+// instructions a record, of 99 (docs/DECISIONS.md), and a long run is to take no more than at the start (docs/DESIGN-PASS.md, "Speed").
 #[derive(Clone, Copy)]
 pub enum Write {
     Quiet,
@@ -59,7 +60,8 @@ pub enum Write {
     },
 }
 
-// A new base, but its depths.
+// The new nodes, but their depths: a base, a route, a range base. Each has fields of its own, and is `EMPTY` in the others, so that one
+// function for all three would be `nodes::put_node` with the fields at each call.
 pub fn put_base(nodes: &mut Nodes, at: u8, kind: Kind, parent: Option<u8>, container: u64, main: u8)
     ensures { table nodes.new ≡ upd (table nodes.old) at (base_shape kind parent container main) }
 {
@@ -73,7 +75,6 @@ pub fn put_base(nodes: &mut Nodes, at: u8, kind: Kind, parent: Option<u8>, conta
     nodes::put_node(nodes, at, n);
 }
 
-// A new route.
 pub fn put_route(nodes: &mut Nodes, at: u8, key: u8, left: u8, right: u8)
     ensures { table nodes.new ≡ upd (table nodes.old) at (new_route key left right) }
 {
@@ -87,7 +88,7 @@ pub fn put_route(nodes: &mut Nodes, at: u8, key: u8, left: u8, right: u8)
     nodes::put_node(nodes, at, n);
 }
 
-// A new range base, but its depths.
+// Its ends and its store are no struct, here and at `ask`: definitions' `Node` says why.
 pub fn put_range(
     nodes: &mut Nodes,
     at: u8,
@@ -290,7 +291,8 @@ pub fn ask(
     hang_at(nodes, root, spot, at)
 }
 
-// How many stores are shown after it.
+// How many stores are shown after it. `fresh` says whether its store is a new one. No Option of a store: a range base has one either way,
+// and an effect names it beside the flag.
 #[tactic(auto, using(crate::proofs::Laws::shown_fresh))]
 pub fn shown_after(shown: u16, store: u8, fresh: bool) -> u16
     ensures { result ≡ cond fresh (store + 1) shown }
@@ -298,7 +300,7 @@ pub fn shown_after(shown: u16, store: u8, fresh: bool) -> u16
     if fresh { store as u16 + 1 } else { shown }
 }
 
-// Its depths are those of the base that it is put for.
+// Its depths are those of the base that it is put for: `depths::copy` in a range base's words, the new node first, as in `ask`.
 pub fn deepen_range(depths: &mut Depths, at: u8, old: u8)
     ensures { rows depths.new ≡ upd (rows depths.old) at (rows depths.old old) }
 {

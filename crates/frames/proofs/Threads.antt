@@ -6,7 +6,7 @@ use native.Mathlib.Omega.{arith}
 use native.Mathlib.Decide.{ℕ_discrete}
 use lib.ListN.{length, get_or, set}
 use borrow.Author.Tests.{eq-eqb, ne_eqb}
-use Rattle.std.specs.Prelude.{None, map}
+use Rattle.std.specs.Prelude.{Option, Some, None, map}
 use Rattle.std.proofs.lemmas.List.{length-map, map-set, get_or-map, get_or-set_same, get_or-set_other}
 use Rattle.container.specs.Choice.{upd}
 use Rattle.definitions.specs.declared.Action.{Action}
@@ -16,10 +16,9 @@ use Rattle.definitions.specs.Threads.{Frame, Thread, Moves, new_frame}
 use Rattle.definitions.specs.Frames.{back_in}
 use Rattle.definitions.specs.Steps.{step}
 use Rattle.frames.specs.declared.frame.Frame.{Frame as Kept}
-use Rattle.frames.specs.View.{held_frame, held, frames_of}
+use Rattle.frames.specs.View.{held_frame, held, frames_of, top_row, HasRoom}
 use Rattle.frames.specs.Turns.{Leads, Backs}
-use Rattle.frames.specs.Outcomes.{told_in, Acts, Takes, Stands, Opens, Room, step_at}
-use Rattle.frames.specs.declared.Outcome.{Outcome}
+use Rattle.frames.specs.Outcomes.{Ending, told_in, Acts, Takes, Stands, Opens, Room, step_at}
 
 -- ---- the frames of the code, where one is replaced
 pub put_frame : (l : List Kept) (j : ℕ) (k : Kept) → j < length l → held (set l j k) ≡ upd (held l) j (held_frame k)
@@ -57,12 +56,23 @@ module _ (h h' : ℕ → Frame) (t d : ℕ) (g : Frame) (q : h' ≡ upd h (t * 4
   frames_beside : d < 4 → (u k : ℕ) → k ≤ 4 → (u ≡ t → ⊥) → frames_of h' u k ≡ frames_of h u k
   frames_beside l u k m o = ap (λ (y : ℕ → Frame). frames_of y u k) q ∙ beside h t d u k g l m o
 
--- ---- a new frame
-pub entered : (l : List Kept) (t d : ℕ) (k : Kept) {f : Frame} → length l ≡ 16 → t < 4 → d < 4 → held_frame k ≡ f → Opens (held l) (held (set l (t * 4 + d) k)) t d f
-entered l t d k {f} n i m q = record { frames = frames_top (held l) _ t d f w; others = frames_beside (held l) _ t d f w m }
+-- ---- a new frame, in row i
+pub entered : (l : List Kept) (t d i : ℕ) (k : Kept) {f : Frame} → length l ≡ 16 → t < 4 → d < 4 → i ≡ t * 4 + d → held_frame k ≡ f → Opens (held l) (held (set l i k)) t d f
+entered l t d i k {f} n m o e q = rw e (record { frames = frames_top (held l) _ t d f w; others = frames_beside (held l) _ t d f w o })
   where
     w : held (set l (t * 4 + d) k) ≡ upd (held l) (t * 4 + d) f
     w = put_frame l (t * 4 + d) k (omega arith) ∙ ap (upd (held l) (t * 4 + d)) q
+
+-- ---- the row i of the frame on top
+pub top_none : (t d : ℕ) {r : Option ℕ} → r ≡ top_row t d → r ≡ None → d ≡ 0
+top_none t zero e z = refl
+top_none t (suc d) e z = absurd (cc)
+
+pub top_at : (t d i : ℕ) {r : Option ℕ} → r ≡ top_row t (suc d) → r ≡ Some i → i ≡ t * 4 + d
+top_at t d i e z = cc
+
+pub top_some : (t i : ℕ) {r : Option ℕ} → r ≡ top_row t 0 → r ≡ Some i → ⊥
+top_some t i e z = absurd (cc)
 
 -- ---- back: k is the frame on top before it, k' after it
 back_top : (l : List Kept) (t d : ℕ) (k k' : Kept) {p : ℕ} → length l ≡ 16 → t < 4 → d < 4 → Leads (held_frame (get_or l (t * 4 + d) k)) (held_frame k') p (λ e f fs th. back_in (f ∷ fs) e th) → Backs (held l) (held (set l (t * 4 + d) k')) t (suc d) p
@@ -75,13 +85,13 @@ back_top l t d k k' {p} n i m q = record {
     w : held (set l (t * 4 + d) k') ≡ upd (held l) (t * 4 + d) (held_frame k')
     w = put_frame l (t * 4 + d) k' (omega arith)
 
-pub backs_none : (h : ℕ → Frame) (t d : ℕ) → d ≡ 0 → Backs h h t d 1
-backs_none h t d z = record { turn = λ e th. rw z; others = λ u k l o. refl }
+pub backs_none : (h : ℕ → Frame) (t d : ℕ) {r : Option ℕ} → r ≡ top_row t d → r ≡ None → Backs h h t d 1
+backs_none h t d e z = record { turn = λ _ th. rw (top_none t d e z); others = λ u k l o. refl }
 
-pub backs_on : (l : List Kept) (t d : ℕ) (k k' : Kept) {p : ℕ} → length l ≡ 16 → t < 4 → d ≤ 4 → (d ≡ 0 → ⊥)
-    → Leads (held_frame (get_or l (t * 4 + d - 1) k)) (held_frame k') p (λ e f fs th. back_in (f ∷ fs) e th) → Backs (held l) (held (set l (t * 4 + d - 1) k')) t d p
-backs_on l t zero k k' n i m z q = absurd (z refl)
-backs_on l t (suc d) k k' n i m z q = let e : t * 4 + suc d - 1 ≡ t * 4 + d = omega arith in rw e (back_top l t d k k' n i (omega arith) (rw e at q))
+pub backs_on : (l : List Kept) (t d i : ℕ) (k k' : Kept) {p : ℕ} {r : Option ℕ} → length l ≡ 16 → t < 4 → d ≤ 4 → r ≡ top_row t d → r ≡ Some i
+    → Leads (held_frame (get_or l i k)) (held_frame k') p (λ e f fs th. back_in (f ∷ fs) e th) → Backs (held l) (held (set l i k')) t d p
+backs_on l t zero i k k' n m o e z q = absurd (top_some t i e z)
+backs_on l t (suc d) i k k' n m o e z q = let y : i ≡ t * 4 + d = top_at t d i e z in rw y (back_top l t d k k' n m (omega arith) (rw y at q))
 
 -- ---- a step of the frame on top is a step of the thread
 upd_same : (h : ℕ → Frame) (i : ℕ) → upd h i (h i) ≡ h
@@ -90,7 +100,7 @@ upd_same h i = fun_ext (λ j. elim (ℕ_discrete j i) [ yes e ↦ rw (e, eq-eqb 
 own : (h : ℕ → Frame) (t d : ℕ) (th : Thread) {p b u : ℕ} {a : Action} → th.frames ≡ frames_of h t (suc d) → Stands p a b u th → to_frames p (frames_of h t (suc d)) th ≡ th
 own h t d th o q = ap₂ (λ (x : ℕ) (y : List Frame). to_frames x y th) (sym q.place) (sym o)
 
-module _ (p : ℕ) (s : Sight) (a : Action) (b u : ℕ) {r : Outcome} where
+module _ (p : ℕ) (s : Sight) (a : Action) (b u : ℕ) {r : Ending} where
   top_acts : (l : List Kept) (t d : ℕ) (k k' : Kept) → length l ≡ 16 → t < 4 → d < 4 → Acts (held_frame (get_or l (t * 4 + d) k)) (held_frame k') r (step_at p s)
       → Takes (held l) (held (set l (t * 4 + d) k')) t (suc d) r (Stands p a b u) (step (place_of p) s)
   unfolding step_at
@@ -110,18 +120,17 @@ module _ (p : ℕ) (s : Sight) (a : Action) (b u : ℕ) {r : Outcome} where
       e : suc d - 1 ≡ d
       e = omega arith
 
-  pub takes_top : (l : List Kept) (t d : ℕ) (k k' : Kept) → length l ≡ 16 → t < 4 → d ≤ 4 → (d ≡ 0 → ⊥) → Acts (held_frame (get_or l (t * 4 + d - 1) k)) (held_frame k') r (step_at p s)
-      → Takes (held l) (held (set l (t * 4 + d - 1) k')) t d r (Stands p a b u) (step (place_of p) s)
-  takes_top l t zero k k' n i m z q = absurd (z refl)
-  takes_top l t (suc d) k k' n i m z q = let e : t * 4 + suc d - 1 ≡ t * 4 + d = omega arith in rw e (top_acts l t d k k' n i (omega arith) (rw e at q))
+  pub takes_top : (l : List Kept) (t d i : ℕ) (k k' : Kept) {v : Option ℕ} → length l ≡ 16 → t < 4 → d ≤ 4 → v ≡ top_row t d → v ≡ Some i → Acts (held_frame (get_or l i k)) (held_frame k') r (step_at p s)
+      → Takes (held l) (held (set l i k')) t d r (Stands p a b u) (step (place_of p) s)
+  takes_top l t zero i k k' n m o e z q = absurd (top_some t i e z)
+  takes_top l t (suc d) i k k' n m o e z q = let y : i ≡ t * 4 + d = top_at t d i e z in rw y (top_acts l t d k k' n m (omega arith) (rw y at q))
 
 -- ---- room on the stack of the frame on top
-pub top_room : (l : List Kept) (t d p : ℕ) (k : Kept) → length l ≡ 16 → t < 4 → d ≤ 4 → (d ≡ 0 → ⊥) → Room p (frames_of (held l) t d) → (p ≡ 60 → ⊥) → p < 81 → length (held_frame (get_or l (t * 4 + d - 1) k)).stack < 88
-top_room l t zero p k n i m z r e h = absurd (z refl)
-top_room l t (suc d) p k n i m z r e h =
-    let y : t * 4 + suc d - 1 ≡ t * 4 + d = omega arith in
-    let P : Frame → Type 0 = λ f. length f.stack < 88 in
-    rw y (subst P (sym (read_frame l (t * 4 + d) k (omega arith))) (r e h))
+pub top_room : (l : List Kept) (t d i p : ℕ) (k : Kept) {v : Option ℕ} → length l ≡ 16 → t < 4 → d ≤ 4 → v ≡ top_row t d → v ≡ Some i → Room p (frames_of (held l) t d) → (p ≡ 60 → ⊥) → p < 81 → HasRoom (held_frame (get_or l i k))
+top_room l t zero i p k n m o e z r f h = absurd (top_some t i e z)
+top_room l t (suc d) i p k n m o e z r f h =
+    let y : i ≡ t * 4 + d = top_at t d i e z in
+    rw y (subst (λ f. HasRoom f) (sym (read_frame l (t * 4 + d) k (omega arith))) (r f h))
 
 length_frames : (h : ℕ → Frame) (t d : ℕ) → length (frames_of h t d) ≡ d
 length_frames h t zero = refl

@@ -1,6 +1,6 @@
 -- The frames that sixteen of them hold: of four threads, four frames a thread. What stands past a stack's length, and in frames past a thread's
 -- number of them, is of no account.
-use Rattle.std.specs.Prelude.{ℕ, zero, suc, ◌+◌, ◌*◌, List, [], ◌∷◌, get_or, map, take, reverse, None}
+use Rattle.std.specs.Prelude.{ℕ, zero, suc, ◌+◌, ◌*◌, ◌<◌, List, [], ◌∷◌, length, get_or, map, take, reverse, Option, Some, None}
 use Rattle.definitions.specs.Threads.{Frame, new_frame}
 use Rattle.frames.specs.declared.stack.Stack.{Stack}
 use Rattle.frames.specs.declared.frame.Frame.{Frame as Kept}
@@ -19,3 +19,12 @@ held l j = get_or (map held_frame l) j (new_frame 0 0 None)
 abbrev pub frames_of : (ℕ → Frame) → ℕ → ℕ → List Frame
 frames_of h t zero = []
 frames_of h t (suc d) = h (t * 4 + d) ∷ frames_of h t d
+
+-- where the top one lies, of d frames of thread t
+abbrev pub top_row : ℕ → ℕ → Option ℕ
+top_row t zero = None
+top_row t (suc d) = Some (t * 4 + d)
+
+-- its stack takes a number more
+abbrev pub HasRoom : Frame → Type 0
+HasRoom f = length f.stack < 88

@@ -18,15 +18,16 @@ pub struct Frame {
     pub base: u8,
     pub popped: u8,
     pub key: u8,
-    // whether a base is added
+    // whether a base is added. The backup is no Option instead: the definitions' frame has both, and a state shows them apart, at different
+    // places (snapshot's `Field::Done` and `Field::Backup`)
     pub begun: bool,
 }
 
 impl Frame {
-    ghost use Rattle.std.specs.Prelude.{◌<◌, None, length};
+    ghost use Rattle.std.specs.Prelude.{None};
     ghost use Rattle.definitions.specs.Frames.{in_hand, adds, tail_of, store_of};
     ghost use Rattle.definitions.specs.Threads.{new_frame};
-    ghost use Rattle.frames.specs.View.{held_frame};
+    ghost use Rattle.frames.specs.View.{held_frame, HasRoom};
 
     pub const EMPTY: Frame = Frame {
         stack: Stack::EMPTY,
@@ -53,7 +54,7 @@ impl Frame {
         }
     }
 
-    // The number of its store, 0 for none.
+    // The number of its store; 0 for none, as the definitions' `store_of` has it: an effect and a look into the stores take a number.
     pub fn store_number(&self) -> u8
         ensures { result ≡ store_of self.now.store }
     {
@@ -62,7 +63,7 @@ impl Frame {
 
     // A base x is pushed, and is in hand.
     pub fn push_base(&mut self, x: u8)
-        requires { length (held_frame self.old).stack < 88 }
+        requires { HasRoom (held_frame self.old) }
         ensures { held_frame self.new ≡ in_hand x (held_frame self.old).stack (held_frame self.old) }
     {
         self.stack.push(x);

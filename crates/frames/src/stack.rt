@@ -3,7 +3,7 @@ ghost use Rattle.std.specs.Prelude.{◌≤◌};
 
 #[derive(Clone, Copy)]
 pub struct Stack {
-    // the last one pushed is the top; what stands past the length is of no account
+    // the last one pushed is the top; what stands past the length is of no account. A length beside them: there is no heap
     items: [u8; 88],
     length: usize,
     ghost fits: { length ≤ 88 },
@@ -32,7 +32,7 @@ impl Stack {
         self.len() == 0
     }
 
-    // Entry i, the top first; 0 where there is none.
+    // Entry i, the top first; 0 where there is none: as `top`, and a state shows 0 there.
     pub fn entry(&self, i: usize) -> u8
         ensures { result ≡ get_or (held_stack self.now) i 0 }
     {
@@ -42,7 +42,8 @@ impl Stack {
         0
     }
 
-    // The top; 0 where it is empty.
+    // The top; 0 where it is empty, as the definitions' `top_of` has it: no step of a run reads the top of an empty stack, so an Option would
+    // be one more case at each.
     pub fn top(&self) -> u8
         ensures { result ≡ top_of (held_stack self.now) }
     {

@@ -1,19 +1,18 @@
 // 62, 64 to 67, 76 and 77 to 80: a base is checked and swapped for a range base. What is read of nodes and stores is handed in.
 #![tactic(auto, using(std::proofs::lemmas::Bool::Decides::nat_tests, crate::proofs::Turns::alike_cases), unfolding(container::specs::Choice::ite, definitions::specs::Queries::opened_by, definitions::specs::Frames::back, crate::specs::Turns::begin_turn, crate::specs::Turns::extend_turn, crate::specs::Turns::ride_turn, crate::specs::Turns::pass_turn, crate::specs::Turns::open_turn, crate::specs::Turns::go_on_turn))]
 
-ghost use Rattle.std.specs.Prelude.{◌≡◌, ◌+◌, ◌<◌};
-ghost use Rattle.definitions.specs.Places.{quarter_number};
+ghost use Rattle.std.specs.Prelude.{Ok};
 ghost use Rattle.frames.specs.View.{held_frame};
 ghost use Rattle.frames.specs.Turns.{ride_turn, pass_turn, open_turn, go_on_turn};
 ghost use Rattle.frames.specs.Outcomes.{Acts};
 
 use super::frame::Frame;
-use super::{Outcome, turn};
-use definitions::{Check, Effect, Node, Probe, Quarter};
+use super::{Outcome, Shortage, turn};
+use definitions::{Check, Effect, Node, Probe};
 
 // 62: what the check of the base in hand answers. A range base that reaches as far is ridden on (piggyback).
 pub fn ride(frame: &mut Frame, check: Check) -> Outcome
-    ensures { Acts (held_frame frame.old) (held_frame frame.new) result (ride_turn check) }
+    ensures { Acts (held_frame frame.old) (held_frame frame.new) (Ok result) (ride_turn check) }
 {
     match check {
         Check::Replaceable => Outcome::Onward {
@@ -42,7 +41,7 @@ pub fn ride(frame: &mut Frame, check: Check) -> Outcome
 
 // 76: is the base in hand replaceable?
 pub fn pass(frame: &Frame, free: bool) -> Outcome
-    ensures { Acts (held_frame frame.now) (held_frame frame.now) result (pass_turn free) }
+    ensures { Acts (held_frame frame.now) (held_frame frame.now) (Ok result) (pass_turn free) }
 {
     if free {
         return Outcome::Onward {
@@ -53,28 +52,25 @@ pub fn pass(frame: &Frame, free: bool) -> Outcome
     Outcome::Blocked(frame.base)
 }
 
-// The place of one of four steps, counted from the first.
-fn place_of(first: u8, quarter: Quarter) -> u8
-    requires { first < 128 }
-    ensures { result ≡ first + quarter_number quarter }
-{
-    first + quarter as u8
-}
-
-// 64 to 67, with what the comparison found and the base in hand.
-pub fn open_at(frame: &mut Frame, seen: Probe, base: Node, used: u16, shown: u16) -> Outcome
+// 64 to 67, with what the comparison found and the base in hand. It is not one function with `go_on`: they differ in store, places and what a
+// miss leads to, so one would be a switch.
+pub fn open_at(
+    frame: &mut Frame,
+    seen: Probe,
+    base: Node,
+    used: u16,
+    shown: u16,
+) -> Result<Outcome, Shortage>
     ensures { Acts (held_frame frame.old) (held_frame frame.new) result (open_turn seen base used shown) }
 {
     match seen {
         Probe::Hit(spot) => {
-            if 255 < used {
-                return Outcome::NodesOut;
-            }
-            if 63 < shown {
-                return Outcome::StoresOut;
-            }
-            let at = used as u8;
-            let store = shown as u8;
+            let Ok(at) = u8::try_from(used) else {
+                return Err(Shortage::Nodes);
+            };
+            let Ok(store @ ..=63) = u8::try_from(shown) else {
+                return Err(Shortage::Stores);
+            };
             let effect = Effect::Ask {
                 spot,
                 at,
@@ -86,29 +82,28 @@ pub fn open_at(frame: &mut Frame, seen: Probe, base: Node, used: u16, shown: u16
                 fresh: true,
             };
             let place = turn::begin(frame, at, store, base.container);
-            Outcome::Onward { place, effect }
+            Ok(Outcome::Onward { place, effect })
         }
-        Probe::Next(quarter) => Outcome::Onward {
-            place: place_of(64, quarter),
+        Probe::Next(quarter) => Ok(Outcome::Onward {
+            place: quarter.place_from(64),
             effect: Effect::Quiet,
-        },
-        Probe::Miss => Outcome::Onward {
+        }),
+        Probe::Miss => Ok(Outcome::Onward {
             place: 60,
             effect: Effect::Quiet,
-        },
+        }),
     }
 }
 
-// 77 to 80, likewise. It is not one function with `open_at`: they differ in store, places and what a miss leads to, so one would be a switch.
-pub fn go_on(frame: &mut Frame, seen: Probe, base: Node, used: u16) -> Outcome
+// 77 to 80, likewise.
+pub fn go_on(frame: &mut Frame, seen: Probe, base: Node, used: u16) -> Result<Outcome, Shortage>
     ensures { Acts (held_frame frame.old) (held_frame frame.new) result (go_on_turn seen base used) }
 {
     match seen {
         Probe::Hit(spot) => {
-            if 255 < used {
-                return Outcome::NodesOut;
-            }
-            let at = used as u8;
+            let Ok(at) = u8::try_from(used) else {
+                return Err(Shortage::Nodes);
+            };
             let effect = Effect::Ask {
                 spot,
                 at,
@@ -120,15 +115,15 @@ pub fn go_on(frame: &mut Frame, seen: Probe, base: Node, used: u16) -> Outcome
                 fresh: false,
             };
             let place = turn::extend(frame, at, base.container);
-            Outcome::Onward { place, effect }
+            Ok(Outcome::Onward { place, effect })
         }
-        Probe::Next(quarter) => Outcome::Onward {
-            place: place_of(77, quarter),
+        Probe::Next(quarter) => Ok(Outcome::Onward {
+            place: quarter.place_from(77),
             effect: Effect::Quiet,
-        },
-        Probe::Miss => Outcome::Onward {
+        }),
+        Probe::Miss => Ok(Outcome::Onward {
             place: turn::back(frame),
             effect: Effect::Quiet,
-        },
+        }),
     }
 }

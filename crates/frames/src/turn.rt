@@ -7,10 +7,10 @@ ghost use Rattle.frames.specs.View.{held_frame};
 ghost use Rattle.frames.specs.Turns.{Leads, Goes, add_turn, found_turn, extend_turn, begin_turn};
 
 use super::frame::Frame;
-use definitions::{Kind, Node};
+use definitions::{Kind, Node, Place};
 
 // Next: the base is popped off the stack.
-pub fn next(frame: &mut Frame) -> u8
+pub fn next(frame: &mut Frame) -> Place
     ensures { Leads (held_frame frame.old) (held_frame frame.new) result (λ e f fs th. next_from f.stack e f fs th) }
 {
     let top = frame.stack.pop();
@@ -31,7 +31,7 @@ fn reaching(c: u64, h: u8) -> bool
 }
 
 // Add: c is the container of the base in hand.
-pub fn add(frame: &mut Frame, c: u64) -> u8
+pub fn add(frame: &mut Frame, c: u64) -> Place
     ensures { Leads (held_frame frame.old) (held_frame frame.new) result (add_turn c) }
 {
     let last = reaching(c, frame.upper);
@@ -40,7 +40,7 @@ pub fn add(frame: &mut Frame, c: u64) -> u8
 }
 
 // Back, with this frame on top.
-pub fn back(frame: &mut Frame) -> u8
+pub fn back(frame: &mut Frame) -> Place
     ensures { Leads (held_frame frame.old) (held_frame frame.new) result (λ e f fs th. back_in (f ∷ fs) e th) }
 {
     if !frame.begun {
@@ -57,11 +57,11 @@ pub fn back(frame: &mut Frame) -> u8
 pub fn is_of(k: u8, base: Node) -> bool
     ensures { result ≡ is_of k base }
 {
-    matches!(base.kind, Kind::Range) && base.store == k
+    base.kind == Kind::Range && base.store == k
 }
 
 // Found first, with the base in hand.
-pub fn found_first(frame: &mut Frame, base: Node) -> u8
+pub fn found_first(frame: &mut Frame, base: Node) -> Place
     ensures { Goes (held_frame frame.old) (held_frame frame.new) result (found_turn base) }
 {
     match frame.store {
@@ -78,7 +78,7 @@ pub fn found_first(frame: &mut Frame, base: Node) -> u8
 
 // 77 to 80, where the swap succeeds: x is the new range base, c its container.
 #[tactic(auto, using(crate::proofs::Turns::extends))]
-pub fn extend(frame: &mut Frame, x: u8, c: u64) -> u8
+pub fn extend(frame: &mut Frame, x: u8, c: u64) -> Place
     ensures { Leads (held_frame frame.old) (held_frame frame.new) result (extend_turn x c) }
 {
     frame.swap_base(x);
@@ -86,7 +86,7 @@ pub fn extend(frame: &mut Frame, x: u8, c: u64) -> u8
 }
 
 // 64 to 67, likewise, with the new store k.
-pub fn begin(frame: &mut Frame, x: u8, k: u8, c: u64) -> u8
+pub fn begin(frame: &mut Frame, x: u8, k: u8, c: u64) -> Place
     ensures { Leads (held_frame frame.old) (held_frame frame.new) result (begin_turn x k c) }
 {
     frame.store = Some(k);

@@ -7,7 +7,7 @@ ghost use Rattle.frames.specs.Turns.{Goes, left_turn, up_turn, meet_turn, fill_e
 
 use super::frame::Frame;
 use super::turn;
-use definitions::{Effect, Node};
+use definitions::{Effect, Node, Place};
 
 // Is the route valid, with its key over k?
 fn above(k: u8, route: Node) -> bool
@@ -17,7 +17,7 @@ fn above(k: u8, route: Node) -> bool
 }
 
 // 70, with the top route.
-pub fn look_left(frame: &mut Frame, route: Node) -> u8
+pub fn look_left(frame: &mut Frame, route: Node) -> Place
     ensures { Goes (held_frame frame.old) (held_frame frame.new) result (left_turn route) }
 {
     if route.left == frame.popped {
@@ -28,7 +28,7 @@ pub fn look_left(frame: &mut Frame, route: Node) -> u8
 }
 
 // 72, with the top route.
-pub fn ascend(frame: &mut Frame, route: Node) -> u8
+pub fn ascend(frame: &mut Frame, route: Node) -> Place
     ensures { Goes (held_frame frame.old) (held_frame frame.new) result (up_turn route) }
 {
     if above(frame.key, route) {
@@ -39,7 +39,7 @@ pub fn ascend(frame: &mut Frame, route: Node) -> u8
 }
 
 // 74, with the result of the frame's store and the base in hand.
-pub fn meet(frame: &mut Frame, found: Option<u64>, base: Node) -> u8
+pub fn meet(frame: &mut Frame, found: Option<u64>, base: Node) -> Place
     ensures { Goes (held_frame frame.old) (held_frame frame.new) result (meet_turn found base) }
 {
     match found {

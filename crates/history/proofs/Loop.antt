@@ -49,7 +49,13 @@ answer_low StoodDown = omega arith
 answer_low Stopped = omega arith
 
 -- ---- at record k of those carried out
-module _ (file : List ℕ) (d f : ℕ) (rows : List ℕ) (told : Told file d f rows) (k : ℕ) (in-run : k < d) where
+module _ (file : List ℕ) (records rows : List (List ℕ)) (told : Told file records rows) (k : ℕ) (in-run : k < length records) where
+  abbrev d : ℕ
+  d = length records
+
+  abbrev f : ℕ
+  f = length rows
+
   abbrev n : ℕ
   n = count_of file
 
@@ -121,13 +127,13 @@ module _ (file : List ℕ) (d f : ℕ) (rows : List ℕ) (told : Told file d f r
         by (goes e _ _ _) = quiet e
         by (ends a i c e _ _ _) = absurd (omega (arith, row_counts a i c e))
 
-    pub quiet_other : (after file k).finished < f → get_or rows (4 * (after file k).finished) 0 ≢ t → Quiet
+    pub quiet_other : (after file k).finished < f → get_or (get_or rows (after file k).finished []) 0 0 ≢ t → Quiet
     quiet_other l h = by deed
       where
         by : Deed file k z.added → Quiet
         by (starts e _ _) = quiet e
         by (goes e _ _ _) = quiet e
-        by (ends a i c e _ _ _) = absurd (h (told.rows (4 * (after file k).finished) (omega arith) ∙ (row_here a i c e).thread))
+        by (ends a i c e _ _ _) = absurd (h (told.cells (after file k).finished 0 (omega arith) (omega arith) ∙ ap (λ j. get_or (after file n).rows j 0) (omega arith) ∙ (row_here a i c e).thread))
 
     pub quiet_ahead : ahead file (suc k) (d - suc k) t ≡ true → Quiet
     quiet_ahead h = by deed
@@ -139,36 +145,39 @@ module _ (file : List ℕ) (d f : ℕ) (rows : List ℕ) (told : Told file d f r
 
     -- a step that ends
     pub record Ends : Type 0 where
-      pub low : get_or rows (4 * (after file k).finished + 3) 0 < 255
+      pub low : get_or (get_or rows (after file k).finished []) 3 0 < 255
       pub finished : (after file (suc k)).finished ≡ (after file k).finished + 1
       pub events : events_to file (suc k) ≡ events_to file k ++ record {
-        thread = get_or rows (4 * (after file k).finished) 0;
-        action = get_or rows (4 * (after file k).finished + 1) 0;
-        station = get_or rows (4 * (after file k).finished + 2) 0;
-        mark = get_or rows (4 * (after file k).finished + 3) 0 + 1;
+        thread = get_or (get_or rows (after file k).finished []) 0 0;
+        action = get_or (get_or rows (after file k).finished []) 1 0;
+        station = get_or (get_or rows (after file k).finished []) 2 0;
+        mark = get_or (get_or rows (after file k).finished []) 3 0 + 1;
       } ∷ []
 
-    pub ends_here : (after file k).finished < f → get_or rows (4 * (after file k).finished) 0 ≡ t → ahead file (suc k) (d - suc k) t ≡ false → Ends
+    pub ends_here : (after file k).finished < f → get_or (get_or rows (after file k).finished []) 0 0 ≡ t → ahead file (suc k) (d - suc k) t ≡ false → Ends
     ends_here l h a = by deed
       where
         m : ℕ
         m = (after file k).finished
 
-        from_run : (j : ℕ) → 1 + j ≤ 4 * f → get_or rows j 0 ≡ get_or (after file n).rows j 0
-        from_run = told.rows
+        from_run : (b : ℕ) → b < 4 → get_or (get_or rows m []) b 0 ≡ get_or (after file n).rows (4 * m + b) 0
+        from_run b = told.cells m b l
+
+        thread_run : get_or (get_or rows m []) 0 0 ≡ get_or (after file n).rows (4 * m) 0
+        thread_run = from_run 0 (omega arith) ∙ ap (λ j. get_or (after file n).rows j 0) (omega arith)
 
         none : z.added ≡ no_row → is_idle ((after file (suc k)).bench.threads t) ≡ false → ⊥
-        none e b = (outlook file told.version n t (d - suc k) (suc k) rest).off a b (after file k).finished (omega (arith, (quiet e).finished)) (omega (arith, told.finished)) (sym (from_run (4 * (after file k).finished) (omega arith)) ∙ h)
+        none e b = (outlook file told.version n t (d - suc k) (suc k) rest).off a b (after file k).finished (omega (arith, (quiet e).finished)) (omega (arith, told.finished)) (sym thread_run ∙ h)
 
         by : Deed file k z.added → Ends
         by (starts _ e _) = absurd (e step)
         by (goes e _ _ b) = absurd (none e b)
         by (ends y i c e _ _ _) =
             let r = row_here y i c e in
-            let r0 = from_run (4 * (after file k).finished) (omega arith) ∙ r.thread in
-            let r1 = from_run (4 * (after file k).finished + 1) (omega arith) ∙ r.action in
-            let r2 = from_run (4 * (after file k).finished + 2) (omega arith) ∙ r.station in
-            let r3 = from_run (4 * (after file k).finished + 3) (omega arith) ∙ r.answer in
+            let r0 = thread_run ∙ r.thread in
+            let r1 = from_run 1 (omega arith) ∙ r.action in
+            let r2 = from_run 2 (omega arith) ∙ r.station in
+            let r3 = from_run 3 (omega arith) ∙ r.answer in
             record {
               low = omega (arith, r3, answer_low y);
               finished = omega (arith, finished_on (row y i c) e);
@@ -192,18 +201,16 @@ page_more file k p e i h f = rw (add-one, i, bytes_append (events_to file k) (e 
 pub page_all : (file : List ℕ) → version file ≡ 1 → (done k : ℕ) (p : Page) {q : Page} → done ≡ (after file (count_of file)).done → k ≡ done → q ≡ put_all p (bytes_of (events_to file k)) → q ≡ put_all p (bytes_of (run_events file))
 page_all file one done k p d e h = h ∙ ap (λ l. put_all p (bytes_of l)) (ap (events_to file) (e ∙ d) ∙ events_then file one (count_of file))
 
--- ---- the file has room for the records done, and the buffer for the rows
-pub record Room (file : List ℕ) (d f : ℕ) (buffer : List ℕ) : Type 0 where
-  pub records : 3 + 2 * d ≤ length file
-  pub few : d ≤ 4096
-  pub rows : 4 * f ≤ length buffer
-  pub finished : f ≤ 4096
+-- ---- the file has the records done, and there are few rows
+pub record Room (file : List ℕ) (records rows : List (List ℕ)) : Type 0 where
+  pub within : length records ≤ count_of file
+  pub few : length records ≤ 4096
+  pub finished : length rows ≤ 4096
 
-pub told_room : (file : List ℕ) (d f : ℕ) (buffer : List ℕ) → Told file d f buffer → Room file d f buffer
-told_room file d f buffer t = record {
-  records = omega (arith, t, done_most file t.version (count_of file));
+pub told_room : (file : List ℕ) (records rows : List (List ℕ)) → Told file records rows → Room file records rows
+told_room file records rows t = record {
+  within = omega (arith, t, done_most file t.version (count_of file));
   few = omega (arith, t, done_most file t.version (count_of file));
-  rows = t.room;
   finished = omega (arith, t, finished_few file (count_of file));
 }
 
@@ -226,39 +233,74 @@ not_off : (v : Bool) → not v ≡ false → v ≡ true
 not_off true e = refl
 not_off false e = absurd (true≢false e)
 
-module _ (file : List ℕ) (d f : ℕ) (rows : List ℕ) (told : Told file d f rows) (k : ℕ) (in-run : k < d) {m : ℕ} {p q : Page} (h : Holds file k m p q) where
+module _ (file : List ℕ) (records rows : List (List ℕ)) (told : Told file records rows) (k : ℕ) (in-run : k < length records) {m : ℕ} {p q : Page} (h : Holds file k m p q) where
   pub on_start : {r : Page} → (first_byte file k % 16 ≡ 0 → ⊥) → r ≡ put_all q (first_byte file k / 16 ∷ first_byte file k % 16 ∷ second_byte file k ∷ 0 ∷ []) → Holds file (k + 1) m p r
-  on_start s e = record { rows = h.rows ∙ sym (start_finished file d f rows told k in-run s) ∙ rw (add-one k); page = page_more file k p _ (start_events file d f rows told k in-run s) h.page e }
+  on_start s e = record { rows = h.rows ∙ sym (start_finished file records rows told k in-run s) ∙ rw (add-one k); page = page_more file k p _ (start_events file records rows told k in-run s) h.page e }
 
   module _ (step : first_byte file k % 16 ≡ 0) where
-    still : Quiet file d f rows told k in-run step → Holds file (k + 1) m p q
+    still : Quiet file records rows told k in-run step → Holds file (k + 1) m p q
     still z = record { rows = h.rows ∙ sym z.finished ∙ rw (add-one k); page = page_same file k p z.events h.page }
 
-    pub on_past : f ≤ m → Holds file (k + 1) m p q
-    on_past l = still (quiet_past file d f rows told k in-run step (omega (arith, h.rows)))
+    pub on_past : length rows ≤ m → Holds file (k + 1) m p q
+    on_past l = still (quiet_past file records rows told k in-run step (omega (arith, h.rows)))
 
-    pub on_other : m < f → (get_or rows (4 * m) 0 ≡ first_byte file k / 16 → ⊥) → Holds file (k + 1) m p q
-    on_other l n = still (quiet_other file d f rows told k in-run step (omega (arith, h.rows)) (λ z. n (ap (λ i. get_or rows (4 * i) 0) h.rows ∙ z)))
+    pub on_other : m < length rows → (get_or (get_or rows m []) 0 0 ≡ first_byte file k / 16 → ⊥) → Holds file (k + 1) m p q
+    on_other l n = still (quiet_other file records rows told k in-run step (omega (arith, h.rows)) (λ z. n (ap (λ i. get_or (get_or rows i []) 0 0) h.rows ∙ z)))
 
-    module _ {v : Bool} (a : v ≡ ahead file (k + 1) (d - (k + 1)) (first_byte file k / 16)) where
-      there : ahead file (suc k) (d - suc k) (first_byte file k / 16) ≡ v
+    module _ {v : Bool} (a : v ≡ ahead file (k + 1) (length records - (k + 1)) (first_byte file k / 16)) where
+      there : ahead file (suc k) (length records - suc k) (first_byte file k / 16) ≡ v
       there = rw (← add-one k) (sym a)
 
       pub on_ahead : not v ≡ false → Holds file (k + 1) m p q
-      on_ahead e = still (quiet_ahead file d f rows told k in-run step (there ∙ not_off v e))
+      on_ahead e = still (quiet_ahead file records rows told k in-run step (there ∙ not_off v e))
 
-      module _ (l : m < f) (t : get_or rows (4 * m) 0 ≡ first_byte file k / 16) (e : not v ≡ true) where
-        here : Ends file d f rows told k in-run step
-        here = ends_here file d f rows told k in-run step (omega (arith, h.rows)) (ap (λ i. get_or rows (4 * i) 0) (sym h.rows) ∙ t) (there ∙ not_on v e)
+      module _ (l : m < length rows) (t : get_or (get_or rows m []) 0 0 ≡ first_byte file k / 16) (e : not v ≡ true) where
+        here : Ends file records rows told k in-run step
+        here = ends_here file records rows told k in-run step (omega (arith, h.rows)) (ap (λ i. get_or (get_or rows i []) 0 0) (sym h.rows) ∙ t) (there ∙ not_on v e)
 
-        pub end_low : get_or rows (4 * m + 3) 0 < 255
-        end_low = omega (arith, here.low, ap (λ i. get_or rows (4 * i + 3) 0) h.rows)
+        pub end_low : get_or (get_or rows m []) 3 0 < 255
+        end_low = omega (arith, here.low, ap (λ i. get_or (get_or rows i []) 3 0) h.rows)
 
-        pub on_end : {r : Page} → r ≡ put_all q (get_or rows (4 * m) 0 ∷ get_or rows (4 * m + 1) 0 ∷ get_or rows (4 * m + 2) 0 ∷ (get_or rows (4 * m + 3) 0 + 1) ∷ []) → Holds file (k + 1) (m + 1) p r
+        pub on_end : {r : Page} → r ≡ put_all q (get_or (get_or rows m []) 0 0 ∷ get_or (get_or rows m []) 1 0 ∷ get_or (get_or rows m []) 2 0 ∷ (get_or (get_or rows m []) 3 0 + 1) ∷ []) → Holds file (k + 1) (m + 1) p r
         on_end g = record {
           rows = ap (λ i. i + 1) h.rows ∙ sym here.finished ∙ rw (add-one k);
           page = page_more file k p _ here.events h.page (rw h.rows at g);
         }
+
+-- ---- the same, in words of the records' bytes
+module _ (file : List ℕ) (records rows : List (List ℕ)) (told : Told file records rows) (k : ℕ) (in-run : k < length records) {m : ℕ} {p q : Page} (h : Holds file k m p q) where
+  abbrev x : ℕ
+  x = get_or (get_or records k []) 0 0
+
+  same : x ≡ first_byte file k
+  same = told.first k in-run
+
+  pub at_start : {r : Page} → (x % 16 ≡ 0 → ⊥) → r ≡ put_all q (x / 16 ∷ x % 16 ∷ get_or (get_or records k []) 1 0 ∷ 0 ∷ []) → Holds file (k + 1) m p r
+  at_start s e = on_start file records rows told k in-run h (λ z. s (ap (λ v. v % 16) same ∙ z)) (e ∙ rw (same, told.second k in-run))
+
+  module _ (step : x % 16 ≡ 0) where
+    stepped : first_byte file k % 16 ≡ 0
+    stepped = ap (λ v. v % 16) (sym same) ∙ step
+
+    pub at_past : length rows ≤ m → Holds file (k + 1) m p q
+    at_past = on_past file records rows told k in-run h stepped
+
+    pub at_other : m < length rows → (get_or (get_or rows m []) 0 0 ≡ x / 16 → ⊥) → Holds file (k + 1) m p q
+    at_other l n = on_other file records rows told k in-run h stepped l (λ z. n (z ∙ ap (λ v. v / 16) (sym same)))
+
+    module _ {v : Bool} (a : v ≡ ahead file (k + 1) (length records - (k + 1)) (x / 16)) where
+      seen : v ≡ ahead file (k + 1) (length records - (k + 1)) (first_byte file k / 16)
+      seen = a ∙ ap (λ b. ahead file (k + 1) (length records - (k + 1)) (b / 16)) same
+
+      pub at_ahead : v ≡ true → Holds file (k + 1) m p q
+      at_ahead e = on_ahead file records rows told k in-run h stepped seen (ap not e)
+
+      module _ (l : m < length rows) (t : get_or (get_or rows m []) 0 0 ≡ x / 16) (e : v ≡ false) where
+        pub at_low : get_or (get_or rows m []) 3 0 < 255
+        at_low = end_low file records rows told k in-run h stepped seen l (t ∙ ap (λ b. b / 16) same) (ap not e)
+
+        pub at_end : {r : Page} → r ≡ put_all q (get_or (get_or rows m []) 0 0 ∷ get_or (get_or rows m []) 1 0 ∷ get_or (get_or rows m []) 2 0 ∷ (get_or (get_or rows m []) 3 0 + 1) ∷ []) → Holds file (k + 1) (m + 1) p r
+        at_end = on_end file records rows told k in-run h stepped seen l (t ∙ ap (λ b. b / 16) same) (ap not e)
 
 -- ---- how many events
 

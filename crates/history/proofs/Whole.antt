@@ -1,15 +1,19 @@
 -- The whole of History: what Run says of the file, and the report and the buffer at the end. Assumes nothing.
 use mathlib.Core.Path.{◌≡◌, refl, sym, ap, ◌∙◌}
 use mathlib.Core.Bool.{Bool, true, false}
-use mathlib.Core.List.{List, ◌∷◌, ◌++◌}
+use mathlib.Core.List.{List, [], ◌∷◌, ◌++◌}
 use Prim.Native.Nat.{ℕ, ◌+◌, ◌*◌, ◌/◌, ◌%◌, ◌≤◌}
 use native.Mathlib.Omega.{arith}
 use borrow.Author.Tests.{eqb-true, eq-eqb, ne_eqb}
 use lib.Dec.{eqb, ltb}
-use lib.ListN.{length, get_or, drop, length-append, get_or-append}
+use lib.ListN.{length, get_or, take, drop, length-append, get_or-append}
+use Rattle.std.specs.Simd.{first_chunks}
+use Rattle.std.proofs.lemmas.List.{length-take-le, get_or-take}
+use Rattle.schedule.specs.Records.{Pairs}
+use Rattle.schedule.proofs.Pairs.{chunk_byte}
 use Rattle.container.specs.Choice.{ite}
 use Rattle.buffer.specs.Page.{Page, page, put_all}
-use Rattle.buffer.proofs.Laws.{put_fits}
+use Rattle.buffer.proofs.Laws.{put_fits, joined}
 use Rattle.schedule.specs.Proper.{Plain}
 use Rattle.schedule.proofs.Laws.{plain, fault_file}
 use Rattle.definitions.specs.Schedule.{count_of, file_refusal}
@@ -21,7 +25,7 @@ use Rattle.definitions.specs.declared.Report.{Report}
 use Rattle.passing.proofs.RunPasses.{room_enough}
 use Rattle.run.proofs.Room.{has_room, by_none}
 use Rattle.history.specs.Ahead.{starts_to, Told}
-use Rattle.history.proofs.Turned.{rows_four}
+use Rattle.history.proofs.Turned.{rows_four, done_most}
 use Rattle.history.proofs.Loop.{count_all}
 
 -- ---- no refusal
@@ -64,23 +68,61 @@ module _ (file blank : List ℕ) (room : ℕ) {bad : ℕ} (e : bad ≡ written_r
   fine : run_refusal file (length blank) ≡ 0
   fine = run_sound file room (sym e ∙ z) (length blank) (omega (arith, sure.few, long))
 
-  pub told : {r : Report} {rows : List ℕ} → r ≡ run_report file (length blank) → rows ≡ run_buffer file blank → Told file r.records r.rows rows
-  told {r} {rows} p q =
+  records_few : {r : Report} {pairs : List (List ℕ)} → r ≡ run_report file (length blank) → Pairs file pairs → r.records ≤ length pairs
+  records_few p o = omega (arith, ap (λ (x : Report). x.records) (p ∙ report_is file blank fine), o.many, done_most file sure.version (count_of file))
+
+  pub records_fit : {r : Report} {pairs : List (List ℕ)} → r ≡ run_report file (length blank) → Pairs file pairs → r.records ≡ length (take r.records pairs)
+  records_fit {r} {pairs} p o = sym (length-take-le r.records pairs (records_few p o))
+
+  rows_room : {buffer : List ℕ} → buffer ≡ run_buffer file blank → 4 * (ended file).finished ≤ length buffer
+  rows_room q =
+      omega (arith, rows_four file sure.version (count_of file), ap length (q ∙ buffer_is file blank fine), length-append (ended file).rows (drop (length (ended file).rows) blank))
+
+  rows_few : {r : Report} {buffer : List ℕ} {n : ℕ} → r ≡ run_report file (length blank) → buffer ≡ run_buffer file blank → n ≡ length buffer / 4 → r.rows ≤ n
+  rows_few p q e = omega (arith, ap (λ (x : Report). x.rows) (p ∙ report_is file blank fine), rows_room q, e)
+
+  pub rows_fit : {r : Report} {buffer : List ℕ} (fours : List (List ℕ)) → r ≡ run_report file (length blank) → buffer ≡ run_buffer file blank → length fours ≡ length buffer / 4 → r.rows ≡ length (take r.rows fours)
+  rows_fit {r} {buffer} fours p q e = sym (length-take-le r.rows fours (rows_few p q e))
+
+  -- the records done and the rows, each cut out of what has more of them
+  pub told : {r : Report} {buffer : List ℕ} {pairs fours : List (List ℕ)} → r ≡ run_report file (length blank) → buffer ≡ run_buffer file blank → Pairs file pairs
+      → fours ≡ first_chunks 4 (length buffer / 4) buffer → length fours ≡ length buffer / 4 → Told file (take r.records pairs) (take r.rows fours)
+  told {r} {buffer} {pairs} {fours} p q o d e =
+      let records = take r.records pairs in
+      let rows = take r.rows fours in
       let w : r ≡ report_of (ended file) = p ∙ report_is file blank fine in
-      let v : rows ≡ (ended file).rows ++ drop (length (ended file).rows) blank = q ∙ buffer_is file blank fine in
+      let v : buffer ≡ (ended file).rows ++ drop (length (ended file).rows) blank = q ∙ buffer_is file blank fine in
+      let g : r.records ≡ (ended file).done = ap (λ (x : Report). x.records) w in
       let m : r.rows ≡ (ended file).finished = ap (λ (x : Report). x.rows) w in
+      let i : length records ≡ r.records = sym (records_fit p o) in
+      let j : length rows ≡ r.rows = sym (rows_fit fours p q e) in
+      let few : r.rows ≤ length buffer / 4 = rows_few p q refl in
+      let most : r.records ≤ length pairs = records_few p o in
       record {
         version = sure.version;
         few = sure.few;
         whole = sure.whole;
-        done = ap (λ (x : Report). x.records) w;
-        finished = m;
-        room = omega (arith, m, rows_four file sure.version (count_of file), ap length v, length-append (ended file).rows (drop (length (ended file).rows) blank));
-        rows = λ j h. ap (λ l. get_or l j 0) v ∙ get_or-append (ended file).rows (drop (length (ended file).rows) blank) 0 j (omega (arith, m, rows_four file sure.version (count_of file)));
+        done = i ∙ g;
+        finished = j ∙ m;
+        first = λ n h. ap (λ x. get_or x 0 0) (get_or-take r.records pairs n [] (omega (arith, i))) ∙ o.first n (omega (arith, i, most));
+        second = λ n h. ap (λ x. get_or x 1 0) (get_or-take r.records pairs n [] (omega (arith, i))) ∙ o.second n (omega (arith, i, most));
+        cells = λ n b h t.
+            ap (λ x. get_or x b 0) (get_or-take r.rows fours n [] (omega (arith, j))) ∙ ap (λ x. get_or (get_or x n []) b 0) d
+            ∙ chunk_byte 4 (length buffer / 4) n b buffer (omega (arith, j, few)) t ∙ ap (λ x. get_or x (4 * n + b) 0) v
+            ∙ get_or-append (ended file).rows (drop (length (ended file).rows) blank) 0 (4 * n + b) (omega (arith, j, m, rows_four file sure.version (count_of file)));
       }
 
   pub refusal_is : {r : Report} → r ≡ run_report file (length blank) → r.refusal ≡ (ended file).refusal
   refusal_is p = ap (λ (x : Report). x.refusal) (p ∙ report_is file blank fine)
+
+-- ---- the count in the header
+pub events_count : {file : List ℕ} {records rows : List (List ℕ)} {s f : ℕ} → Told file records rows → s ≡ starts_to file (length records) → f ≡ length rows → s + f ≡ length (run_events file)
+events_count {file} t c e = sym (count_all file t.version (count_of file) ∙ rw (← t.done, ← t.finished, c, e))
+
+pub written_put : {file : List ℕ} {records rows : List (List ℕ)} {s f : ℕ} → Told file records rows → s ≡ starts_to file (length records) → f ≡ length rows
+    → (p : Page) {q r : Page} → q ≡ put_all p (1 ∷ (s + f) / 256 ∷ (s + f) % 256 ∷ []) → r ≡ put_all q (bytes_of (run_events file)) → r ≡ put_all p (written file)
+unfolding written
+written_put {file} t c e p g h = joined p _ _ g h ∙ ap (λ n. put_all p (1 ∷ n / 256 ∷ n % 256 ∷ bytes_of (run_events file))) (events_count t c e)
 
 -- ---- the answer
 module _ (file first : List ℕ) {bad : ℕ} (e : bad ≡ written_refusal file (length first)) where
@@ -92,20 +134,12 @@ module _ (file first : List ℕ) {bad : ℕ} (e : bad ≡ written_refusal file (
   unfolding written_buffer ite
   refused_buffer z = rw (← e, ne_eqb _ _ z)
 
-  module _ (z : bad ≡ 0) {d f : ℕ} {rows : List ℕ} (t : Told file d f rows) {s : ℕ} (c : s ≡ starts_to file d) {r : Page}
-      (g : r ≡ put_all (page first 0) (1 ∷ (s + f) / 256 ∷ (s + f) % 256 ∷ bytes_of (run_events file))) where
-    events_count : s + f ≡ length (run_events file)
-    events_count = sym (count_all file t.version (count_of file) ∙ rw (← t.done, ← t.finished, c))
-
-    all_put : r ≡ put_all (page first 0) (written file)
-    unfolding written
-    all_put = g ∙ rw events_count
-
+  module _ (z : bad ≡ 0) {r : Page} (g : r ≡ put_all (page first 0) (written file)) where
     fits : length (written file) ≤ length first
     fits = omega (arith, room_enough (count_of file) file refl, room_for file (length first) (sym e ∙ z))
 
     stands : r ≡ page (overlay (written file) first) (length (written file))
-    stands = all_put ∙ put_fits (written file) first fits
+    stands = g ∙ put_fits (written file) first fits
 
     pub ended_report : {k : ℕ} → k ≡ (ended file).refusal → record { refusal = k; length = r.at } ≡ written_report file (length first)
     unfolding written_report ite

@@ -1,9 +1,9 @@
 -- What a version 1 schedule alone says of its records, for the records that Run carried out: how many start an operation, and whether a
 -- thread's next record is a step.
-use Rattle.std.specs.Prelude.{ℕ, zero, suc, ◌+◌, ◌*◌, ◌/◌, ◌%◌, ◌≤◌, ◌≡◌, Bool, false, List, eqb, length, get_or}
+use Rattle.std.specs.Prelude.{ℕ, zero, suc, ◌+◌, ◌*◌, ◌/◌, ◌%◌, ◌≤◌, ◌<◌, ◌≡◌, Bool, false, List, [], eqb, length, get_or}
 use Rattle.container.specs.Choice.{ite}
 use Rattle.definitions.specs.Schedule.{count_of}
-use Rattle.definitions.specs.Merge.{first_byte}
+use Rattle.definitions.specs.Merge.{first_byte, second_byte}
 use Rattle.definitions.specs.Run.{ended}
 
 -- 1 for the first byte of a start, 0 for a step's
@@ -20,12 +20,13 @@ unfoldable pub ahead : List ℕ → ℕ → ℕ → ℕ → Bool
 ahead file k zero t = false
 ahead file k (suc j) t = ite (eqb (first_byte file k / 16) t) (eqb (first_byte file k % 16) 0) (ahead file (suc k) j t)
 
--- what Run handed back for the version 1 file: records done, rows, and a buffer that begins with the rows
-pub record Told (file : List ℕ) (d f : ℕ) (buffer : List ℕ) : Type 0 where
+-- what Run handed back for the version 1 file: the records done, two bytes each, and the rows, four bytes each
+pub record Told (file : List ℕ) (records rows : List (List ℕ)) : Type 0 where
   pub version : get_or file 0 0 ≡ 1
   pub few : count_of file ≤ 4096
   pub whole : length file ≡ 3 + 2 * count_of file
-  pub done : d ≡ (ended file).done
-  pub finished : f ≡ (ended file).finished
-  pub room : 4 * f ≤ length buffer
-  pub rows : (j : ℕ) → 1 + j ≤ 4 * f → get_or buffer j 0 ≡ get_or (ended file).rows j 0
+  pub done : length records ≡ (ended file).done
+  pub finished : length rows ≡ (ended file).finished
+  pub first : (k : ℕ) → k < length records → get_or (get_or records k []) 0 0 ≡ first_byte file k
+  pub second : (k : ℕ) → k < length records → get_or (get_or records k []) 1 0 ≡ second_byte file k
+  pub cells : (m b : ℕ) → m < length rows → b < 4 → get_or (get_or rows m []) b 0 ≡ get_or (ended file).rows (4 * m + b) 0

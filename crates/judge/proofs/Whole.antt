@@ -1,32 +1,34 @@
 -- The whole file: its form, all its events, and the report. Assumes nothing.
 use mathlib.Core.Logic.{inl, inr}
 use Rattle.std.proofs.lemmas.Bool.{cases_Bool}
-use Rattle.std.specs.Prelude.{◌↔◌, Option, Some, None, is_some, IsSome, IsTrue, Result, Ok, Err, IsErrAnd, IfErr}
+use Rattle.std.specs.Prelude.{◌↔◌, Option, Some, None, is_some, IsSome, IfSome, IsNone, IsTrue, Result, Ok, Err, IsErrAnd, IfErr}
 use Rattle.std.proofs.Math.Bool.{or-true, and-false}
-use Rattle.std.proofs.lemmas.List.{get_or_default, get_or-replicate}
+use Rattle.std.proofs.lemmas.List.{get_or_default, get_or-replicate, get_or-take, get_or-drop, length-drop, take_all}
+use Rattle.std.specs.Option.{unwrap_or}
 use Rattle.std.specs.List.{Any}
+use Rattle.std.specs.Simd.{first_chunks}
 use mathlib.Core.Path.{◌≡◌, refl, sym, ◌∙◌, ap, subst, fun_ext}
 use mathlib.Core.Logic.{◌≢◌}
 use mathlib.Core.Bool.{Bool, true, false, ◌&&◌, ◌||◌, true≢false}
 use mathlib.Core.List.{List, [], ◌∷◌}
-use Prim.Native.Nat.{ℕ, zero, suc, ◌+◌, ◌-◌, ◌*◌, ◌<◌, ◌≤◌}
+use Prim.Native.Nat.{ℕ, zero, suc, ◌+◌, ◌-◌, ◌*◌, ◌/◌, ◌<◌, ◌≤◌}
 use native.Mathlib.Omega.{arith}
 use native.Mathlib.Numerals.{add-one}
 use native.Mathlib.Decide.{dec_lt}
 use lib.Dec.{ltb}
 use lib.Pow.{pow_pos}
-use lib.ListN.{get_or, length, replicate}
+use lib.ListN.{get_or, length, replicate, take, drop}
 use borrow.Author.Tests.{eq-eqb, ne_eqb, lt-ltb, le-ltb}
 use Rattle.container.specs.Choice.{ite}
 use Rattle.container.proofs.Laws.{has_none}
 use Rattle.definitions.specs.Schedule.{count_of}
 use Rattle.definitions.specs.History.{Event, Events, events_of, Operation, Operations, operations, Reading, unread, noted, is_open, in_range, in_place, reading, reading_of, all_in_place, unfinished, form_refusal, events_refusal, history_refusal}
-use Rattle.definitions.specs.Judgement.{Order, Refused, Decided, Judgement}
-use Rattle.judge.specs.Search.{held_op, held_of, blank, Rest, Best, Entry, dead, alive, Filled, refusal_of}
-use Rattle.judge.specs.Standing.{SlotOf, Proper, Stands}
+use Rattle.definitions.specs.Judgement.{Order, FirstOrder, padded, Verdict, accepts, rejects, Refused, Decided, JudgementBy, Judgement}
+use Rattle.judge.specs.Search.{held_op, held_of, blank, Rest, Best, Entry, dead, alive, Filled}
+use Rattle.judge.specs.Standing.{event, SlotOf, Proper, Stands}
 use Rattle.definitions.specs.declared.Judged.{Judged}
-use Rattle.judge.specs.declared.Refusal.{Refusal}
-use Rattle.judge.specs.declared.Refusal.TheVariants.{Short, Version, Length, OutOfPlace, TooMany, Unfinished}
+use Rattle.definitions.specs.Refusal.{refusal_number}
+use Rattle.definitions.specs.declared.Refusal.{Refusal}
 use Rattle.judge.specs.declared.Next.{Next}
 use Rattle.judge.specs.declared.Next.TheVariants.{Dead, Done, Go}
 use Rattle.judge.specs.declared.Open.{Open}
@@ -92,6 +94,22 @@ pub out_of_range : (e : Event) (R : Reading) → in_range e ≡ false → in_pla
 unfolding in_place
 out_of_range e R h = rw h
 
+-- ---- an event is a chunk of four bytes after the header
+chunk_at : (n k : ℕ) (xs d : List ℕ) (j : ℕ) → k < n → j < 4 → get_or (get_or (first_chunks 4 n xs) k d) j 0 ≡ get_or xs (4 * k + j) 0
+chunk_at zero k xs d j h l = absurd (omega arith)
+chunk_at (suc n) zero xs d j h l = get_or-take 4 xs j 0 l ∙ ap (λ i. get_or xs i 0) (omega arith)
+chunk_at (suc n) (suc k) xs d j h l = chunk_at n k (drop 4 xs) d j (omega arith) l ∙ get_or-drop 4 xs (4 * k + j) 0 ∙ ap (λ i. get_or xs i 0) (omega arith)
+
+pub event_at : (file d : List ℕ) (es : List (List ℕ)) (n k : ℕ) → es ≡ first_chunks 4 n (drop 3 file) → k < n → let b = get_or es k d in event (get_or b 0 0) (get_or b 1 0) (get_or b 2 0) (get_or b 3 0) ≡ events_of file k
+event_at file d es n k e h = rw e (rw (byte 0 (omega arith), byte 1 (omega arith), byte 2 (omega arith), byte 3 (omega arith)) refl)
+  where
+    byte : (j : ℕ) → j < 4 → get_or (get_or (first_chunks 4 n (drop 3 file)) k d) j 0 ≡ get_or file (3 + j + 4 * k) 0
+    byte j l = chunk_at n k (drop 3 file) d j h l ∙ get_or-drop 3 file (4 * k + j) 0 ∙ ap (λ i. get_or file i 0) (omega arith)
+
+-- the chunks of what stands after the header
+pub chunks_of : (file rest : List ℕ) (es : List (List ℕ)) (n : ℕ) → rest ≡ take (length file - 3) (drop 3 file) → length rest ≡ 4 * n → es ≡ first_chunks 4 (length rest / 4) rest → length es ≡ length rest / 4 → (length es ≡ n) × (es ≡ first_chunks 4 n (drop 3 file))
+chunks_of file rest es n r l e k = let m : length rest / 4 ≡ n = omega arith in (k ∙ m, e ∙ rw (m, r ∙ take_all (length file - 3) (drop 3 file) (omega (arith, length-drop 3 file))) refl)
+
 -- ---- is_open
 open_slot : (f : ℕ → Operation) (k : Option ℕ) (o : Option Open) → SlotOf f k o → is_open k ≡ is_some o
 open_slot f None None e = refl
@@ -144,18 +162,13 @@ module _ (file : List ℕ) where
   form_right h k m = simp (le-ltb _ _ h, eq-eqb _ _ k, eq-eqb _ _ m)
 
 -- ---- the refusal
+refused_number : (w : Refusal) → refusal_number w ≢ 0
+refused_number = grind arith
+
 module _ (file : List ℕ) where
-  pub refusal_form : (why : Refusal) → form_refusal file ≡ refusal_of why → history_refusal file ≡ refusal_of why
+  pub refusal_form : (why : Refusal) → form_refusal file ≡ refusal_number why → history_refusal file ≡ refusal_number why
   unfolding history_refusal ite
-  refusal_form why e = rw (ne_eqb (form_refusal file) 0 (λ z. some why (sym e ∙ z))) e
-    where
-      some : (w : Refusal) → refusal_of w ≢ 0
-      some Short z = omega (arith, z)
-      some Version z = omega (arith, z)
-      some Length z = omega (arith, z)
-      some OutOfPlace z = omega (arith, z)
-      some TooMany z = omega (arith, z)
-      some Unfinished z = omega (arith, z)
+  refusal_form why e = rw (ne_eqb (form_refusal file) 0 (λ z. refused_number why (sym e ∙ z))) e
 
   module _ (z : form_refusal file ≡ 0) where
     pub refusal_place : all_in_place (events_of file) (count_of file) ≡ false → history_refusal file ≡ 21
@@ -196,6 +209,11 @@ module _ (R : Operations) (table : List Next) (filled : Filled R table 0) where
       go (dead _ v) = absurd (z v)
       go (alive l b _) = (l, b)
 
+-- the report on the first order, or on the lack of one
+pub decided : (R : Operations) (first : Option (List ℕ)) (r : Judged) → IfSome first (λ order. (l : List ℕ) × FirstOrder R l × (order ≡ padded l)) → (IsNone first → (l : List ℕ) → Order R l → ⊥) → r.accepted ≡ is_some first → r.order ≡ unwrap_or first (padded []) → Verdict R r
+decided R None r some none a o = rejects (none refl) a o
+decided R (Some order) r (l, first, is) none a o = accepts l first a (o ∙ is)
+
 -- ---- what the code holds at the end
 module _ (n : Noted) (R : Reading) (st : Stands n R) (few : R.all.count ≤ 12) where
   same_op : (i : ℕ) → held_op n.count n.ops i ≡ R.all.operation i
@@ -208,19 +226,18 @@ module _ (n : Noted) (R : Reading) (st : Stands n R) (few : R.all.count ≤ 12) 
   same_ops = ap (λ f. operations n.count f) (fun_ext same_op) ∙ ap (λ c. operations c R.all.operation) st.count
 
 -- ---- a refusal that `?` hands on
-pub passed : {T : Type 0} (r : Result T Refusal) (e : Refusal) {k : ℕ} → IsErrAnd r (λ why. why ≡ e) → k ≡ refusal_of e → IfErr r (λ why. k ≡ refusal_of why)
+pub passed : {T : Type 0} (r : Result T Refusal) (e : Refusal) {k : ℕ} → IsErrAnd r (λ why. why ≡ e) → k ≡ refusal_number e → IfErr r (λ why. k ≡ refusal_number why)
 passed (Ok v) e h q = tt
-passed (Err w) e h q = q ∙ ap refusal_of (sym h)
+passed (Err w) e h q = q ∙ ap refusal_number (sym h)
 
 -- ---- the report
 module _ (file : List ℕ) (r : Judged) where
-  pub report_refused : (why : Refusal) → history_refusal file ≡ refusal_of why → Refused (refusal_of why) r → Judgement file r
-  report_refused Short e x = rw e x
-  report_refused Version e x = rw e x
-  report_refused Length e x = rw e x
-  report_refused OutOfPlace e x = rw e x
-  report_refused TooMany e x = rw e x
-  report_refused Unfinished e x = rw e x
+  report_by : (n : ℕ) → n ≢ 0 → Refused n r → JudgementBy n file r
+  report_by zero h x = absurd (h refl)
+  report_by (suc n) h x = x
+
+  pub report_refused : (why : Refusal) → history_refusal file ≡ refusal_number why → Refused (refusal_number why) r → Judgement file r
+  report_refused why e x = rw e (report_by (refusal_number why) (refused_number why) x)
 
   pub report_decided : {R : Operations} → history_refusal file ≡ 0 → R ≡ (reading_of file).all → Decided R r → Judgement file r
   report_decided z e x = rw (z, ← e) x

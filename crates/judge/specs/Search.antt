@@ -12,8 +12,8 @@ use Rattle.judge.specs.declared.Mark.TheVariants.{Start, Finish}
 use Rattle.judge.specs.declared.Op.{Op}
 use Rattle.judge.specs.declared.Next.{Next}
 use Rattle.judge.specs.declared.Next.TheVariants.{Done, Dead, Go}
-use Rattle.judge.specs.declared.Refusal.{Refusal}
-use Rattle.judge.specs.declared.Refusal.TheVariants.{Short, Version, Length, OutOfPlace, TooMany, Unfinished}
+use Rattle.definitions.specs.declared.Refusal.{Refusal}
+use Rattle.definitions.specs.declared.Refusal.TheVariants.{Event}
 
 -- ---- the plain set after the operations of a mask: it is fixed by the mask alone
 
@@ -111,15 +111,6 @@ held_of n ops = operations n (held_op n ops)
 abbrev pub Stations : Operations → Type 0
 Stations R = (i : ℕ) → i < R.count → (R.operation i).station < 64
 
--- ---- the numbers of the refusals
-abbrev pub refusal_of : Refusal → ℕ
-refusal_of Short = 1
-refusal_of Version = 2
-refusal_of Length = 4
-refusal_of OutOfPlace = 21
-refusal_of TooMany = 22
-refusal_of Unfinished = 23
-
 -- ---- bytes of a history
 
 -- a mark by its number in a history
@@ -128,7 +119,7 @@ mark_of Start = 0
 mark_of (Finish y) = cond y 2 1
 
 abbrev pub ReadsAsked : ℕ → Result Asked Refusal → Type 0
-ReadsAsked n r = MatchResult r (λ a. number_of a ≡ n) (λ why. ((0 < n) × (n < 4) → ⊥) × (why ≡ OutOfPlace))
+ReadsAsked n r = MatchResult r (λ a. number_of a ≡ n) (λ why. ((0 < n) × (n < 4) → ⊥) × (why ≡ Event))
 
 abbrev pub ReadsMark : ℕ → Result Mark Refusal → Type 0
-ReadsMark n r = MatchResult r (λ m. mark_of m ≡ n) (λ why. (3 ≤ n) × (why ≡ OutOfPlace))
+ReadsMark n r = MatchResult r (λ m. mark_of m ≡ n) (λ why. (3 ≤ n) × (why ≡ Event))

@@ -4,8 +4,8 @@ use Rattle.container.specs.Container.{has}
 use Rattle.definitions.specs.History.{Event, Operation, Operations, Reading, no_operation, in_range}
 use Rattle.judge.specs.Search.{held_op, held_of, number_of, mark_of}
 use Rattle.judge.specs.declared.Work.{Work}
-use Rattle.judge.specs.declared.Refusal.{Refusal}
-use Rattle.judge.specs.declared.Refusal.TheVariants.{OutOfPlace}
+use Rattle.definitions.specs.declared.Refusal.{Refusal}
+use Rattle.definitions.specs.declared.Refusal.TheVariants as refusal
 use Rattle.judge.specs.declared.Open.{Open}
 use Rattle.judge.specs.declared.Noted.{Noted}
 use Rattle.judge.specs.declared as code
@@ -21,7 +21,7 @@ event_of e = event e.thread (number_of e.asked) e.station (mark_of e.mark)
 
 -- r is the event of four bytes, where each is in its range
 abbrev pub Reads : List ℕ → Result code.Event.Event Refusal → Type 0
-Reads bytes r = let e = event (get_or bytes 0 0) (get_or bytes 1 0) (get_or bytes 2 0) (get_or bytes 3 0) in MatchResult r (λ v. event_of v ≡ e) (λ why. (in_range e ≡ false) × (why ≡ OutOfPlace))
+Reads bytes r = let e = event (get_or bytes 0 0) (get_or bytes 1 0) (get_or bytes 2 0) (get_or bytes 3 0) in MatchResult r (λ v. event_of v ≡ e) (λ why. (in_range e ≡ false) × (why ≡ refusal.Event))
 
 -- a thread's slot
 abbrev pub SlotOf : (ℕ → Operation) → Option ℕ → Option Open → Type 0

@@ -1,19 +1,21 @@
 // Judge: whether a history of lookups, inserts and removes can be put in an order that a plain set answers alike.
 #![tactic(auto)]
 
-ghost use Rattle.std.specs.Prelude.{◌≡◌, ◌↔◌, Bool, true, false, ◌&&◌, List, ◌∷◌, ℕ, suc, ◌+◌, ◌*◌, ◌<◌, ◌≤◌, ◌^◌, eqb, length, IsTrue, IfSome, IsSome, IsNone, IfOk, IfErr, MatchResult};
+ghost use Rattle.std.specs.Prelude.{◌≡◌, ◌↔◌, Bool, true, false, ◌&&◌, List, ◌∷◌, ℕ, suc, ◌+◌, ◌*◌, ◌<◌, ◌≤◌, ◌^◌, eqb, length, drop, IsTrue, IfSome, IsSome, IsNone, IfOk, IfErr, MatchResult};
 ghost use Rattle.std.specs.List.{Any};
+ghost use Rattle.std.specs.Simd.{first_chunks};
 ghost use Rattle.container.specs.Container.{has, insert};
 ghost use Rattle.definitions.specs.Schedule.{count_of};
+ghost use Rattle.definitions.specs.Refusal.{refusal_number};
 ghost use Rattle.definitions.specs.History.{Reading, unread, begun, ended_by, noted, in_place, events_of, reading, reading_of, all_in_place, unfinished, form_refusal, history_refusal};
-ghost use Rattle.definitions.specs.Judgement.{action_of, reply, padded, FirstOrder, Order, Refused, Decided, Judgement};
-ghost use Rattle.judge.specs.Search.{flip, changes, turns, state, Fitting, Before, Rest, Best, Sound, Down, Entry, Filled, number_of, mark_of, operation_of, held_of, Stations, refusal_of, ReadsAsked, ReadsMark};
+ghost use Rattle.definitions.specs.Judgement.{action_of, reply, padded, FirstOrder, Order, Decided, Judgement};
+ghost use Rattle.judge.specs.Search.{flip, changes, turns, state, Fitting, Before, Rest, Best, Sound, Down, Entry, Filled, number_of, mark_of, operation_of, held_of, Stations, ReadsAsked, ReadsMark};
 
-use definitions::Judged;
+use definitions::{Judged, Refusal};
 
 // ---- the operations
 
-// What an operation asks.
+// What an operation asks. Not `Action`: a history has no split, join or query, and a match over it would have three more arms with no meaning.
 #[derive(Clone, Copy, PartialEq, Eq)]
 pub enum Asked {
     Lookup,
@@ -32,12 +34,14 @@ impl TryFrom<u8> for Asked {
             1 => Ok(Asked::Lookup),
             2 => Ok(Asked::Insert),
             3 => Ok(Asked::Remove),
-            _ => Err(Refusal::OutOfPlace),
+            _ => Err(Refusal::Event),
         }
     }
 }
 
-// An operation: what it asks at which station, whether the answer is yes, and a mask of those that had finished when it started.
+// An operation: what it asks at which station, whether the answer is yes, and a mask of those that had finished when it started. `Event` and
+// `Open` have what is asked and the station too: three things, each with fields of its own. A struct of the two would be opened where one of
+// them is read, and be no plainer.
 #[derive(Clone, Copy)]
 pub struct Op {
     pub asked: Asked,
@@ -95,7 +99,8 @@ pub enum Next {
     Go(u8),
 }
 
-// The operations of a history, at most twelve of them.
+// The operations of a history: `count` of them, at most twelve. The arrays of this struct, of `Masks` and of `Noted`, and the order of `trace`,
+// are fixed memory, for there is no heap; so a count stands beside.
 #[derive(Clone, Copy)]
 pub struct Work {
     pub count: usize,
@@ -107,7 +112,8 @@ pub struct Work {
 impl Work {
     ghost use Rattle.judge.specs.Standing.{held};
 
-    // The plain set after the operations of a mask.
+    // The plain set after the operations of a mask. By number, for that is an operation's bit in the mask: `enumerate` would count what the range
+    // counts.
     fn state(&self, mask: u64) -> u64
         ensures { (x : ℕ) → has result x ≡ state (held self.now) mask x }
     {
@@ -121,7 +127,7 @@ impl Work {
     }
 
     // Whether a mask has with each operation those that had finished when it started. The last operations, which have most of those,
-    // come first.
+    // come first. Tried with `all` over the same range: its proof did not close, for std's lemmas on `all` have no range in reverse.
     fn is_down(&self, mask: u64) -> bool
         ensures { IsTrue result ↔ Down (held self.now) mask }
     {
@@ -155,30 +161,23 @@ impl Work {
     fn decide(&self) -> Judged
         ensures { Decided (held self.now) result }
     {
-        match self.order() {
-            Some(order) => Judged {
-                refusal: 0,
-                accepted: true,
-                operations: self.count as u64,
-                order,
-            },
-            None => Judged {
-                refusal: 0,
-                accepted: false,
-                operations: self.count as u64,
-                order: [0; 12],
-            },
+        let order = self.order();
+        Judged {
+            refusal: 0,
+            accepted: order.is_some(),
+            operations: self.count as u64,
+            order: order.unwrap_or([0; 12]),
         }
     }
 
     // The operations of a history that is not refused.
     fn read(history: &[u8]) -> Result<Work, Refusal>
         ensures ok { IfOk result (λ w. (history_refusal history.now ≡ 0) × (held w ≡ (reading_of history.now).all)) }
-        ensures err { IfErr result (λ why. history_refusal history.now ≡ refusal_of why) }
+        ensures err { IfErr result (λ why. history_refusal history.now ≡ refusal_number why) }
     {
         let noted = Noted::read(history)?;
         if 12 < noted.count {
-            return Err(Refusal::TooMany);
+            return Err(Refusal::Operations);
         }
         if noted.is_open() {
             return Err(Refusal::Unfinished);
@@ -221,7 +220,8 @@ impl Masks {
         op.fits(self.work.state(mask))
     }
 
-    // The entry of a mask.
+    // The entry of a mask. One loop tells the first operation that can come next and whether any is left; `find` would tell the first alone, and the
+    // rest take a second search.
     fn choose(&self, mask: u64) -> Next
         requires low { mask < 2 ^ self.now.work.count }
         requires down { Down (held self.now.work) mask }
@@ -274,35 +274,7 @@ impl Masks {
 
 // ---- what the events say
 
-// Why a history is refused: it is under three bytes, of another version or of another length than it states; an event is out of
-// place; it has over twelve operations, or an unfinished one.
-#[derive(Clone, Copy, PartialEq, Eq)]
-pub enum Refusal {
-    Short,
-    Version,
-    Length,
-    OutOfPlace,
-    TooMany,
-    Unfinished,
-}
-
-// The number in a report.
-impl From<Refusal> for u64 {
-    ghost from_gives = { λ why n. n ≡ refusal_of why };
-
-    fn from(why: Refusal) -> u64 {
-        match why {
-            Refusal::Short => 1,
-            Refusal::Version => 2,
-            Refusal::Length => 4,
-            Refusal::OutOfPlace => 21,
-            Refusal::TooMany => 22,
-            Refusal::Unfinished => 23,
-        }
-    }
-}
-
-// A start, or a finish with its answer.
+// A start, or a finish with its answer. No Option: a start is an event of its own, and not the lack of an answer.
 #[derive(Clone, Copy)]
 pub enum Mark {
     Start,
@@ -320,7 +292,7 @@ impl TryFrom<u8> for Mark {
             0 => Ok(Mark::Start),
             1 => Ok(Mark::Finish(false)),
             2 => Ok(Mark::Finish(true)),
-            _ => Err(Refusal::OutOfPlace),
+            _ => Err(Refusal::Event),
         }
     }
 }
@@ -354,7 +326,7 @@ impl TryFrom<[u8; 4]> for Event {
                 mark: Mark::try_from(mark)?,
             })
         } else {
-            Err(Refusal::OutOfPlace)
+            Err(Refusal::Event)
         }
     }
 }
@@ -389,7 +361,7 @@ pub struct Noted {
 impl Noted {
     ghost use Rattle.judge.specs.Standing.{event_of, SlotsOf, Stands};
 
-    // Before the first event.
+    // Before the first event. `blank` fills places that no operation has; no Default, for none of the three that an operation asks is one.
     #[tactic(auto, using(crate::proofs::Whole::unread_stands))]
     fn new() -> Noted
         ensures count { result.count ≡ 0 }
@@ -448,12 +420,12 @@ impl Noted {
     fn note(&mut self, e: Event) -> Result<(), Refusal>
         requires { self.old.count < 65536 }
         ensures count { self.new.count ≤ self.old.count + 1 }
-        ensures stands { (R : Reading) → Stands self.old R → MatchResult result (λ _. (in_place (event_of e) R ≡ true) × Stands self.new (noted (event_of e) R)) (λ why. (in_place (event_of e) R ≡ false) × (why ≡ Refusal.OutOfPlace)) }
+        ensures stands { (R : Reading) → Stands self.old R → MatchResult result (λ _. (in_place (event_of e) R ≡ true) × Stands self.new (noted (event_of e) R)) (λ why. (in_place (event_of e) R ≡ false) × (why ≡ Refusal.Event)) }
     {
         match (e.mark, self.slots[e.thread as usize]) {
             (Mark::Start, None) => self.start(e),
             (Mark::Finish(yes), Some(open)) if open.is_of(e) => self.finish(e, open.number, yes),
-            _ => return Err(Refusal::OutOfPlace),
+            _ => return Err(Refusal::Event),
         }
         Ok(())
     }
@@ -461,18 +433,14 @@ impl Noted {
     // All events of a history, where its form is right and each is in place.
     fn read(history: &[u8]) -> Result<Noted, Refusal>
         ensures ok { IfOk result (λ n. (form_refusal history.now ≡ 0) × ((all_in_place (events_of history.now) (count_of history.now) ≡ true) × Stands n (reading_of history.now))) }
-        ensures err { IfErr result (λ why. history_refusal history.now ≡ refusal_of why) }
+        ensures err { IfErr result (λ why. history_refusal history.now ≡ refusal_number why) }
     {
-        let count = count_in(history)?;
+        let events = events_in(history)?;
         let mut noted = Noted::new();
-        for k in 0..count {
-            let e = Event::try_from([
-                history[3 + 4 * k],
-                history[4 + 4 * k],
-                history[5 + 4 * k],
-                history[6 + 4 * k],
-            ])?;
-            noted.note(e)?;
+        // Byte by byte: with the four taken as one array a history of 65,534 events takes 317 µs, and so 213; a long history is to take no
+        // more than at the start ("Speed" in docs/DESIGN-PASS.md).
+        for &[thread, action, station, mark] in events {
+            noted.note(Event::try_from([thread, action, station, mark])?)?;
         }
         Ok(noted)
     }
@@ -487,38 +455,26 @@ impl Noted {
 
 // ---- the file
 
-// How many events the header states, where the form is right.
+// The events, as many as the header states, where the form is right.
 #[tactic(auto, using(crate::proofs::Whole::form_short, crate::proofs::Whole::form_version, crate::proofs::Whole::form_length, crate::proofs::Whole::form_right), unfolding(definitions::specs::Schedule::count_of))]
-fn count_in(history: &[u8]) -> Result<usize, Refusal>
-    ensures ok { IfOk result (λ n. (form_refusal history.now ≡ 0) × ((n ≡ count_of history.now) × ((n < 65536) × (length history.now ≡ 3 + 4 * n)))) }
-    ensures err { IfErr result (λ why. (form_refusal history.now ≡ refusal_of why)) }
+fn events_in(history: &[u8]) -> Result<&[[u8; 4]], Refusal>
+    ensures ok { IfOk result (λ events. (form_refusal history.now ≡ 0) × (count_of history.now < 65536) × (length events.now ≡ count_of history.now) × (events.now ≡ first_chunks 4 (count_of history.now) (drop 3 history.now))) }
+    ensures err { IfErr result (λ why. form_refusal history.now ≡ refusal_number why) }
 {
-    if history.len() < 3 {
-        return Err(Refusal::Short);
-    }
-    if history[0] != 1 {
+    let [version, high, low, events @ ..] = history else {
+        return Err(Refusal::ShortFile);
+    };
+    if *version != 1 {
         return Err(Refusal::Version);
     }
-    let count = usize::from(u16::from_be_bytes([history[1], history[2]]));
-    if history.len() != 3 + 4 * count {
+    let count = usize::from(u16::from_be_bytes([*high, *low]));
+    if events.len() != 4 * count {
         return Err(Refusal::Length);
     }
-    Ok(count)
+    Ok(events.as_chunks().0)
 }
 
 // ---- Judge
-
-// A refusal.
-fn refused(why: Refusal) -> Judged
-    ensures { Refused (refusal_of why) result }
-{
-    Judged {
-        refusal: u64::from(why),
-        accepted: false,
-        operations: 0,
-        order: [0; 12],
-    }
-}
 
 // Judge: the report on every file.
 pub fn judge(history: &[u8]) -> Judged
@@ -526,6 +482,6 @@ pub fn judge(history: &[u8]) -> Judged
 {
     match Work::read(history) {
         Ok(work) => work.decide(),
-        Err(why) => refused(why),
+        Err(why) => Judged::from(why),
     }
 }

@@ -1,5 +1,5 @@
 -- The cases of List: its refusals, and the text where the run has ended. Assumes nothing.
-use mathlib.Core.Path.{◌≡◌, sym, ap, ◌∙◌}
+use mathlib.Core.Path.{◌≡◌, refl, sym, ap, ◌∙◌}
 use mathlib.Core.Bool.{Bool, true, false}
 use mathlib.Core.List.{List, ◌++◌}
 use Prim.Native.Nat.{ℕ, ◌≤◌, ◌<◌}
@@ -27,16 +27,6 @@ use Rattle.listing.proofs.Texts.{written}
 use Rattle.run.specs.Standing.{Carried}
 use Rattle.run.specs.declared.Standing.{Standing}
 use Rattle.run.proofs.Room.{by_file, by_room, by_none, has_room}
-
--- ---- the room that version v asks for
-
-pub room_narrow : (v : ℕ) → v ≡ 1 → ◌≡◌ {A = ℕ} 4096 (ite (eqb v 1) 4096 8192)
-unfolding ite
-room_narrow v e = rw e
-
-pub room_wide : (v : ℕ) → (v ≡ 1 → ⊥) → ◌≡◌ {A = ℕ} 8192 (ite (eqb v 1) 4096 8192)
-unfolding ite
-room_wide v e = rw (ne_eqb _ _ e)
 
 -- ---- the refusal of a file and a text buffer
 module _ (file : List ℕ) (room : ℕ) {bad : ℕ} (e : bad ≡ file_refusal file) where
@@ -80,9 +70,9 @@ module _ (file text : List ℕ) {t : Shapes} {l : List ℕ} {k : Stores} {s : St
 
 -- ---- the answer
 module _ (file text : List ℕ) {bad : ℕ} (e : bad ≡ list_refusal file (length text)) where
-  pub refused_report_lem : (bad ≡ 0 → ⊥) → record { refusal = bad; length = 0 } ≡ list_report file (length text)
+  pub refused_report_lem : {r : Listed} → (bad ≡ 0 → ⊥) → r.refusal ≡ bad → r.length ≡ 0 → r ≡ list_report file (length text)
   unfolding list_report ite
-  refused_report_lem z = rw (← e, ne_eqb _ _ z)
+  refused_report_lem z p q = rw (← e, ne_eqb _ _ z) (rw (← p, ← q) refl)
 
   pub refused_buffer : (bad ≡ 0 → ⊥) → text ≡ list_buffer file text
   unfolding list_buffer ite

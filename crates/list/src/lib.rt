@@ -9,17 +9,20 @@ ghost use Rattle.definitions.specs.Refusal.{code_of};
 ghost use Rattle.definitions.specs.Run.{ended, overlay};
 ghost use Rattle.definitions.specs.Listing.{listing, listed_at, list_refusal, list_report, list_buffer};
 
-use definitions::{Listed, Refusal};
+use definitions::{Listed, Refusal, Version};
 use frames::frame::Frame;
 
-// The bytes of a text buffer that List asks for in version v.
-pub fn room_for(v: u8) -> usize
+// The bytes of a text buffer that List asks for in version v. Run asks for other sizes: one function of the version and two sizes
+// would be the `if` itself.
+#[tactic(auto, unfolding(container::specs::Choice::ite))]
+pub fn room_for(v: Version) -> usize
     ensures { result ≡ ite (eqb v 1) 4096 8192 }
 {
     if v == 1 { 4096 } else { 8192 }
 }
 
-// Whether List can be asked of a file and a text buffer of `room` bytes.
+// Whether List can be asked of a file and a text buffer of `room` bytes. Run, State and History have a `check` each: the sizes
+// differ, and the refusals too but for Run's and History's; one for all would take both, and be the `if` itself.
 pub fn check(schedule: &[u8], room: usize) -> Result<(), Refusal>
     ensures refusal { code_of result ≡ list_refusal schedule.now room }
     ensures proper { OnOk result (Proper schedule.now) }
@@ -31,7 +34,10 @@ pub fn check(schedule: &[u8], room: usize) -> Result<(), Refusal>
     Ok(())
 }
 
-// List of a file that is not refused, with so many depths, results of stores, and frames. Each instance has a stack frame of its own, as Run's.
+// List of a file that is not refused, with so many depths, results of stores, and frames. Each instance has a stack frame of its own, as Run's,
+// and asks of the file and of the sizes what Run's does, for `run::carry_out`.
+// Run and State have a `report` each, and share `run::carry_out`: one report for all would have to be handed what to make of the end, as
+// a closure over the memory that is lent here, and be no plainer.
 #[inline(never)]
 fn report<const DEPTHS: usize, const RESULTS: usize, const FRAMES: usize>(
     schedule: &[u8],
@@ -67,10 +73,7 @@ pub fn list(schedule: &[u8], text: &mut [u8]) -> Listed
     ensures { (result ≡ list_report schedule.now (length text.old)) × (text.new ≡ list_buffer schedule.now text.old) }
 {
     if let Err(r) = check(schedule, text.len()) {
-        return Listed {
-            refusal: u64::from(r),
-            length: 0,
-        };
+        return Listed::from(r);
     }
     if schedule[0] == 1 {
         report::<0, 0, 0>(schedule, text)

@@ -12,9 +12,9 @@ ghost use Rattle.definitions.specs.Listing.{space, decimal, kind_word, stations_
 ghost use Rattle.listing.specs.Texts.{headed, shown, station_part, plain_route};
 
 use buffer::Page;
-use definitions::{Kind, Node, Nodes};
+use definitions::{Kind, Node, Nodes, Version};
 
-// The word for a kind.
+// The word for a kind. By a match, with no Display, as buffer's `put_decimal`, which says why.
 pub fn put_kind(out: &mut Page, kind: Kind)
     ensures { Writes out.old out.new (kind_word kind) }
 {
@@ -62,7 +62,7 @@ pub fn put_route(out: &mut Page, n: Node, levels: u8)
 pub struct Tree<'a> {
     pub nodes: &'a Nodes,
     pub depths: &'a [u16],
-    pub version: u8,
+    pub version: Version,
 }
 
 impl<'a> Tree<'a> {
@@ -152,7 +152,13 @@ impl<'a> Tree<'a> {
 
 // The whole text below the root.
 #[tactic(auto, using(buffer::proofs::Writes::writes, crate::proofs::Texts::set_held))]
-pub fn write_tree(nodes: &Nodes, depths: &[u16], version: u8, root: u8, out: &mut [u8]) -> usize
+pub fn write_tree(
+    nodes: &Nodes,
+    depths: &[u16],
+    version: Version,
+    root: u8,
+    out: &mut [u8],
+) -> usize
     ensures { page out.new result ≡ put_all (page out.old 0) (subtree_text (headed version) 63 (full (table nodes.now) (rows depths.now)) root ++ set_line (headed version) (held_below 63 (full (table nodes.now) (rows depths.now)) root all)) }
 {
     let tree = Tree {

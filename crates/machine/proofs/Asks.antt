@@ -21,7 +21,7 @@ use Rattle.steps.specs.declared.Notes.{Notes}
 use Rattle.steps.specs.Decision.{thread}
 use Rattle.machine.specs.declared.Asked.{Asked}
 use Rattle.machine.specs.declared.Asked.TheVariants.{Step, Start}
-use Rattle.machine.specs.Asked.{action_of, first_place, starting, extra_refusal, unrefused, asked_by, asked, answered}
+use Rattle.machine.specs.Asked.{action_of, action_started, first_place, starting, thread_started, extra_refusal, extra_of, unrefused, asked_by, asked, answered}
 
 -- ---- what a start of the action c asks: o, c is over the last; s, the station is over 63; r is its last two bytes'; i, its thread is idle
 abbrev starts : Bool → Bool → Result (Unit {0}) Refusal → Bool → Action → Result Asked Refusal
@@ -48,7 +48,7 @@ module _ (b : Bench) (t y d : ℕ) where
   steps_so true false f = refl
   steps_so false e f = refl
 
-  unused_so : (c : Action) → starting c y d ≡ begun c y d 1 → (o s u i : Bool)
+  unused_so : (c : Action) → thread_started c y d ≡ begun c y d 1 → (o s u i : Bool)
       → ite o (refused 8) (ite s (refused 9) (ite (eqb (ite u 0 10) 0) (ite i (carried (bench b.store (upd b.threads t (begun c y d 1))) no_row) (refused 11)) (refused (ite u 0 10)))) ≡ answered (starts o s (unused u) i c) b t y d
   unfolding ite
   unused_so c e true s u i = refl
@@ -77,7 +77,7 @@ module _ (b : Bench) (t y d : ℕ) where
   ends_so false false false false false = refl
 
   acts_so : (l a : ℕ) → l ≤ 6 → ite (ltb l a) (refused 8) (acted a b t y d) ≡ answered (asked_by l a y d (b.threads t).place) b t y d
-  unfolding stepped started queried asked_by extra_refusal ite
+  unfolding stepped started queried asked_by extra_refusal action_started ite
   acts_so l zero h = rw (le-ltb l 0 (omega arith)) (steps_so (eqb y 0) (eqb d 0) (eqb (b.threads t).place 0))
   acts_so l (suc zero) h = unused_so Lookup refl (ltb l 1) (ltb 63 y) (eqb d 0) (eqb (b.threads t).place 0)
   acts_so l (suc (suc zero)) h = deep_so (ltb l 2) (ltb 63 y) (ltb 9999 d) (eqb (b.threads t).place 0)
@@ -120,7 +120,7 @@ module _ {a : Asked} where
   only_query false false (Ok _) false c h = cc
 
   less : (n y e p : ℕ) → (a ≡ Start Query → ⊥) → asked_by 6 n y e p ≡ Ok a → asked_by 5 n y 0 p ≡ Ok a
-  unfolding asked_by extra_refusal ite
+  unfolding asked_by extra_refusal action_started ite
   less zero y e p f h = step_less (eqb y 0) (eqb e 0) (eqb p 0) h
   less (suc zero) y e p f h = start_less (ltb 63 y) (unused (eqb e 0)) (eqb p 0) Lookup h
   less (suc (suc zero)) y e p f h = start_less (ltb 63 y) (deep (ltb 9999 e)) (eqb p 0) Insert h
@@ -145,12 +145,12 @@ unfolding asked asked_by ite
 busy l x y d zero h = absurd (by (ltb 3 (x / 16)) (eqb (x % 16) 0) (eqb y 0) (eqb d 0) h)
   where
     by : (b c f g : Bool)
-        → ite b (Err Refusal.Thread) (ite c (ite f (ite g (Err Refusal.Idle) (Err Refusal.UnusedBytes)) (Err Refusal.UnusedBytes)) (starts (ltb l (x % 16)) (ltb 63 y) (extra_refusal (x % 16) y d) true (action_of (x % 16)))) ≡ Ok Step → ⊥
+        → ite b (Err Refusal.Thread) (ite c (ite f (ite g (Err Refusal.Idle) (Err Refusal.UnusedBytes)) (Err Refusal.UnusedBytes)) (starts (ltb l (x % 16)) (ltb 63 y) (extra_refusal (x % 16) y d) true (action_started (x % 16)))) ≡ Ok Step → ⊥
     by true c f g i = cc
     by false true true true i = cc
     by false true true false i = cc
     by false true false g i = cc
-    by false false f g i = let e : Step ≡ Start (action_of (x % 16)) = only_query (ltb l (x % 16)) (ltb 63 y) (extra_refusal (x % 16) y d) true (action_of (x % 16)) i in cc
+    by false false f g i = let e : Step ≡ Start (action_started (x % 16)) = only_query (ltb l (x % 16)) (ltb 63 y) (extra_refusal (x % 16) y d) true (action_started (x % 16)) i in cc
 busy l x y d (suc p) h = omega arith
 
 -- ---- a query's start: its action, its ends, and that its thread is idle
@@ -178,7 +178,7 @@ opens l y d p false false false false false e f g j h = cc
 opens l y d p false false false false true e f g j h = record { action = refl; last = ltb-false _ _ e; lower = ltb-false _ _ g; upper = ltb-false _ _ f; free = eqb-true p 0 j }
 
 query_by : (l a y d p : ℕ) → asked_by l a y d p ≡ Ok (Start Query) → Asking l a y d p
-unfolding asked_by extra_refusal ite
+unfolding asked_by extra_refusal action_started ite
 query_by l zero y d p h = absurd (no_step (eqb y 0) (eqb d 0) (eqb p 0) h)
 query_by l (suc zero) y d p h = let e : Start Query ≡ Start Lookup = only_query (ltb l 1) (ltb 63 y) (unused (eqb d 0)) (eqb p 0) Lookup h in cc
 query_by l (suc (suc zero)) y d p h = let e : Start Query ≡ Start Insert = only_query (ltb l 2) (ltb 63 y) (deep (ltb 9999 d)) (eqb p 0) Insert h in cc
@@ -206,7 +206,7 @@ query_action l x y d p h = (query_of l x y d p h).1.action
 
 -- a lookup's start at the same thread and station is asked of version 1: five less in the first byte
 pub asked_query : (x y e p : ℕ) → asked 6 x y e p ≡ Ok (Start Query) → asked 5 (x - 5) y 0 p ≡ Ok (Start Lookup)
-unfolding asked asked_by extra_refusal ite
+unfolding asked asked_by extra_refusal action_started ite
 asked_query x y e p h =
     let q : (x / 16 ≤ 3) × Asking 6 (x % 16) y e p = query_of 6 x y e p h in
     let a : x % 16 ≡ 6 = q.1.action in
@@ -221,10 +221,40 @@ pub query_begun : (y d : ℕ) {r : Notes} → thread r [] ≡ begun Query y d 60
 query_begun y d {r} q = ap (λ (w : Thread). to_frames w.place (new_frame y d None ∷ []) w) q
 
 -- no other has one
-pub start_begun : (c : Action) (y d : ℕ) → (c ≡ Query → ⊥) → starting c y d ≡ begun c y d (first_place c)
+pub start_begun : (c : Action) (y d : ℕ) → (c ≡ Query → ⊥) → thread_started c y d ≡ begun c y d (first_place c)
 start_begun Lookup y d f = refl
 start_begun Insert y d f = refl
 start_begun Remove y d f = refl
 start_begun Split y d f = refl
 start_begun Join y d f = refl
 start_begun Query y d f = absurd (f refl)
+
+-- by the action's number: any but a query's is at place 1
+first_of : (a : ℕ) → first_place (action_of a) ≡ 1
+first_of zero = refl
+first_of (suc zero) = refl
+first_of (suc (suc zero)) = refl
+first_of (suc (suc (suc zero))) = refl
+first_of (suc (suc (suc (suc zero)))) = refl
+first_of (suc (suc (suc (suc (suc a))))) = refl
+
+pub starting_so : (a y d : ℕ) → begun (action_started a) y d (first_place (action_started a)) ≡ starting a y d
+unfolding starting action_started ite
+starting_so a y d = by (eqb a 6)
+  where
+    by : (c : Bool) → begun (ite c Query (action_of a)) y d (first_place (ite c Query (action_of a))) ≡ ite c (begun Query y d 60) (begun (action_of a) y d 1)
+    by true = refl
+    by false = rw (first_of a)
+
+-- the refusal of a start's last two bytes by its action
+pub extra_so : (a y d : ℕ) → extra_of (action_started a) y d ≡ extra_refusal a y d
+unfolding extra_refusal action_started ite
+extra_so zero y d = refl
+extra_so (suc zero) y d = refl
+extra_so (suc (suc zero)) y d = refl
+extra_so (suc (suc (suc zero))) y d = refl
+extra_so (suc (suc (suc (suc zero)))) y d = refl
+extra_so (suc (suc (suc (suc (suc zero))))) y d = refl
+extra_so (suc (suc (suc (suc (suc (suc zero)))))) y d = refl
+extra_so (suc (suc (suc (suc (suc (suc (suc a))))))) y d =
+    let n : ℕ = suc (suc (suc (suc (suc (suc (suc a)))))) in rw (ne_eqb n 6 (λ i. omega arith), ne_eqb n 2 (λ i. omega arith))

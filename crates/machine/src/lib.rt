@@ -1,5 +1,5 @@
 // One record of a schedule: what it asks of its thread, a start, and a step that has been decided.
-#![tactic(auto, using(std::proofs::lemmas::Bool::Decides::nat_tests), unfolding(container::specs::Choice::ite, crate::specs::Asked::asked, crate::specs::Asked::asked_by, crate::specs::Asked::extra_refusal))]
+#![tactic(auto, using(std::proofs::lemmas::Bool::Decides::nat_tests), unfolding(container::specs::Choice::ite))]
 
 ghost use Rattle.std.specs.Prelude.{◌≡◌, []};
 ghost use Rattle.nodes.specs.Table.{table};
@@ -7,15 +7,15 @@ ghost use Rattle.depths.specs.Rows.{rows};
 ghost use Rattle.definitions.specs.Threads.{begun, idle};
 ghost use Rattle.effects.specs.Writes.{effect_of};
 ghost use Rattle.steps.specs.Decision.{thread};
-ghost use Rattle.machine.specs.Asked.{asked, action_of, first_place, extra_refusal};
+ghost use Rattle.machine.specs.Asked.{asked, action_of, action_started, first_place, starting, extra_of};
 ghost use Rattle.machine.specs.Noted.{Noted};
 ghost use Rattle.machine.specs.Enacted.{depth_by, Followed, Enacts};
 
-use definitions::{Action, Answer, Nodes, Refusal};
+use definitions::{Action, Answer, Nodes, Place, Refusal};
 use effects::Write;
 use steps::{Note, Notes};
 
-// What a record that is not refused asks of its thread.
+// What a record that is not refused asks of its thread. No Option: a step is no lack of a start.
 #[derive(Clone, Copy)]
 pub enum Asked {
     Step,
@@ -23,20 +23,21 @@ pub enum Asked {
 }
 
 // A start's last two bytes: a query's upper end, an insert's depth, or what has to be 0. Of a query y is the lower end.
-fn check_extra(a: u8, y: u8, d: u16) -> Result<(), Refusal>
-    ensures { result ≡ extra_refusal a y d }
+fn check_extra(action: Action, y: u8, d: u16) -> Result<(), Refusal>
+    ensures { result ≡ extra_of action y d }
 {
-    match a {
-        6 if 63 < d || d < y as u16 => Err(Refusal::UpperEnd),
-        2 if 9999 < d => Err(Refusal::Depth),
-        2 | 6 => Ok(()),
+    match action {
+        Action::Query if 63 < d || d < y as u16 => Err(Refusal::UpperEnd),
+        Action::Insert if 9999 < d => Err(Refusal::Depth),
+        Action::Query | Action::Insert => Ok(()),
         _ if d == 0 => Ok(()),
         _ => Err(Refusal::UnusedBytes),
     }
 }
 
-// The action of a start, by its number. No TryFrom: `ask` has refused what is over the last action of its version.
-fn action_of(a: u8) -> Action
+// The action of a start that is no query's, by its number; what no start has is a join. A match, since a number has no variant of itself. No TryFrom,
+// since it never fails.
+pub fn action_of(a: u8) -> Action
     ensures { result ≡ action_of a }
 {
     match a {
@@ -44,14 +45,25 @@ fn action_of(a: u8) -> Action
         2 => Action::Insert,
         3 => Action::Remove,
         4 => Action::Split,
-        6 => Action::Query,
         _ => Action::Join,
     }
 }
 
-// What a record asks of its thread, which is at the given place. `last` is the last action of its version, which has the last two bytes d,
-// or 0 where it has none.
-pub fn ask(last: u8, x: u8, y: u8, d: u16, place: u8) -> Result<Asked, Refusal>
+// The action of any start, likewise.
+#[tactic(auto, using(std::proofs::lemmas::Bool::Decides::nat_tests), unfolding(container::specs::Choice::ite, crate::specs::Asked::action_started))]
+fn action_started(a: u8) -> Action
+    ensures { result ≡ action_started a }
+{
+    match a {
+        6 => Action::Query,
+        _ => action_of(a),
+    }
+}
+
+// What a record asks of its thread, which is at the given place; it is refused in 01's order. `last` is the last action of its version, which has
+// the last two bytes d, or 0 where it has none. It is a number, since the record's number, which is held against it, need not be an action's.
+#[tactic(auto, using(std::proofs::lemmas::Bool::Decides::nat_tests, crate::proofs::Asks::extra_so), unfolding(container::specs::Choice::ite, crate::specs::Asked::asked, crate::specs::Asked::asked_by))]
+pub fn ask(last: u8, x: u8, y: u8, d: u16, place: Place) -> Result<Asked, Refusal>
     ensures { result ≡ asked last x y d place }
 {
     if 3 < x / 16 {
@@ -73,15 +85,18 @@ pub fn ask(last: u8, x: u8, y: u8, d: u16, place: u8) -> Result<Asked, Refusal>
     if 63 < y {
         return Err(Refusal::Station);
     }
-    check_extra(a, y, d)?;
+    let action = action_started(a);
+    check_extra(action, y, d)?;
     if place != 0 {
         return Err(Refusal::Busy);
     }
-    Ok(Asked::Start(action_of(a)))
+    Ok(Asked::Start(action))
 }
 
-// The notes of a thread that has noted an operation, at a place, and nothing else.
-fn notes_at(action: Action, station: u8, extra: u16, place: u8) -> Notes
+// The notes of a thread that has noted an operation, at a place, and nothing else. The three parts of an operation are
+// no struct: they are three fields of `Notes`, which steps read one by one, and travel together only from a record into these, and
+// from a query's notes into frames' `finish`.
+fn notes_at(action: Action, station: u8, extra: u16, place: Place) -> Notes
     ensures { thread result [] ≡ begun action station extra place }
 {
     Notes {
@@ -89,17 +104,7 @@ fn notes_at(action: Action, station: u8, extra: u16, place: u8) -> Notes
         station,
         extra,
         place,
-        route: 0,
-        read: 0,
-        base: 0,
-        parent: 0,
-        left: true,
-        found: 0,
-        neighbour: 0,
-        main: 0,
-        owner: false,
-        grandparent: None,
-        other: 0,
+        ..Notes::IDLE
     }
 }
 
@@ -107,11 +112,11 @@ fn notes_at(action: Action, station: u8, extra: u16, place: u8) -> Notes
 pub fn idle_notes() -> Notes
     ensures { thread result [] ≡ idle }
 {
-    notes_at(Action::Lookup, 0, 0, 0)
+    Notes::IDLE
 }
 
 // Those of a thread that has noted an operation: a query at 60, any other at 1. A query's frame lies apart.
-pub fn begin(action: Action, station: u8, extra: u16) -> Notes
+pub fn start(action: Action, station: u8, extra: u16) -> Notes
     ensures { thread result [] ≡ begun action station extra (first_place action) }
 {
     match action {
@@ -120,8 +125,17 @@ pub fn begin(action: Action, station: u8, extra: u16) -> Notes
     }
 }
 
+// The same by the action's number, for one who has a record's bytes: of a start at the station y with the last two bytes d. Any number is taken,
+// so it is not an `Action`.
+#[tactic(auto, using(crate::proofs::Asks::starting_so))]
+pub fn begin(a: u8, y: u8, d: u16) -> Notes
+    ensures { thread result [] ≡ starting a y d }
+{
+    start(action_started(a), y, d)
+}
+
 // The notes at the new place, with what is noted. A new frame lies apart.
-pub fn note(th: Notes, place: u8, note: Note) -> Notes
+pub fn note(th: Notes, place: Place, note: Note) -> Notes
     ensures { Noted th result note place }
 {
     match note {
@@ -155,7 +169,8 @@ pub fn note(th: Notes, place: u8, note: Note) -> Notes
     }
 }
 
-// The depths follow what a step writes, where they are lent. The nodes are those before it.
+// The depths follow what a step writes, where they are lent. The nodes are those before it. Run's `query::lay` is the like for a range base: one
+// function for both would take what is done with the depths as a closure, and be no plainer.
 fn follow(nodes: &Nodes, depths: &mut [u16], w: Write)
     ensures { Followed (table nodes.now) depths.old (effect_of w) depths.new }
 {
@@ -164,20 +179,27 @@ fn follow(nodes: &Nodes, depths: &mut [u16], w: Write)
     }
 }
 
-// What a step writes is carried out on the nodes, and on the depths where they are lent; gives the root.
+// What a step writes is carried out on the nodes, and on the depths where they are lent; gives the root. Apart from `enact`, so that a step that
+// writes nothing does not pay for it.
+#[inline(never)]
+fn write(nodes: &mut Nodes, depths: &mut [u16], root: u8, used: u16, w: Write) -> u8
+    ensures { Enacts (table nodes.old) depths.old root used (effect_of w) (table nodes.new) depths.new result }
+{
+    follow(nodes, depths, w);
+    effects::apply(nodes, root, used, w)
+}
+
+// The same; most steps write nothing.
 pub fn enact(nodes: &mut Nodes, depths: &mut [u16], root: u8, used: u16, w: Write) -> u8
     ensures { Enacts (table nodes.old) depths.old root used (effect_of w) (table nodes.new) depths.new result }
 {
     match w {
         Write::Quiet => root,
-        _ => {
-            follow(nodes, depths, w);
-            effects::apply(nodes, root, used, w)
-        }
+        _ => write(nodes, depths, root, used, w),
     }
 }
 
-// The depth that a lookup found, 0 for any other answer.
+// The depth that a lookup found. 0 for any other answer, and no Option: it is what the row of such an answer shows.
 pub fn depth_of(depths: &[u16], answer: Answer, s: u8) -> u16
     ensures { result ≡ depth_by answer (rows depths.now) s }
 {

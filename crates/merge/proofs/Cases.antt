@@ -1,16 +1,23 @@
 -- The loops of Merge, one record more at a time, each with the code's own facts as premises. Assumes nothing.
-use mathlib.Core.Path.{◌≡◌, refl, sym, ap, ◌∙◌}
+use mathlib.Core.Path.{◌≡◌, refl, sym, ap, ap₂, ◌∙◌}
 use mathlib.Core.Bool.{Bool, true, false, not, ◌||◌}
-use mathlib.Core.List.{List, [], ◌∷◌}
-use Prim.Native.Nat.{ℕ, ◌+◌, ◌/◌, ◌≤◌}
+use mathlib.Core.List.{List, [], ◌∷◌, ◌++◌}
+use Prim.Native.Nat.{ℕ, ◌+◌, ◌*◌, ◌/◌, ◌≤◌, ◌<◌}
 use native.Mathlib.Numerals.{add-one}
 use native.Mathlib.Omega.{arith}
 use lib.Dec.{eqb}
-use lib.ListN.{length, set, length-set}
+use lib.ListN.{length, get_or, take, drop, length-append}
 use Rattle.container.specs.Choice.{ite}
-use Rattle.buffer.specs.Page.{Page, page, put, put_all}
-use Rattle.buffer.proofs.Laws.{put_room, put_all_length, joined}
-use Rattle.definitions.specs.Merge.{first_byte, second_byte, foreign, turns}
+use Rattle.buffer.specs.Page.{Page, page, put_all}
+use Rattle.buffer.proofs.Laws.{put_all_append, put_fits, joined}
+use borrow.Rule.Slice.PartMut.{put_mid}
+use Rattle.std.specs.List.{enumerate_from, zip}
+use Rattle.std.proofs.lemmas.List.{take-append-drop, length-take-le, get_or_default}
+use Rattle.std.proofs.lemmas.List.FromFn.{length-enumerate_from, get_or-enumerate_from}
+use Rattle.std.proofs.lemmas.Slice.{take-put_mid, drop-put_mid}
+use Rattle.std.proofs.lemmas.Slice.Zip.{length-zip, get_or-zip}
+use Rattle.definitions.specs.Merge.{first_byte, second_byte, foreign, turns, needed}
+use Rattle.schedule.specs.Records.{Pairs}
 
 -- ---- threads that are not the file's
 
@@ -36,22 +43,38 @@ module _ (f : ℕ) (file : List ℕ) where
 
 -- ---- records in turns
 
--- four bytes side by side, where there is room for them
-pub four : (l : List ℕ) (x y z w a : ℕ) {b c d e : ℕ} → b ≡ a + 1 → c ≡ b + 1 → d ≡ c + 1 → e ≡ d + 1 → e ≤ length l
-    → page (set (set (set (set l a x) b y) c z) d w) e ≡ put_all (page l a) (x ∷ y ∷ z ∷ w ∷ [])
-unfolding put_all
-four l x y z w a {b} {c} {d} {e} p q r s h =
-    let one = set l a x in
-    let two = set one b y in
-    let three = set two c z in
-    let i : length one ≡ length l = length-set l a x in
-    let j : length two ≡ length l = length-set one b y ∙ i in
-    let k : length three ≡ length l = length-set two c z ∙ j in
-    let at_one : page one b ≡ put (page l a) x = rw p (put_room l a x (omega arith)) in
-    let at-two : page two c ≡ put (page one b) y = rw q (put_room one b y (omega arith)) in
-    let at_three : page three d ≡ put (page two c) z = rw r (put_room two c z (omega arith)) in
-    let at-four : page (set three d w) e ≡ put (page three d) w = rw s (put_room three d w (omega arith)) in
-    at-four ∙ ap (λ (m : Page). put m w) (at_three ∙ ap (λ (m : Page). put m z) (at-two ∙ ap (λ (m : Page). put m y) at_one))
+-- bytes written over a part of the buffer
+pub at_mid : (l : List ℕ) (a k : ℕ) (xs : List ℕ) → length xs ≡ k → a + k ≤ length l → page (put_mid a k l xs) (a + k) ≡ put_all (page l a) xs
+at_mid l a k xs e h =
+    let n : length (take a l) ≡ a = length-take-le a l (omega arith) in
+    let m : length (take a l ++ xs) ≡ a + k = length-append (take a l) xs ∙ omega (arith, n, e) in
+    let front : put_all (page l 0) (take a l) ≡ page l a = put_fits (take a l) l (omega (arith, n)) ∙ rw (n, take-append-drop a l) in
+    let whole : put_all (page l 0) (take a l ++ xs) ≡ page ((take a l ++ xs) ++ drop (a + k) l) (a + k) = put_fits (take a l ++ xs) l (omega (arith, m)) ∙ rw m in
+    let mid : put_mid a k l xs ≡ (take a l ++ xs) ++ drop (a + k) l = sym (take-append-drop (a + k) (put_mid a k l xs)) ∙ ap₂ ◌++◌ (take-put_mid a k l xs (a + k) (omega (arith, e)) (omega arith)) (drop-put_mid a k l xs (a + k) (omega arith) (omega arith) e) in
+    ap (λ b. page b (a + k)) mid ∙ sym whole ∙ put_all_append (page l 0) (take a l) xs ∙ ap (λ q. put_all q xs) front
+
+-- what turn n of both files' records is
+pub record Turn (ones others : List (List ℕ)) (n : ℕ) (p : ℕ × (List ℕ × List ℕ)) : Type 0 where
+  pub place : p.0 ≡ n
+  pub in-one : n < length ones
+  pub in-other : n < length others
+  pub one : p.1.0 ≡ get_or ones n []
+  pub other : p.1.1 ≡ get_or others n []
+
+pub turn_is : (ones others : List (List ℕ)) (n : ℕ) (p : ℕ × (List ℕ × List ℕ)) → n < length (enumerate_from 0 (zip ones others)) → p ≡ get_or (enumerate_from 0 (zip ones others)) n p → Turn ones others n p
+turn_is ones others n p h e =
+    let z : n < length (zip ones others) = omega (arith, length-enumerate_from 0 (zip ones others)) in
+    let i : n < length ones = omega (arith, length-zip ones others) in
+    let j : n < length others = omega (arith, length-zip ones others) in
+    let f : p ≡ (0 + n, get_or (zip ones others) n p.1) = e ∙ get_or-enumerate_from 0 (zip ones others) n p z in
+    let g : p.1 ≡ (get_or ones n p.1.0, get_or others n p.1.1) = ap (λ (q : ℕ × (List ℕ × List ℕ)). q.1) f ∙ get_or-zip ones others n p.1 i j in
+    record {
+      place = ap (λ (q : ℕ × (List ℕ × List ℕ)). q.0) f ∙ omega arith;
+      in-one = i;
+      in-other = j;
+      one = ap (λ (q : List ℕ × List ℕ). q.0) g ∙ get_or_default ones n _ _ i;
+      other = ap (λ (q : List ℕ × List ℕ). q.1) g ∙ get_or_default others n _ _ j;
+    }
 
 module _ (first second : List ℕ) where
   pub turns_none : (p : Page) → p ≡ put_all p (turns first second 0)
@@ -63,25 +86,18 @@ module _ (first second : List ℕ) where
   unfolding turns
   turns_more k p u v = rw add-one (joined p _ _ u v)
 
--- ---- the lent buffer keeps its length
+  -- one turn more, written over a part of the buffer; m is the number of turns then
+  module _ {ones others : List (List ℕ)} (o : Pairs first ones) (u : Pairs second others) {n j : ℕ} {x y : List ℕ} (t : Turn ones others n (j, (x, y))) where
+    turn_bytes : {w : List ℕ} → w ≡ get_or x 0 0 ∷ get_or x 1 0 ∷ get_or y 0 0 ∷ get_or y 1 0 ∷ [] → w ≡ first_byte first n ∷ second_byte first n ∷ first_byte second n ∷ second_byte second n ∷ []
+    turn_bytes e = e ∙ rw (t.one, t.other, o.first n t.in-one, o.second n t.in-one, u.first n t.in-other, u.second n t.in-other)
 
-module _ (l : List ℕ) (a x b y : ℕ) where
-  two_kept : length (set (set l a x) b y) ≡ length l
-  two_kept = length-set (set l a x) b y ∙ length-set l a x
+    pub turn_room : {r : ℕ} → needed first second ≤ r → 3 + 4 * j + 4 ≤ r
+    turn_room h = omega (arith, t.place, t.in-one, t.in-other, o.many, u.many)
 
-  pub in_two : (n : ℕ) → n ≤ length l → n ≤ length (set (set l a x) b y)
-  in_two n h = omega (arith, two_kept)
-
-  module _ (c z : ℕ) where
-    three_kept : length (set (set (set l a x) b y) c z) ≡ length l
-    three_kept = length-set (set (set l a x) b y) c z ∙ two_kept
-
-    pub in_three : (n : ℕ) → n ≤ length l → n ≤ length (set (set (set l a x) b y) c z)
-    in_three n h = omega (arith, three_kept)
-
-    pub four_kept : (d w : ℕ) → length (set (set (set (set l a x) b y) c z) d w) ≡ length l
-    four_kept d w = length-set (set (set (set l a x) b y) c z) d w ∙ three_kept
-
-    -- three bytes, then others on a page
-    pub page_kept : {out : List ℕ} {at : ℕ} (start : ℕ) (xs : List ℕ) → page out at ≡ put_all (page (set (set (set l a x) b y) c z) start) xs → length out ≡ length l
-    page_kept start xs e = ap (λ (q : Page). length q.bytes) e ∙ (put_all_length _ xs ∙ three_kept)
+    pub turn_put : (l : List ℕ) (p : Page) (k m : ℕ) {w : List ℕ} → page l (3 + 4 * n) ≡ put_all p (turns first second n) → w ≡ get_or x 0 0 ∷ get_or x 1 0 ∷ get_or y 0 0 ∷ get_or y 1 0 ∷ []
+        → k ≡ 4 → m ≡ n + 1 → needed first second ≤ length l → page (put_mid (3 + 4 * j) k l w) (3 + 4 * m) ≡ put_all p (turns first second m)
+    turn_put l p k m {w} i e f g h =
+        let b : w ≡ first_byte first n ∷ second_byte first n ∷ first_byte second n ∷ second_byte second n ∷ [] = turn_bytes e in
+        let a : 3 + 4 * n + 4 ≤ length l = rw t.place at (turn_room h) in
+        let q : 3 + 4 * (n + 1) ≡ 3 + 4 * n + 4 = omega arith in
+        rw (t.place, f, g) (turns_more n p i (rw (q, b) (at_mid l (3 + 4 * n) 4 (first_byte first n ∷ second_byte first n ∷ first_byte second n ∷ second_byte second n ∷ []) refl a)))

@@ -1,22 +1,22 @@
 -- The output's bytes, the part that comes back, and both as the definition has them, from what the code holds. Assumes nothing.
-use mathlib.Core.Path.{◌≡◌, refl, ap, ◌∙◌}
-use mathlib.Core.List.{List, [], ◌∷◌}
-use Prim.Native.Nat.{ℕ, zero, suc, ◌+◌, ◌-◌, ◌*◌, ◌/◌, ◌%◌, ◌≤◌, ◌<◌, min}
+use mathlib.Core.Path.{◌≡◌, refl, sym, ap, ◌∙◌}
+use mathlib.Core.List.{List, [], ◌∷◌, ◌++◌}
+use Prim.Native.Nat.{ℕ, zero, suc, ◌+◌, ◌-◌, ◌*◌, ◌/◌, ◌%◌, ◌≤◌, ◌<◌}
 use native.Mathlib.Omega.{arith}
 use borrow.Author.Tests.{ne_eqb, lt-ltb, le-ltb}
-use lib.ListN.{length, set, take, drop, length-append, length-set}
+use lib.ListN.{length, get_or, take, drop, length-append}
 use Rattle.std.specs.Prelude.{Result, IsErrAnd}
 use Rattle.std.specs.Borrow.{Bor}
 use Rattle.std.proofs.lemmas.Result.{err_from_is_err_and}
 use Rattle.container.specs.Choice.{ite}
-use Rattle.buffer.specs.Page.{Page, page, put, put_all}
-use Rattle.buffer.proofs.Laws.{put_room, put_fits}
+use Rattle.buffer.specs.Page.{Page, page, put_all}
+use Rattle.buffer.proofs.Laws.{put_fits}
 use Rattle.definitions.specs.declared.Refusal.{Refusal}
 use Rattle.definitions.specs.Refusal.{refusal_number, code_of}
 use Rattle.definitions.proofs.Refusals.{refused as not_0}
 use Rattle.definitions.specs.Schedule.{count_of}
 use Rattle.definitions.specs.Run.{overlay}
-use Rattle.definitions.specs.Merge.{smaller, needed, turns, merge_refusal, merge_bytes, merge_buffer, left_over, merge_report, part_of}
+use Rattle.definitions.specs.Merge.{total, smaller, needed, turns, merge_refusal, merge_bytes, merge_buffer, left_over, merge_report, part_of}
 use Rattle.schedule.specs.Proper.{Plain}
 use Rattle.merge.specs.Accepted.{Accepted}
 use Rattle.merge.specs.Merging.{Merging, rest_of}
@@ -32,23 +32,20 @@ pub bytes_length : (first second : List ℕ) → length (merge_bytes first secon
 unfolding merge_bytes
 bytes_length first second = rw (turns_length first second (smaller first second)) (omega arith)
 
--- the version and the count, side by side
-head_put : (l : List ℕ) (x y z : ℕ) → 3 ≤ length l → page (set (set (set l 0 x) 1 y) 2 z) 3 ≡ put_all (page l 0) (x ∷ y ∷ z ∷ [])
-unfolding put_all
-head_put l x y z h =
-    let i : length (set l 0 x) ≡ length l = length-set l 0 x in
-    let j : length (set (set l 0 x) 1 y) ≡ length l = length-set (set l 0 x) 1 y ∙ i in
-    put_room (set (set l 0 x) 1 y) 2 z (omega arith) ∙ ap (λ (m : Page). put m z) (put_room (set l 0 x) 1 y (omega arith) ∙ ap (λ (m : Page). put m y) (put_room l 0 x (omega arith)))
+module _ (first second out : List ℕ) (h : Accepted first second (length out)) {a b : ℕ} {bytes w : List ℕ} (c : a ≡ count_of first) (d : b ≡ count_of second) where
+  -- the version and the count, side by side
+  head_is : bytes ≡ (a + b) / 256 % 256 ∷ (a + b) % 256 ∷ [] → w ≡ 1 ∷ get_or bytes 0 0 ∷ get_or bytes 1 0 ∷ [] → w ≡ 1 ∷ total first second / 256 ∷ total first second % 256 ∷ []
+  head_is e f =
+      let small : (a + b) / 256 % 256 ≡ (a + b) / 256 = omega (arith, c, d, h.few) in
+      f ∙ rw (e, small, c, d)
 
-module _ (first second out : List ℕ) {a b n m : ℕ} {after : List ℕ} where
-  -- the version, the count and the records, one after the other
-  pub output_put : Accepted first second (length out) → a ≡ count_of first → b ≡ count_of second → n ≡ min a b
-      → page after m ≡ put_all (page (set (set (set out 0 1) 1 ((a + b) / 256)) 2 ((a + b) % 256)) 3) (turns first second n)
-      → after ≡ overlay (merge_bytes first second) out
+  -- and the records, one after the other
+  pub output_put : {after : List ℕ} → bytes ≡ (a + b) / 256 % 256 ∷ (a + b) % 256 ∷ [] → w ≡ 1 ∷ get_or bytes 0 0 ∷ get_or bytes 1 0 ∷ []
+      → page after (needed first second) ≡ put_all (page (w ++ drop 3 out) 3) (turns first second (smaller first second)) → after ≡ overlay (merge_bytes first second) out
   unfolding merge_bytes put_all
-  output_put h c d e i =
-      let head = head_put out 1 ((a + b) / 256) ((a + b) % 256) (omega (arith, h.room)) in
-      let all : page after m ≡ put_all (page out 0) (merge_bytes first second) = rw (← c, ← d, ← e) (rw head at i) in
+  output_put {after} e f i =
+      let head = put_fits (1 ∷ total first second / 256 ∷ total first second % 256 ∷ []) out (omega (arith, h.room)) in
+      let all : page after (needed first second) ≡ put_all (page out 0) (merge_bytes first second) = i ∙ rw (head_is e f) (ap (λ q. put_all q (turns first second (smaller first second))) (sym head)) in
       ap (λ (s : Page). s.bytes) (all ∙ put_fits (merge_bytes first second) out (omega (arith, bytes_length first second, h.room)))
 
 -- ---- the part

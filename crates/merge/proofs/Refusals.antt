@@ -64,20 +64,20 @@ module _ (first second : List ℕ) (room : ℕ) where
     by_second i f = rw (← e, ← f) (here _ i ∙ past _)
 
     module _ (f : 0 ≡ fault second) {a b : ℕ} (c : a ≡ count_of first) (d : b ≡ count_of second) where
-      pub by_foreign : {u : ℕ} → 1 ≤ u → u ≡ foreign 0 first a → u ≡ merge_refusal first second room
+      pub by_foreign : {u : ℕ} → 1 ≤ u → u ≡ foreign 0 first (count_of first) → u ≡ merge_refusal first second room
       unfolding merge_refusal
-      by_foreign i g = rw (← e, ← f, ← c, ← g) (here _ i ∙ (past _ ∙ past _))
+      by_foreign i g = rw (← e, ← f, ← g) (here _ i ∙ (past _ ∙ past _))
 
-      module _ (g : 0 ≡ foreign 0 first a) where
-        pub by_foreign_2 : {u : ℕ} → 1 ≤ u → u ≡ foreign 1 second b → u ≡ merge_refusal first second room
+      module _ (g : 0 ≡ foreign 0 first (count_of first)) where
+        pub by_foreign_2 : {u : ℕ} → 1 ≤ u → u ≡ foreign 1 second (count_of second) → u ≡ merge_refusal first second room
         unfolding merge_refusal
-        by_foreign_2 i h = rw (← e, ← f, ← c, ← d, ← g, ← h) (here _ i ∙ (past _ ∙ (past _ ∙ past _)))
+        by_foreign_2 i h = rw (← e, ← f, ← g, ← h) (here _ i ∙ (past _ ∙ (past _ ∙ past _)))
 
         -- nothing is refused before the total
-        module _ (h : 0 ≡ foreign 1 second b) where
+        module _ (h : 0 ≡ foreign 1 second (count_of second)) where
           last_two : first_of (ite (ltb 4096 (a + b)) 3 0 ∷ ite (ltb room (3 + 4 * min a b)) 18 0 ∷ []) ≡ merge_refusal first second room
           unfolding merge_refusal
-          last_two = rw (← e, ← f, ← c, ← d, ← g, ← h) (past _ ∙ (past _ ∙ (past _ ∙ past _)))
+          last_two = rw (← e, ← f, ← g, ← h, c, d) (past _ ∙ (past _ ∙ (past _ ∙ past _)))
 
           pub by_total : 4096 < a + b → 3 ≡ merge_refusal first second room
           by_total l = below 4096 (a + b) 3 l ∙ (here _ (omega (arith, below 4096 (a + b) 3 l)) ∙ last_two)

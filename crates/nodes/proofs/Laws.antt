@@ -1,11 +1,11 @@
 -- The cases of the readers and the writers, each with the code's own facts as premises. Assumes nothing.
-use Rattle.std.specs.Prelude.{Option, None, slice_index_or}
+use Rattle.std.specs.Prelude.{Option, slice_index_or}
 use mathlib.Core.Path.{◌≡◌, refl, sym, ap, ap₂, ◌∙◌, fun_ext}
 use mathlib.Core.Bool.{Bool, true, false}
 use mathlib.Core.List.{List}
 use Prim.Native.Nat.{ℕ, ◌<◌, ◌≤◌}
 use native.Mathlib.Decide.{ℕ_discrete}
-use lib.ListN.{get_or, set, length, get_or-eq_default}
+use lib.ListN.{get_or, set, length}
 use lib.Seq.{get_or-set_same, get_or-set_other}
 use Rattle.std.proofs.lemmas.List.{get_or_default}
 use borrow.Author.Tests.{lt-ltb, le-ltb, eq-eqb, ne_eqb}
@@ -71,14 +71,6 @@ replaced d l i v h = fun_ext (λ j. elim (ℕ_discrete j i) [
 pub node_read : (l : List Node) (i : ℕ) (d : Node) → i < length l → slice_index_or l i d ≡ table l i
 unfolding table
 node_read l i d h = get_or_default l i d _ h
-
-pub store_read : (l : List (Option ℕ)) (k : ℕ) (d : Option ℕ) → k < length l → slice_index_or l k d ≡ stores l k
-unfolding stores
-store_read l k d h = get_or_default l k d _ h
-
-pub store_past : (l : List (Option ℕ)) (k : ℕ) → length l ≤ k → None ≡ stores l k
-unfolding stores
-store_past l k h = sym (get_or-eq_default l _ h)
 
 pub node_set : (l : List Node) (i : ℕ) (n : Node) → i < length l → table (set l i n) ≡ upd (table l) i n
 unfolding table

@@ -8,11 +8,20 @@ ghost use Rattle.definitions.specs.Listing.{list_report, list_buffer};
 ghost use Rattle.snapshot.specs.State.{state_report, state_buffer};
 ghost use Rattle.definitions.specs.Merge.{merge_report, merge_buffer};
 ghost use Rattle.definitions.specs.Written.{written_report, written_buffer};
-ghost use Rattle.definitions.specs.Judgement.{Judgement, once};
+ghost use Rattle.definitions.specs.Judgement.{Judgement};
 ghost use Rattle.definitions.specs.declared.Judged.{Judged};
 ghost use Rattle.season.specs.Tally.{tally_report, tally_numbers};
 ghost use Rattle.season.specs.Season.{average_of};
 ghost use Rattle.nuxalder.specs.Fields.{run_fields, list_fields, state_fields, merge_fields, written_fields, judged_fields, tally_fields, average_fields};
+
+use definitions::Report;
+
+// A report's six numbers, as C has them. No `From`: a report and an array are both types of other crates.
+fn fields(r: Report) -> [u64; 6]
+    ensures { result ≡ run_fields r }
+{
+    [r.refusal, r.records, r.rows, r.set, r.stored, r.used]
+}
 
 // void nuxalder_run(const uint8_t *schedule, size_t length, uint8_t *rows, size_t length, uint64_t report[6])
 #[unsafe(no_mangle)]
@@ -20,7 +29,7 @@ pub extern "C" fn nuxalder_run(schedule: &[u8], rows: &mut [u8], report: &mut [u
     ensures { (report.new ≡ run_fields (run_report schedule.now (length rows.old))) × (rows.new ≡ run_buffer schedule.now rows.old) }
 {
     let r = run::run(schedule, rows);
-    *report = [r.refusal, r.records, r.rows, r.set, r.stored, r.used];
+    *report = fields(r);
 }
 
 // void nuxalder_run_one_writer(const uint8_t *schedule, size_t length, uint8_t *rows, size_t length, uint64_t report[6])
@@ -29,7 +38,7 @@ pub extern "C" fn nuxalder_run_one_writer(schedule: &[u8], rows: &mut [u8], repo
     ensures { (report.new ≡ run_fields (profile_report schedule.now (length rows.old))) × (rows.new ≡ profile_buffer schedule.now rows.old) }
 {
     let p = writer::run(schedule, rows);
-    *report = [p.refusal, p.records, p.rows, p.set, p.stored, p.used];
+    *report = fields(p);
 }
 
 // void nuxalder_list(const uint8_t *schedule, size_t length, uint8_t *text, size_t length, uint64_t report[2])
@@ -90,25 +99,18 @@ pub extern "C" fn nuxalder_history(schedule: &[u8], history: &mut [u8], report: 
     *report = [w.refusal, w.length];
 }
 
-// 1 for yes.
-fn flag(yes: bool) -> u64
-    ensures { result ≡ once yes }
-{
-    if yes { 1 } else { 0 }
-}
-
 // void nuxalder_judge(const uint8_t *history, size_t length, uint8_t order[12], uint64_t report[3])
 #[unsafe(no_mangle)]
 pub extern "C" fn nuxalder_judge(history: &[u8], order: &mut [u8; 12], report: &mut [u64; 3])
     ensures { (r : Judged) × Judgement history.now r × (order.new ≡ r.order) × (report.new ≡ judged_fields r) }
 {
     let r = judge::judge(history);
-    let yes = flag(r.accepted);
     let numbers = r.order;
     *order = numbers;
-    *report = [r.refusal, yes, r.operations];
+    *report = [r.refusal, u64::from(r.accepted), r.operations];
 }
 
+// C lends the tally by itself, here and below, and names an action by its number.
 // void nuxalder_tally(const uint8_t *schedule, size_t length, uint8_t *rows, size_t length, uint32_t tally[65], uint64_t report[7])
 #[unsafe(no_mangle)]
 pub extern "C" fn nuxalder_tally(
@@ -120,6 +122,7 @@ pub extern "C" fn nuxalder_tally(
     ensures { (report.new ≡ tally_fields (tally_report schedule.now (length rows.old) tally.old)) × ((rows.new ≡ run_buffer schedule.now rows.old) × (tally.new ≡ tally_numbers schedule.now (length rows.old) tally.old)) }
 {
     let t = tally::tally(schedule, rows, tally);
+    // seven numbers: `fields` and one more would be no shorter
     let r = t.report;
     *report = [
         r.refusal, r.records, r.rows, r.set, r.stored, r.used, t.refusal,

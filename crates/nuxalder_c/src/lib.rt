@@ -1,4 +1,5 @@
-// The exports of crate nuxalder for C, each with its clauses; include/nuxalder.h says what each number means.
+// The exports of crate nuxalder for C, each with its clauses; include/nuxalder.h says what each number means. They are named again, with what C
+// lends: a crate is a library or a static library, and the C library is this one; the library nuxalder is what programs in this language link.
 #![tactic(auto)]
 
 ghost use Rattle.std.specs.Prelude.{◌≡◌, length};
@@ -80,6 +81,7 @@ pub extern "C" fn nuxalder_judge(history: &[u8], order: &mut [u8; 12], report: &
     nuxalder::nuxalder_judge(history, order, report);
 }
 
+// C lends the tally by itself, here and below, and names an action by its number.
 // void nuxalder_tally(const uint8_t *schedule, size_t length, uint8_t *rows, size_t length, uint32_t tally[65], uint64_t report[7])
 #[unsafe(no_mangle)]
 pub extern "C" fn nuxalder_tally(

@@ -1,22 +1,20 @@
 -- What each function has written, word by word and line by line. Assumes nothing.
-use mathlib.Core.Path.{◌≡◌, refl, sym, ap, subst, ◌∙◌}
+use mathlib.Core.Path.{◌≡◌, refl, sym, ap, ◌∙◌}
 use mathlib.Core.Bool.{Bool, true, false}
 use mathlib.Core.List.{List, [], ◌∷◌, ◌++◌, append_assoc, append-nil}
-use Prim.Native.Nat.{ℕ, zero, suc, ◌+◌, ◌-◌, ◌*◌, ◌≤◌, ◌<◌}
-use native.Mathlib.Numerals.{add-one}
+use Prim.Native.Nat.{ℕ, zero, suc, ◌+◌, ◌*◌, ◌≤◌}
 use native.Mathlib.Omega.{arith}
-use borrow.Author.Tests.{ne_eqb, ltb-true}
-use lib.Dec.{eqb, ltb}
-use native.Mathlib.Nat.{add_comm, zero-mul, suc-mul, mul-le-mul_right}
-use lib.ListN.{length, take, drop, length-drop, set, get_or, length-set}
-use lib.Seq.{drop-drop, take-length}
+use borrow.Author.Tests.{ne_eqb}
+use lib.Dec.{eqb}
+use native.Mathlib.Nat.{add_comm, zero-mul, suc-mul}
+use lib.ListN.{drop, get_or}
+use lib.Seq.{drop-drop}
 use Rattle.container.specs.Choice.{ite}
 use Rattle.definitions.specs.Answers.{no_word, answer_word}
 use Rattle.definitions.specs.Listing.{space, newline, decimal}
 use Rattle.definitions.specs.Run.{row_width}
 use Rattle.definitions.specs.Printed.{action_word, depth_text, row_line, row_lines}
 use Rattle.listing.specs.Texts.{headed}
-use Rattle.buffer.specs.Page.{Page, page, put, put_all}
 
 -- ---- the word for an action, by its number
 
@@ -115,15 +113,7 @@ row_parts file row e f = rw (e, f)
 
 -- ---- the lines of several rows, one more at a time
 
-lines_more : (file : List ℕ) (k : ℕ) (l : List ℕ) → row_lines file (suc k) l ≡ row_lines file k l ++ row_line file (drop (k * row_width file) l)
+pub lines_more : (file : List ℕ) (k : ℕ) (l : List ℕ) → row_lines file (suc k) l ≡ row_lines file k l ++ row_line file (drop (k * row_width file) l)
 lines_more file zero l = append-nil (row_line file l) ∙ ap (λ (n : ℕ). row_line file (drop n l)) (sym (zero-mul (row_width file)))
 lines_more file (suc k) l = rw (lines_more file k (drop (row_width file) l), drop-drop (k * row_width file) (row_width file) l, append_assoc)
     (ap (λ (n : ℕ). row_line file l ++ (row_lines file k (drop (row_width file) l) ++ row_line file (drop n l))) (add_comm (row_width file) (k * row_width file) ∙ sym (suc-mul k (row_width file))))
-
--- row k of n lies in a buffer of m bytes that has room for all of them; w is the length of a row
-pub row_in : (v k w m : ℕ) {n : ℕ} → k < n → n * row_width (headed v) ≤ m → w ≡ row_width (headed v) → k * w + row_width (headed v) ≤ m
-row_in v k w m {n} h l e = let a : suc k * row_width (headed v) ≤ n * row_width (headed v) = mul-le-mul_right (row_width (headed v)) h in rw e (omega (arith, a, suc-mul k (row_width (headed v))))
-
--- l from there on, as the code cuts it
-pub rows_step : (v k w : ℕ) (l : List ℕ) → w ≡ row_width (headed v) → row_lines (headed v) k l ++ row_line (headed v) (take (length l - k * w) (drop (k * w) l)) ≡ row_lines (headed v) (k + 1) l
-rows_step v k w l e = rw (← length-drop (k * w) l, take-length, add-one k, lines_more (headed v) k l, e)

@@ -12,7 +12,7 @@ ghost use Rattle.definitions.specs.Printed.{action_word, first_line, depth_text,
 ghost use Rattle.listing.specs.Texts.{headed};
 
 use buffer::Page;
-use definitions::{Listed, Report};
+use definitions::{Listed, Report, Version};
 
 // ---- words and numbers
 
@@ -23,7 +23,7 @@ pub fn put_number(out: &mut Page, n: u64)
     out.put_decimal((n % 10000) as u16);
 }
 
-// The word for an action's number.
+// The word for an action's number, a byte of a row: a number and not `Action`, for a row holds bytes, as 01 has them. So does `put_answer` take one.
 #[tactic(auto, using(buffer::proofs::Writes::writes, crate::proofs::Cases::action_cases))]
 pub fn put_action(out: &mut Page, a: u8)
     ensures { Writes out.old out.new (action_word a) }
@@ -52,9 +52,10 @@ pub fn put_answer(out: &mut Page, y: u8)
 
 // ---- the rows
 
-// The length of a row.
+// The length of a row. One `if`, as for each size by version, where it is used: writer's of the first records of a file, list's of a text, tally's
+// of a record and a row. One table of all would stand in a crate below these, and be no plainer.
 #[tactic(auto, using(crate::proofs::Cases::width_cases))]
-fn row_width(version: u8) -> usize
+fn row_width(version: Version) -> usize
     ensures { result ≡ row_width (headed version) }
 {
     if version == 1 { 4 } else { 14 }
@@ -62,26 +63,22 @@ fn row_width(version: u8) -> usize
 
 // The depth after a lookup's yes, from version 2 on; `row` begins with the row.
 #[tactic(auto, using(buffer::proofs::Writes::writes, crate::proofs::Cases::depth_cases))]
-pub fn put_depth(out: &mut Page, version: u8, row: &[u8])
+pub fn put_depth(out: &mut Page, version: Version, row: &[u8])
     requires { row_width (headed version) ≤ length row.now }
     ensures { Writes out.old out.new (depth_text (headed version) row.now) }
 {
     if version == 1 {
         return;
     }
-    if row[1] != 1 {
-        return;
+    if let [_, 1, _, 1, high, low, ..] = row {
+        out.put(b' ');
+        out.put_decimal(u16::from_be_bytes([*high, *low]));
     }
-    if row[3] != 1 {
-        return;
-    }
-    out.put(b' ');
-    out.put_decimal(u16::from(row[4]) * 256 + u16::from(row[5]));
 }
 
 // The line of a row, with which `row` begins.
 #[tactic(auto, using(crate::proofs::Cases::width_least))]
-pub fn put_row(out: &mut Page, version: u8, row: &[u8])
+pub fn put_row(out: &mut Page, version: Version, row: &[u8])
     requires { row_width (headed version) ≤ length row.now }
     ensures { Writes out.old out.new (row_line (headed version) row.now) }
 {
@@ -97,20 +94,19 @@ pub fn put_row(out: &mut Page, version: u8, row: &[u8])
     out.put(b'\n');
 }
 
-// The lines of the first rows of a buffer.
-pub fn put_rows(out: &mut Page, version: u8, rows: &[u8], count: usize)
+// The lines of the first rows of a buffer. The number of rows stands beside, in `put_lines` as `r.rows`: the buffer is as long as it was lent.
+pub fn put_rows(out: &mut Page, version: Version, rows: &[u8], count: usize)
     requires { count * row_width (headed version) ≤ length rows.now }
     ensures { Writes out.old out.new (row_lines (headed version) count rows.now) }
 {
-    let width = row_width(version);
-    for k in 0..count {
-        put_row(out, version, &rows[k * width..]);
+    for row in rows.chunks_exact(row_width(version)).take(count) {
+        put_row(out, version, row);
     }
 }
 
 // ---- the first line and the last
 
-// Records done, count, refusal.
+// Records done, count, refusal: the numbers of a report, whose refusal is a number, 0 for none (the C header says so).
 pub fn put_first(out: &mut Page, done: u64, count: u64, refusal: u64)
     ensures { Writes out.old out.new (first_line (done % 10000) (count % 10000) (refusal % 10000)) }
 {
@@ -136,10 +132,11 @@ pub fn put_last(out: &mut Page, stored: u64, used: u64)
 
 // ---- the whole
 
-// The lines of a run: its report and rows, its text, and the file's version and count.
+// The lines of a run: its report and rows, its text, and the file's version and count. A report stands beside its buffer, r beside `rows` and l
+// beside `text`: so C lends the buffers, and so it is told.
 pub fn put_lines(
     out: &mut Page,
-    version: u8,
+    version: Version,
     count: u64,
     r: Report,
     rows: &[u8],
@@ -166,6 +163,7 @@ fn put_run(out: &mut Page, schedule: &[u8])
     }
     let count = schedule::count_of(schedule);
     let version = schedule[0];
+    // fixed memory, for there is no heap
     let mut rows = [0u8; 28672];
     let mut text = [0u8; 8192];
     let r = run::run(schedule, &mut rows);

@@ -1,5 +1,5 @@
 -- The places of a query: what its frame on top decides, with what the code read of nodes and stores, is the step. Assumes nothing.
-use Rattle.std.specs.Prelude.{Option, Some, None}
+use Rattle.std.specs.Prelude.{Option, Some, None, Ok, Err}
 use mathlib.Core.Path.{◌≡◌, refl, sym, ap, ap₂, ◌∙◌}
 use mathlib.Core.Bool.{false}
 use mathlib.Core.List.{List, ◌∷◌}
@@ -25,23 +25,23 @@ use Rattle.definitions.specs.Frames.{top_of, store_of, is_range}
 use Rattle.definitions.specs.Queries.{ascended, met_by, riding, opened_by, extended_by}
 use Rattle.definitions.specs.Steps.{step, probe}
 use Rattle.frames.specs.Turns.{Goes, counts, up_turn, meet_turn, ride_turn, open_turn, go_on_turn}
-use Rattle.frames.specs.Outcomes.{told_in, Acts, step_at}
-use Rattle.frames.specs.declared.Outcome.{Outcome}
-use Rattle.frames.specs.declared.Outcome.TheVariants.{Onward, Blocked, Back, Found, NodesOut, StoresOut}
+use Rattle.frames.specs.Outcomes.{Ending, told_in, Acts, step_at}
+use Rattle.frames.specs.declared.Outcome.TheVariants.{Onward, Blocked, Back, Found}
+use Rattle.frames.specs.declared.Shortage.TheVariants as shortage
 
 -- ---- what an outcome holds of its thread's old place and frames is of no account
-told_alike : (r : Outcome) (gs fs hs : List Frame) (p : ℕ) (th : Thread) → told_in r gs fs th ≡ told_in r gs fs (to_frames p hs th)
-told_alike (Onward q e) gs fs hs p th = refl
-told_alike (Blocked x) gs fs hs p th = refl
-told_alike (Back q) gs fs hs p th = refl
-told_alike (Found c) gs fs hs p th = refl
-told_alike NodesOut gs fs hs p th = refl
-told_alike StoresOut gs fs hs p th = refl
+told_alike : (r : Ending) (gs fs hs : List Frame) (p : ℕ) (th : Thread) → told_in r gs fs th ≡ told_in r gs fs (to_frames p hs th)
+told_alike (Ok (Onward q e)) gs fs hs p th = refl
+told_alike (Ok (Blocked x)) gs fs hs p th = refl
+told_alike (Ok (Back q)) gs fs hs p th = refl
+told_alike (Ok (Found c)) gs fs hs p th = refl
+told_alike (Err shortage.Nodes) gs fs hs p th = refl
+told_alike (Err shortage.Stores) gs fs hs p th = refl
 
-acts_as : {f g : Frame} {r : Outcome} {d d' : Frame → List Frame → Thread → Turn} (p : ℕ) → Acts f g r d → ((fs : List Frame) (th : Thread) → d f fs (to_frames p (f ∷ fs) th) ≡ d' f fs th) → Acts f g r d'
+acts_as : {f g : Frame} {r : Ending} {d d' : Frame → List Frame → Thread → Turn} (p : ℕ) → Acts f g r d → ((fs : List Frame) (th : Thread) → d f fs (to_frames p (f ∷ fs) th) ≡ d' f fs th) → Acts f g r d'
 acts_as {f} {g} {r} p k t = record { turn = λ fs th. told_alike r (g ∷ fs) fs (f ∷ fs) p th ∙ (k.turn fs (to_frames p (f ∷ fs) th) ∙ t fs th); same = k.same }
 
-goes_acts : {f g : Frame} {p : ℕ} {d : Frame → List Frame → Thread → Turn} → Goes f g p d → Acts f g (Onward p Quiet) d
+goes_acts : {f g : Frame} {p : ℕ} {d : Frame → List Frame → Thread → Turn} → Goes f g p d → Acts f g (Ok (Onward p Quiet)) d
 goes_acts k = record { turn = k.turn; same = λ z. absurd z }
 
 -- ---- 62: what the check answers says all that is read of the base
@@ -125,21 +125,21 @@ next_alike (Next q) b s f fs th = refl
 next_alike Miss b s f fs th = refl
 
 module _ (s : Sight) {f g : Frame} where
-  pub at_62 : {r : Outcome} {c : Check} → c ≡ check s.nodes s.stores f.base → Acts f g r (ride_turn c) → Acts f g r (step_at 62 s)
+  pub at_62 : {r : Ending} {c : Check} → c ≡ check s.nodes s.stores f.base → Acts f g r (ride_turn c) → Acts f g r (step_at 62 s)
   unfolding step_at step
   at_62 ec q = acts_as 62 q (λ fs th. ap (λ (x : Check). ride_turn x f fs (to_frames 62 (f ∷ fs) th)) ec ∙ ride_alike s.nodes s.stores f.base f fs 62 th)
 
   -- v is the top route, or the base in hand
-  pub at_72 : {p y : ℕ} {v : Node} → y ≡ top_of f.stack → v ≡ s.nodes y → Goes f g p (up_turn v) → Acts f g (Onward p Quiet) (step_at 72 s)
+  pub at_72 : {p y : ℕ} {v : Node} → y ≡ top_of f.stack → v ≡ s.nodes y → Goes f g p (up_turn v) → Acts f g (Ok (Onward p Quiet)) (step_at 72 s)
   unfolding step_at step up_turn
   at_72 ey ev q = acts_as 72 (goes_acts q) (λ fs th. ap (λ (b : Node). ascended b f fs (to_frames 72 (f ∷ fs) th)) (ev ∙ ap s.nodes ey))
 
-  pub at_74 : {p k : ℕ} {c : Option ℕ} {v : Node} → k ≡ store_of f.store → c ≡ s.stores k → v ≡ s.nodes f.base → Goes f g p (meet_turn c v) → Acts f g (Onward p Quiet) (step_at 74 s)
+  pub at_74 : {p k : ℕ} {c : Option ℕ} {v : Node} → k ≡ store_of f.store → c ≡ s.stores k → v ≡ s.nodes f.base → Goes f g p (meet_turn c v) → Acts f g (Ok (Onward p Quiet)) (step_at 74 s)
   unfolding step_at step meet_turn
   at_74 ek ec ev q = acts_as 74 (goes_acts q) (λ fs th. ap₂ (λ (x : Option ℕ) (b : Node). met_by x b f fs (to_frames 74 (f ∷ fs) th)) (ec ∙ ap s.stores ek) ev)
 
   -- ---- 64 to 67, 77 to 80: v is the base in hand
-  module _ {r : Outcome} {v : Node} {w : Probe} (p : ℕ) (ev : v ≡ s.nodes f.base) where
+  module _ {r : Ending} {v : Node} {w : Probe} (p : ℕ) (ev : v ≡ s.nodes f.base) where
     pub at_open : w ≡ probe (quarter_of (p - 64)) v.parent s.nodes s.root f.base → 64 ≤ p → p < 68 → Acts f g r (open_turn w v s.used s.shown) → Acts f g r (step_at p s)
     unfolding step_at step open_turn
     at_open ew m o k = acts_as p k (λ fs th. open_alike w v s f fs (to_frames p (f ∷ fs) th)

@@ -6,9 +6,9 @@ use Rattle.definitions.specs.Threads.{Frame, Thread, Turn}
 use Rattle.definitions.specs.Places.{place_of}
 use Rattle.definitions.specs.Queries.{reached_first, reached_next}
 use Rattle.definitions.specs.Steps.{step}
-use Rattle.frames.specs.Outcomes.{told_in}
+use Rattle.frames.specs.Outcomes.{Ending, told_in}
 use Rattle.frames.specs.declared.Outcome.{Outcome}
-use Rattle.frames.specs.declared.Outcome.TheVariants.{Onward, Blocked, Back, Found, NodesOut, StoresOut}
+use Rattle.frames.specs.declared.Outcome.TheVariants.{Onward, Blocked, Back, Found}
 
 -- 60, 61: x is read and pushed on the stack; 71, 73 likewise
 unfoldable pub first_turn : Shapes → ℕ → Frame → List Frame → Thread → Turn
@@ -18,7 +18,7 @@ unfoldable pub next_turn : Shapes → ℕ → Frame → List Frame → Thread �
 next_turn n x f fs th = reached_next n x f fs th
 
 -- the outcome of a thread without frames at the place p; no thread comes here without one
-abbrev pub Bare : Outcome → ℕ → Type 0
+abbrev pub Bare : Ending → ℕ → Type 0
 Bare r p = (s : Sight) (th : Thread) → th.frames ≡ [] → th.place ≡ p → told_in r [] [] th ≡ step (place_of p) s th
 
 -- how many frames the thread has after it, of d
@@ -27,5 +27,3 @@ depth_after (Onward p e) d = d
 depth_after (Blocked x) d = d
 depth_after (Back p) d = d - 1
 depth_after (Found c) d = 0
-depth_after NodesOut d = d
-depth_after StoresOut d = d

@@ -2,8 +2,9 @@
 use Rattle.std.specs.Int.{to_be_bytes}
 use Rattle.std.proofs.Common.{w64}
 use Rattle.std.proofs.Math.Nat.{div-div-eq-div-mul}
-use mathlib.Core.Path.{◌≡◌, refl, ap, ◌∙◌}
-use mathlib.Core.Bool.{not}
+use mathlib.Core.Path.{◌≡◌, refl, sym, ap, ◌∙◌}
+use mathlib.Core.Bool.{Bool, true, false, not}
+use mir.Val.{bool_byte}
 use mathlib.Core.List.{List, [], ◌∷◌}
 use Prim.Native.Nat.{ℕ, ◌*◌, ◌/◌, ◌%◌, ◌≤◌, ◌<◌}
 use native.Mathlib.Decide.{ℕ_discrete}
@@ -40,10 +41,10 @@ shown_number NeighbourBlocked = refl
 shown_number StoodDown = refl
 shown_number Stopped = refl
 
--- the depth and the empty set after its four bytes
-pub depth_bytes : (d : ℕ) → d / 256 ∷ d % 256 ∷ 0 ∷ 0 ∷ 0 ∷ 0 ∷ 0 ∷ 0 ∷ 0 ∷ 0 ∷ [] ≡ wider_row d 0
+-- the depth and the set's eight bytes after its four
+pub wider_bytes : (d c : ℕ) → d / 256 ∷ d % 256 ∷ to_be_bytes w64 c ≡ wider_row d c
 unfolding bytes_of
-depth_bytes d = refl
+wider_bytes d c = simp div-div-eq-div-mul
 
 -- what is written on a page: its buffer's name stays
 module _ {N : Type 0} {a₁ a₂ : N} (p : Page) (v t : ℕ) (th : Notes) (b : Answer) (d : ℕ) {a y : ℕ} (f : a ≡ action_number th.action) (g : y ≡ answer_number b) where
@@ -66,19 +67,10 @@ row_as file v t th fs b d d' w f = elim (ℕ_discrete (version file) 1) [
 
 -- ---- the row of a query
 
--- no depth, and a set's eight bytes
-pub set_bytes : (c : ℕ) → 0 ∷ 0 ∷ to_be_bytes w64 c ≡ wider_row 0 c
-unfolding bytes_of
-set_bytes c = simp div-div-eq-div-mul
-
 -- whether it has a station
-pub found_none : (c : ℕ) → c ≡ 0 → 0 ≡ found_number c
-found_none c e = rw (eq-eqb c 0 e)
-
-pub found_some : (c : ℕ) → (c ≡ 0 → ⊥) → 1 ≡ found_number c
-found_some c e = rw (ne_eqb c 0 e)
-
-pub ruleset found_cases = (found_none, found_some)
+pub found_byte : (b : Bool) {y : ℕ} → y ≡ bool_byte b → y ≡ answer_number (said b)
+found_byte true e = e
+found_byte false e = e
 
 module _ {N : Type 0} {a₁ a₂ : N} (p : Page) (v t : ℕ) (th : Notes) (c : ℕ) {a y : ℕ} {q : Page} (f : a ≡ action_number th.action) (g : y ≡ found_number c)
     (h : (a₂ ≡ a₁) × (q ≡ put_all p (t ∷ a ∷ th.station ∷ y ∷ []))) where
@@ -94,13 +86,14 @@ pub found_as : (file : List ℕ) (v t : ℕ) (th : Notes) (fs : List Frame) (c :
 found_as file v t th fs c w = rw w
 
 -- ---- the refusal of a file and a row buffer
-pub room_one : (v count : ℕ) → v ≡ 1 → 2 * count ≡ ite (eqb v 1) 2 7 * count
-unfolding ite
-room_one v count z = rw (eq-eqb v 1 z)
+module _ (file : List ℕ) {v count : ℕ} (e : v ≡ version file) (i : count ≡ count_of file) where
+  pub room_one : v ≡ 1 → 2 * count ≡ row_room file (count_of file)
+  unfolding ite
+  room_one z = rw (i, eq-eqb (version file) 1 (sym e ∙ z))
 
-pub room_two : (v count : ℕ) → (v ≡ 1 → ⊥) → 7 * count ≡ ite (eqb v 1) 2 7 * count
-unfolding ite
-room_two v count z = rw (ne_eqb v 1 z)
+  pub room_two : (v ≡ 1 → ⊥) → 7 * count ≡ row_room file (count_of file)
+  unfolding ite
+  room_two z = rw (i, ne_eqb (version file) 1 (λ y. z (e ∙ y)))
 
 pub ruleset room_cases = (room_one, room_two)
 

@@ -26,7 +26,7 @@ use Rattle.definitions.specs.Tree.{held_below, tree_held, tree_set, stored_below
 use Rattle.definitions.specs.Versions.{version, stop_of, row_room}
 use Rattle.definitions.specs.Refusal.{code_of}
 use Rattle.definitions.specs.Schedule.{Rec, record_at, count_of, file_refusal}
-use Rattle.definitions.specs.Run.{Progress, advance, after, ended, report_of, overlay, run_refusal, run_report, run_buffer}
+use Rattle.definitions.specs.Run.{refused_report, Progress, advance, after, ended, report_of, overlay, run_refusal, run_report, run_buffer}
 use Rattle.definitions.specs.declared.Refusal.{Refusal}
 use Rattle.definitions.specs.declared.Report.{Report}
 use Rattle.definitions.specs.declared.Stop.{Stop}
@@ -154,7 +154,7 @@ module _ (file first : List ℕ) {n : Shapes} {l : List ℕ} {k : Stores} {s : S
 
 -- ---- the answer
 module _ (file first : List ℕ) {bad : ℕ} (e : bad ≡ run_refusal file (length first)) where
-  pub refused_report_lem : (bad ≡ 0 → ⊥) → record { refusal = bad; records = 0; rows = 0; set = 0; stored = 0; used = 0 } ≡ run_report file (length first)
+  pub refused_report_lem : (bad ≡ 0 → ⊥) → refused_report bad ≡ run_report file (length first)
   unfolding run_report ite
   refused_report_lem z = rw (← e, ne_eqb _ _ z)
 

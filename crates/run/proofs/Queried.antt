@@ -35,7 +35,7 @@ use Rattle.run.specs.Standing.{Stands}
 use Rattle.run.specs.Query.{left_of, Leaves, found_row}
 use Rattle.run.specs.declared.query.Counts.{Counts}
 use Rattle.run.specs.declared.query.Left.{Left}
-use Rattle.run.specs.declared.query.Left.TheVariants.{Goes, Found, Refused}
+use Rattle.run.specs.declared.query.Left.TheVariants.{Goes, Found}
 use Rattle.run.proofs.Cases.{found_as}
 use Rattle.run.proofs.Framed.{no_query}
 use Rattle.run.proofs.Turn.{seen, stand, Asking, here, own_frames, own, wants, asked_on, wants_so, carried_on, refused_at, awake, table_with}
@@ -68,7 +68,7 @@ module _ {file : List ℕ} {k x y e : ℕ} {n : Shapes} {l : List ℕ} {s : Stor
       subst (λ (i : ℕ). Room i (own_frames q)) p (query_fits file k (x / 16 % 4) h (get_or counts (x / 16 % 4) 0) (ap (λ (t : Thread). t.frames) at) (omega (arith, p))).1
 
   -- it leaves r, the nodes n', the depths l', the stores s' and the frames that h' holds
-  module _ (z : a ≡ Ok Step) {n' : Shapes} {l' : List ℕ} {s' : Stores} {h' : ℕ → Frame} {r : Left}
+  module _ (z : a ≡ Ok Step) {n' : Shapes} {l' : List ℕ} {s' : Stores} {h' : ℕ → Frame} {r : Outcome Left Refusal}
       (g : Leaves n l s root used shown h (x / 16 % 4) (get_or counts (x / 16 % 4) 0) (seen threads x end) n' l' s' h' r) where
     left_by : record_step (here q) (last_action file) x y e
         ≡ left_of n' (deepened g.effect n q.stands.deep) s' (stop (stop_of file) count) h' (here q) (x / 16 % 4) (seen threads x end) r
@@ -79,7 +79,7 @@ module _ {file : List ℕ} {k x y e : ℕ} {n : Shapes} {l : List ℕ} {s : Stor
     deep_on same i = let w : length l ≡ 16384 = sym same ∙ i in g.depths w ∙ ap (deepened g.effect n) (q.stands.depths w)
 
     -- its thread goes on: place and base in two stores
-    pub left_on : (u : Notes) {v : Notes} {c : Counts} {p b m : ℕ} → length l' ≡ length l → r ≡ Goes c p b m → ((fs : List Frame) → thread v fs ≡ to_base p b (thread (seen threads x end) fs))
+    pub left_on : (u : Notes) {v : Notes} {c : Counts} {p b m : ℕ} → length l' ≡ length l → r ≡ Ok (Goes c p b m) → ((fs : List Frame) → thread v fs ≡ to_base p b (thread (seen threads x end) fs))
         → Stands n' l' s' (stop (stop_of file) count) (threads_of (set (set threads (x / 16 % 4) u) (x / 16 % 4) v) (set counts (x / 16 % 4) m) h')
         (stand c.root c.used c.shown (Ok tt) (k + 1) finished at) first buffer (after file (k + 1))
     unfolding put_all
@@ -88,7 +88,7 @@ module _ {file : List ℕ} {k x y e : ℕ} {n : Shapes} {l : List ℕ} {s : Stor
         (left_by ∙ rw (o, f (frames_of h' (x / 16 % 4) m))) (deep_on i) (omega arith) refl)
 
     -- it has found a set
-    pub left_found : {v : Notes} {finished' at' : ℕ} {buffer' : List ℕ} (m : ℕ) {c : Counts} {d : ℕ} → length l' ≡ length l → r ≡ Found c d → thread v [] ≡ idle → finished' ≡ 1 + finished
+    pub left_found : {v : Notes} {finished' at' : ℕ} {buffer' : List ℕ} (m : ℕ) {c : Counts} {d : ℕ} → length l' ≡ length l → r ≡ Ok (Found c d) → thread v [] ≡ idle → finished' ≡ 1 + finished
         → m ≡ version file → page buffer' at' ≡ put_all (page buffer at) (found_row m (x / 16 % 4) (seen threads x end) d)
         → Stands n' l' s' (stop (stop_of file) count) (threads_of (set threads (x / 16 % 4) v) (set counts (x / 16 % 4) 0) h')
         (stand c.root c.used c.shown (Ok tt) (k + 1) finished' at') first buffer' (after file (k + 1))
@@ -97,7 +97,7 @@ module _ {file : List ℕ} {k x y e : ℕ} {n : Shapes} {l : List ℕ} {s : Stor
         (ro ∙ ap (put_all (page buffer at)) (found_as file m (x / 16 % 4) (seen threads x end) (own_frames q) d vs))
 
     -- it is refused
-    pub left_refused : (v : Refusal) → r ≡ Refused v
+    pub left_refused : (v : Refusal) → r ≡ Err v
         → Stands n' l' s' (stop (stop_of file) count) (threads_of threads counts h') (stand root used shown (Err v) k finished at) first buffer (after file (k + 1))
     left_refused v o =
         let p = g.same (rw o tt) in

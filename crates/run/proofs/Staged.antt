@@ -37,7 +37,7 @@ use Rattle.run.specs.Query.{goes_to, Leaves, Bare, Rounds, found_row}
 use Rattle.run.specs.declared.Job.{Job}
 use Rattle.run.specs.declared.query.Counts.{Counts}
 use Rattle.run.specs.declared.query.Left.{Left}
-use Rattle.run.specs.declared.query.Left.TheVariants.{Goes, Found, Refused}
+use Rattle.run.specs.declared.query.Left.TheVariants.{Goes, Found}
 use Rattle.run.specs.declared.query.Task.{Task}
 use Rattle.run.specs.declared.query.Task.TheVariants.{Start, Help, Back, Step, Refuse}
 use Rattle.run.proofs.Decided.{reread, written, Decided}
@@ -73,10 +73,17 @@ module _ (file : List ℕ) (k x : ℕ) (n : Shapes) (l : List ℕ) (s : Stores) 
           → page buffer' at' ≡ put_all (page buffer at) (found_row m (x / 16 % 4) (seen threads x end) d)
           → Next file k n' l' s' (set threads (x / 16 % 4) v) (set counts (x / 16 % 4) 0) h' count c.root c.used c.shown finished' at' first buffer'
 
-    abbrev pub Rounded : Left → Type 0
-    Rounded (Goes c p b m) = Going c p b m
-    Rounded (Found c d) = Finding c d
-    Rounded (Refused f) = Stands n' l' s' (stop (stop_of file) count) (threads_of threads counts h') (stand root used shown (Err f) k finished at) first buffer (after file (k + 1))
+    abbrev pub Rounded : Outcome Left Refusal → Type 0
+    Rounded (Ok (Goes c p b m)) = Going c p b m
+    Rounded (Ok (Found c d)) = Finding c d
+    Rounded (Err f) = Stands n' l' s' (stop (stop_of file) count) (threads_of threads counts h') (stand root used shown (Err f) k finished at) first buffer (after file (k + 1))
+
+    -- the same of what it has left
+    pub going : {r : Outcome Left Refusal} {v : Left} {c : Counts} {p b m : ℕ} → r ≡ Ok v → v ≡ Goes c p b m → Rounded r → Going c p b m
+    going e f g = subst Rounded (e ∙ ap Ok f) g
+
+    pub finding_set : {r : Outcome Left Refusal} {v : Left} {c : Counts} {d : ℕ} → r ≡ Ok v → v ≡ Found c d → Rounded r → Finding c d
+    finding_set e f g = subst Rounded (e ∙ ap Ok f) g
 
   -- what `round` relies on, and what it leads to
   pub record Rounding (task : Task) : Type 0 where
@@ -84,7 +91,7 @@ module _ (file : List ℕ) (k x : ℕ) (n : Shapes) (l : List ℕ) (s : Stores) 
     pub wide : (Bare task (get_or counts (x / 16 % 4) 0) → ⊥) → Unasked file → ⊥
     pub more : task ≡ Help → get_or counts (x / 16 % 4) 0 < 4
     pub room : task ≡ Step → (60 ≤ (seen threads x end).place) × Room (seen threads x end).place (frames_of h (x / 16 % 4) (get_or counts (x / 16 % 4) 0))
-    pub on : (n' : Shapes) (l' : List ℕ) (s' : Stores) (h' : ℕ → Frame) (r : Left) → length l' ≡ length l
+    pub on : (n' : Shapes) (l' : List ℕ) (s' : Stores) (h' : ℕ → Frame) (r : Outcome Left Refusal) → length l' ≡ length l
         → Rounds task n l s root used shown h (x / 16 % 4) (get_or counts (x / 16 % 4) 0) (seen threads x end) n' l' s' h' r
         → Rounded n' l' s' h' r
 
@@ -126,12 +133,12 @@ module _ {file : List ℕ} {k x y e : ℕ} {n : Shapes} {l : List ℕ} {s : Stor
     on = by;
   }
     where
-      by : (n' : Shapes) (l' : List ℕ) (s' : Stores) (h' : ℕ → Frame) (r : Left) → length l' ≡ length l
+      by : (n' : Shapes) (l' : List ℕ) (s' : Stores) (h' : ℕ → Frame) (r : Outcome Left Refusal) → length l' ≡ length l
           → Leaves n l s root used shown h (x / 16 % 4) (get_or counts (x / 16 % 4) 0) (seen threads x end) n' l' s' h' r
           → Rounded file k x n l s threads counts h count root used shown finished at first buffer end n' l' s' h' r
-      by n' l' s' h' (Goes c p b j) same g = record { on = λ u f. left_on q z g u same refl f }
-      by n' l' s' h' (Found c d) same g = record { on = λ j o i v ro. left_found q z g j same refl o i v ro }
-      by n' l' s' h' (Refused v) same g = left_refused q z g v refl
+      by n' l' s' h' (Ok (Goes c p b j)) same g = record { on = λ u f. left_on q z g u same refl f }
+      by n' l' s' h' (Ok (Found c d)) same g = record { on = λ j o i v ro. left_found q z g j same refl o i v ro }
+      by n' l' s' h' (Err v) same g = left_refused q z g v refl
 
   -- a refusal, whatever it is for; it may have noted what is the same
   pub round_refused : {threads' : List Notes} {count' : ℕ} → threads' ≡ threads → count' ≡ count → (v : Refusal)

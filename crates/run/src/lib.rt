@@ -12,17 +12,15 @@ ghost use Rattle.answers.specs.Reachable.{Unasked};
 ghost use Rattle.buffer.specs.Page.{page, put_all};
 ghost use Rattle.buffer.specs.Writes.{Writes};
 ghost use Rattle.definitions.specs.Nodes.{shape, empty_base};
-ghost use Rattle.definitions.specs.Answers.{answer_number};
-ghost use Rattle.definitions.specs.Records.{action_number};
 ghost use Rattle.definitions.specs.Refusal.{code_of};
 ghost use Rattle.definitions.specs.Schedule.{count_of};
-ghost use Rattle.definitions.specs.Versions.{version, by, width};
+ghost use Rattle.definitions.specs.Versions.{version, by, width, row_room};
 ghost use Rattle.definitions.specs.Run.{ended, report_of, overlay, wider_row, run_refusal, run_report, run_buffer};
 ghost use Rattle.run.specs.Threads.{recounted};
 ghost use Rattle.run.specs.Standing.{Lent, Spare, Enough, row_of, Carried, Handed};
 
 use buffer::Page;
-use definitions::{Action, Answer, Nodes, Refusal, Report, Stop};
+use definitions::{Action, Answer, Nodes, Place, Refusal, Report, Stop, Version};
 use frames::Frames;
 use frames::frame::Frame;
 use machine::Asked;
@@ -32,7 +30,8 @@ use steps::{Decision, Note, Notes, search};
 
 pub mod query; // a step at a place from 60 on, and the row of a query
 
-// Where a run stands. `at` is where the next row goes; `frames` has how many frames each thread has, `count` is that of the stop.
+// Where a run stands. `at` is where the next row goes; `frames` has how many frames each thread has, `count` is that of the stop. Two arrays of
+// four, not one: a step gets a copy of its thread's notes, and has no use for the number of frames. There is no heap.
 #[derive(Clone, Copy)]
 pub struct Standing {
     pub root: u8,
@@ -47,7 +46,8 @@ pub struct Standing {
     pub count: usize,
 }
 
-// What is left to do once a record has been looked at: nothing, the row of an answer, or what has to do with frames.
+// What is left to do once a record has been looked at: nothing, the row of an answer, or what has to do with frames. A switch in two steps:
+// what several ways lead to is written once.
 #[derive(Clone, Copy)]
 enum Job {
     Nothing,
@@ -55,7 +55,7 @@ enum Job {
     Task(Task),
 }
 
-// A refusal's number in a report, 0 for none.
+// A refusal's number in a report, 0 for none. A number, for reports and a state have it so; no `From`, for `Result` and `u8` are both the library's.
 pub fn code(outcome: Result<(), Refusal>) -> u8
     ensures { result ≡ code_of outcome }
 {
@@ -65,66 +65,34 @@ pub fn code(outcome: Result<(), Refusal>) -> u8
     }
 }
 
-// An action's number in a row.
-pub fn action_number(a: Action) -> u8
-    ensures { result ≡ action_number a }
-{
-    match a {
-        Action::Lookup => 1,
-        Action::Insert => 2,
-        Action::Remove => 3,
-        Action::Split => 4,
-        Action::Join => 5,
-        Action::Query => 6,
-    }
-}
-
-// An answer's number in a row.
-pub fn answer_number(a: Answer) -> u8
-    ensures { result ≡ answer_number a }
-{
-    match a {
-        Answer::No => 0,
-        Answer::Yes => 1,
-        Answer::At(_) => 1,
-        Answer::Lacking => 2,
-        Answer::Blocked => 3,
-        Answer::Lost => 4,
-        Answer::NeighbourBlocked => 5,
-        Answer::StoodDown => 6,
-        Answer::Stopped => 7,
-    }
-}
-
-// What a row has after its four bytes from version 2 on: the depth, and no set.
-#[tactic(auto, using(crate::proofs::Cases::depth_bytes, buffer::proofs::Writes::said))]
-fn put_depth(page: &mut Page, depth: u16)
-    ensures { Writes page.old page.new (wider_row depth 0) }
+// What a row has after its four bytes from version 2 on: a depth, and a set. Inlined: by a call, runs of versions 2 and 3 take 10 % longer.
+#[inline]
+#[tactic(auto, using(crate::proofs::Cases::wider_bytes, buffer::proofs::Writes::said))]
+fn put_wider(page: &mut Page, depth: u16, set: u64)
+    ensures { Writes page.old page.new (wider_row depth set) }
 {
     let [high, low] = depth.to_be_bytes();
-    page.put_all(&[high, low, 0, 0, 0, 0, 0, 0, 0, 0]);
+    let [b7, b6, b5, b4, b3, b2, b1, b0] = set.to_be_bytes();
+    page.put_all(&[high, low, b7, b6, b5, b4, b3, b2, b1, b0]);
 }
 
-// The row of thread t, which was th and has its answer, in a file of version v; from version 2 on with a lookup's depth.
-fn write_row(page: &mut Page, v: u8, t: u8, th: Notes, answer: Answer, depths: &[u16])
+// The row of thread t, which was th and has its answer, in a file of version v; from version 2 on with a lookup's depth. `query::write_found` is
+// not one with it: an answer's row has a depth, which is read from version 2 on alone, and a query's a set.
+fn write_row(page: &mut Page, v: Version, t: u8, th: Notes, answer: Answer, depths: &[u16])
     ensures { Writes page.old page.new (row_of v t th answer (depth_by answer (depthRows depths.now) th.station)) }
 {
-    page.put_all(&[
-        t,
-        action_number(th.action),
-        th.station,
-        answer_number(answer),
-    ]);
+    page.put_all(&[t, u8::from(th.action), th.station, u8::from(answer)]);
     if v != 1 {
-        put_depth(page, machine::depth_of(depths, answer, th.station));
+        put_wider(page, machine::depth_of(depths, answer, th.station), 0);
     }
 }
 
-// The same into the lent buffer, from `at` on; gives where the next one goes.
+// The same into the lent buffer, from `at` on; gives where the next one goes. `rows` and `at` are no `Page` here, nor in `query::put_found`, and
+// would be no plainer as one: the loop hands `at` out in its standing, whose field stays as callers know it, and its proof speaks of rows and `at`.
 pub fn put_row(
     rows: &mut [u8],
     at: usize,
-    v: u8,
+    v: Version,
     t: u8,
     th: Notes,
     answer: Answer,
@@ -137,8 +105,8 @@ pub fn put_row(
     page.at
 }
 
-// The count of the stop after a step at this place.
-fn recount(place: u8, count: usize) -> usize
+// The count of the stop after a step at this place. A match on 01's places, as in the parts of steps (`decide_join` says why).
+fn recount(place: Place, count: usize) -> usize
     requires { (count < 5) × (place ≡ 5 → 0 < count) }
     ensures { result ≡ recounted place count }
 {
@@ -159,9 +127,13 @@ fn extra_at(schedule: &[u8], from: usize) -> u16
 
 // All records of a file that is not refused, from a fresh bench; the first one refused ends them. A thread's record changes where it
 // lies; what decides a step gets a copy, made once the place is known, so that only the notes it reads are loaded. Version 1 has a way of
-// its own to ask, so that it pays nothing for what the others have more. `frames` has how many frames each thread has; the arrays that
-// hold them may hold anything at first. A file that asks for no query has no frame and no result of a store, and may be lent no memory for
-// them.
+// its own to ask, so that it pays nothing for what the others have more (a long run takes no more than at the start: docs/DESIGN-PASS.md,
+// "Speed"). `frames` has how many frames each thread has; the arrays that hold them may hold anything at first. A file that asks for no query has
+// no frame and no result of a store, and may be lent no memory for them. That the file is proper is told to the few that carry it out: a
+// struct around C's slice would say the same, and each would open it. What decides a step is asked for by an `if` on each range of places, in the
+// order of their numbers, the search first; a match would have the same ranges as its arms, and be no plainer. The loop moves `from` by hand:
+// the branch that reads a record by its version knows where the next one starts; `step_by` would have the width beside it, and the count of the
+// records still. Bytes are read at `from`, for there are no chunks of one width in a file of any version.
 pub fn carry_out(
     nodes: &mut Nodes,
     depths: &mut [u16],
@@ -240,10 +212,7 @@ pub fn carry_out(
                             root,
                             used,
                             shown,
-                            stop: Stop {
-                                on,
-                                count: count as u8,
-                            },
+                            stop: Stop { on, count },
                         };
                         let d = if place == 3 {
                             search::examine(&view, threads[t])
@@ -253,7 +222,9 @@ pub fn carry_out(
                         } else if place < 14 {
                             steps::decide_swap(&view, threads[t])
                         } else {
-                            steps::decide_join(&view, threads[t])
+                            // a copy, so that the view lies in memory for these places alone
+                            let seen = view;
+                            steps::decide_join(&seen, threads[t])
                         };
                         match d {
                             Decision::Goes {
@@ -297,7 +268,7 @@ pub fn carry_out(
                 }
                 // a query's start has a frame
                 Asked::Start(action) => {
-                    threads[t] = machine::begin(action, y, extra);
+                    threads[t] = machine::start(action, y, extra);
                     frames[t] = 0;
                     match action {
                         Action::Query => Job::Task(Task::Start),
@@ -327,12 +298,14 @@ pub fn carry_out(
                     threads[t],
                 );
                 match left {
-                    Left::Goes {
-                        counts,
-                        place: to,
-                        base,
-                        frames: depth,
-                    } => {
+                    Ok(
+                        Left::Goes {
+                            counts,
+                            place: to,
+                            base,
+                            frames: depth,
+                        },
+                    ) => {
                         root = counts.root;
                         used = counts.used;
                         shown = counts.shown;
@@ -340,7 +313,7 @@ pub fn carry_out(
                         threads[t].base = base;
                         frames[t] = depth;
                     }
-                    Left::Found { counts, set } => {
+                    Ok(Left::Found { counts, set }) => {
                         root = counts.root;
                         used = counts.used;
                         shown = counts.shown;
@@ -349,7 +322,7 @@ pub fn carry_out(
                         threads[t] = idle;
                         frames[t] = 0;
                     }
-                    Left::Refused(refusal) => {
+                    Err(refusal) => {
                         return Standing {
                             root,
                             used,
@@ -383,20 +356,22 @@ pub fn carry_out(
     }
 }
 
-// The bytes of a row buffer that Run asks for in version v.
-#[tactic(auto, unfolding(container::specs::Choice::ite))]
-fn room_for(v: u8, count: usize) -> usize
-    requires { count ≤ 4096 }
-    ensures { result ≡ ite (eqb v 1) 2 7 * count }
+// The bytes of a row buffer that Run asks for.
+#[tactic(auto, using(crate::proofs::Cases::room_cases))]
+fn room_for(schedule: &[u8]) -> usize
+    requires { Proper schedule.now }
+    ensures { result ≡ row_room schedule.now (count_of schedule.now) }
 {
-    match v {
+    let count = schedule::count_of(schedule);
+    match schedule::version_of(schedule) {
         1 => 2 * count,
         _ => 7 * count,
     }
 }
 
 // Whether a file from version 2 on may ask for a query: not if it has at most 64 records and none of them does. So many are looked at
-// sooner than the memory for queries is cleared; the run of a longer file takes far longer than either.
+// sooner than the memory for queries is cleared; the run of a longer file takes far longer than either. A loop: with `any` over the same `step_by`
+// no proof closes.
 pub fn may_ask(schedule: &[u8]) -> bool
     ensures { result ≡ false → Unasked schedule.now }
 {
@@ -411,21 +386,23 @@ pub fn may_ask(schedule: &[u8]) -> bool
     false
 }
 
-// Whether Run can be asked of a file and a row buffer of `room` bytes.
+// Whether Run can be asked of a file and a row buffer of `room` bytes. List and State have a `check` each, of another size and another refusal;
+// History's is of version 1 alone, and of a size of its own.
 pub fn check(schedule: &[u8], room: usize) -> Result<(), Refusal>
     ensures refusal { code_of result ≡ run_refusal schedule.now room }
     ensures proper { OnOk result (Proper schedule.now) }
 {
     schedule::check(schedule)?;
-    let count = schedule::count_of(schedule);
-    if room < room_for(schedule[0], count) {
+    if room < room_for(schedule) {
         return Err(Refusal::RowBuffer);
     }
     Ok(())
 }
 
 // Run of a file that is not refused, with so many depths, results of stores, and frames. Each instance has a stack frame of its own: inlined,
-// the depths of all would lie in one.
+// the depths of all would lie in one. List and State have a `report` each: what comes of the standing is a report here, a text and a state there.
+// `Proper` and `Enough` are told to each of the three: they tie the file to the sizes, and a struct of the two would be made by its caller from the
+// same two facts. The memory is fixed, for there is no heap.
 #[inline(never)]
 fn report<const DEPTHS: usize, const RESULTS: usize, const FRAMES: usize>(
     schedule: &[u8],
@@ -464,14 +441,7 @@ pub fn run(schedule: &[u8], rows: &mut [u8]) -> Report
     ensures { (result ≡ run_report schedule.now (length rows.old)) × (rows.new ≡ run_buffer schedule.now rows.old) }
 {
     if let Err(r) = check(schedule, rows.len()) {
-        return Report {
-            refusal: u64::from(r),
-            records: 0,
-            rows: 0,
-            set: 0,
-            stored: 0,
-            used: 0,
-        };
+        return Report::from(r);
     }
     if schedule[0] == 1 {
         report::<0, 0, 0>(schedule, rows)

@@ -7,10 +7,12 @@ ghost use Rattle.definitions.specs.Merge.{fault};
 ghost use Rattle.definitions.specs.Refusal.{code_of};
 ghost use Rattle.container.specs.Choice.{ite};
 ghost use Rattle.schedule.specs.Proper.{Proper, Plain};
+ghost use Rattle.schedule.specs.Records.{Pairs};
 
-use definitions::Refusal;
+use definitions::{Refusal, Version};
 
-// A record: its first byte, its second, and its last two as one number (0 in version 1).
+// A record: its first byte, its second, and its last two as one number. In version 1 it has no more than two and the number is 0, as it
+// has to be in later versions where the action has no use for it: an Option would be turned into that 0.
 #[derive(Clone, Copy, PartialEq, Eq, Debug)]
 pub struct Record {
     pub first: u8,
@@ -18,11 +20,11 @@ pub struct Record {
     pub extra: u16,
 }
 
-// A schedule, read as a file of a version, and the byte at which the next record starts.
+// A schedule, read as a file of a version, and the byte at which the next record starts: an iterator is a slice and where it stands.
 #[derive(Clone, Copy)]
 pub struct Reader<'a> {
     pub schedule: &'a [u8],
-    pub version: u8,
+    pub version: Version,
     pub at: usize,
 }
 
@@ -38,7 +40,7 @@ pub fn count_of(s: &[u8]) -> usize
 }
 
 // The version that the header states.
-pub fn version_of(s: &[u8]) -> u8
+pub fn version_of(s: &[u8]) -> Version
     requires { 3 ≤ length s.now }
     ensures { result ≡ version s.now }
 {
@@ -47,15 +49,15 @@ pub fn version_of(s: &[u8]) -> u8
 
 // There are versions 1 to 3.
 #[tactic(auto, using(crate::proofs::Laws::known_cases))]
-fn is_known(v: u8) -> bool
+fn is_known(v: Version) -> bool
     ensures { result ≡ (eqb v 1 || (eqb v 2 || eqb v 3)) }
 {
     matches!(v, 1 | 2 | 3)
 }
 
-// The length of a file of version v with n records.
+// The length of a file of version v with n records; also where the record after them starts.
 #[tactic(auto, using(crate::proofs::Laws::length_cases))]
-fn length_of(v: u8, n: usize) -> usize
+pub fn length_of(v: Version, n: usize) -> usize
     requires { n ≤ 4096 }
     ensures { result ≡ 3 + ite (eqb v 1) 2 4 * n }
 {
@@ -104,11 +106,19 @@ pub fn check_plain(s: &[u8]) -> Result<(), Refusal>
 
 // ---- the records
 
+// The records of a file of version 1, two bytes each.
+pub fn records(s: &[u8]) -> &[[u8; 2]]
+    requires { Plain s.now }
+    ensures { Pairs s.now result.now }
+{
+    s[3..].as_chunks::<2>().0
+}
+
 impl<'a> Reader<'a> {
     ghost use Rattle.std.specs.Prelude.{◌≡◌};
 
     // A reader of a file of version v, at a position.
-    pub fn new(schedule: &'a [u8], version: u8, at: usize) -> Self
+    pub fn new(schedule: &'a [u8], version: Version, at: usize) -> Self
         ensures file { result.schedule ≡ schedule.entry }
         ensures version { result.version ≡ version }
         ensures position { result.at ≡ at }
@@ -130,7 +140,8 @@ impl Iterator for Reader<'_> {
 
     ghost remaining = { left_in };
 
-    // The record at the position, of two bytes or of four; the position is then that of the one after.
+    // The record at the position, of two bytes or of four; the position is then that of the one after. An arm for each
+    // of the two widths.
     fn next(&mut self) -> Option<Record> {
         let rest = self.schedule.get(self.at..)?;
         match rest {

@@ -3,7 +3,7 @@
 
 use definitions::Report;
 
-// What Tally hands back: Run's own answer, and beside it the tally's refusal, 19, or 0 for none.
+// What Tally hands back: Run's own answer, and beside it the tally's refusal, 19, or 0 for none. The C header states both as numbers.
 #[derive(Clone, Copy)]
 pub struct Tallied {
     pub report: Report,

@@ -1,11 +1,13 @@
 -- The bytes of a thread and of a frame in the parts in which the code writes them, one after another.
-use Rattle.std.specs.Prelude.{ℕ, List, [], ◌∷◌, ◌++◌, ltb, Some}
+use Rattle.std.specs.Prelude.{ℕ, Bool, eqb, List, [], ◌∷◌, ◌++◌, ltb, Some}
 use Rattle.container.specs.Choice.{ite}
 use Rattle.definitions.specs.Threads.{Frame, Thread}
 use Rattle.definitions.specs.Records.{action_number, is_idle}
 use Rattle.definitions.specs.Run.{bytes_of}
 use Rattle.snapshot.specs.Layout.{zeros, flag, noted, side_number, frame_bytes}
-use Rattle.snapshot.specs.Layout.{has_route, has_read, has_base, has_parent, has_side, has_found, has_neighbour, has_main, has_grandparent, has_other, has_done}
+use Rattle.snapshot.specs.Layout.{has_route, has_read, has_base, has_parent, has_side, has_found, has_neighbour, has_main, has_grandparent, has_other, has_done, has_hand, has_stack, has_backup}
+use Rattle.snapshot.specs.declared.places.Field.{Field}
+use Rattle.snapshot.specs.declared.places.Field.TheVariants.{Route, Read, Base, Parent, Side, Found, Neighbour, Main, Grandparent, Other, Hand, Popped, Key, Stack, Backup, Done}
 
 -- ---- a thread's first 32 bytes
 
@@ -46,14 +48,27 @@ late th =
 
 -- ---- a frame; p is its thread's place, or 0
 
--- whether a base is done; the stations done
-abbrev pub begun_of : ℕ → Frame → ℕ
-begun_of p f = ite (has_done p) (flag f.begun) 0
-
-abbrev pub done_of : ℕ → Frame → ℕ
-done_of p f = ite (has_done p) f.done 0
-
 -- the frame on top, or the room for it
 abbrev pub top_bytes : ℕ → List Frame → List ℕ
 top_bytes p [] = zeros 196
 top_bytes p (f ∷ fs) = frame_bytes p f
+
+-- ---- which notes there are at a place
+
+abbrev pub is_at : Field → ℕ → Bool
+is_at Route p = has_route p
+is_at Read p = has_read p
+is_at Base p = has_base p
+is_at Parent p = has_parent p
+is_at Side p = has_side p
+is_at Found p = has_found p
+is_at Neighbour p = has_neighbour p
+is_at Main p = has_main p
+is_at Grandparent p = has_grandparent p
+is_at Other p = has_other p
+is_at Hand p = has_hand p
+is_at Popped p = eqb p 70
+is_at Key p = eqb p 72
+is_at Stack p = has_stack p
+is_at Backup p = has_backup p
+is_at Done p = has_done p

@@ -1,5 +1,5 @@
 // The bytes that a state is made of, written on a page.
-ghost use Rattle.std.specs.Prelude.{◌≡◌};
+ghost use Rattle.std.specs.Prelude.{◌≡◌, ◌≤◌};
 ghost use Rattle.buffer.specs.Writes.{Writes};
 ghost use Rattle.definitions.specs.Run.{bytes_of};
 ghost use Rattle.snapshot.specs.Layout.{zeros, link_bytes, noted, shared_bytes};
@@ -14,9 +14,7 @@ pub fn put_zeros(out: &mut Page, n: usize)
     let at = out.at;
     let len = out.bytes.len();
     if n <= len && at <= len - n {
-        for k in 0..n {
-            out.bytes[at + k] = 0;
-        }
+        out.bytes[at..at + n].fill(0);
         out.at = at + n;
         return;
     }
@@ -25,29 +23,17 @@ pub fn put_zeros(out: &mut Page, n: usize)
     }
 }
 
-// A number's low byte, its low two, and all eight.
-#[tactic(auto, using(buffer::proofs::Writes::writes), unfolding(definitions::specs::Run::bytes_of))]
-pub fn put_one(out: &mut Page, n: u64)
-    ensures { Writes out.old out.new (bytes_of 1 n) }
+// The last N bytes of a number.
+#[tactic(auto, using(buffer::proofs::Writes::writes))]
+pub fn put_number<const N: usize>(out: &mut Page, n: u64)
+    requires { N ≤ 8 }
+    ensures { Writes out.old out.new (bytes_of N n) }
 {
-    out.put((n % 256) as u8);
+    out.put_all(&n.to_be_bytes()[8 - N..]);
 }
 
-#[tactic(auto, using(buffer::proofs::Writes::writes), unfolding(definitions::specs::Run::bytes_of))]
-pub fn put_pair(out: &mut Page, n: u64)
-    ensures { Writes out.old out.new (bytes_of 2 n) }
-{
-    out.put_all(&[(n / 256 % 256) as u8, (n % 256) as u8]);
-}
-
-#[tactic(auto, using(buffer::proofs::Writes::writes, buffer::proofs::Writes::word_bytes))]
-pub fn put_word(out: &mut Page, c: u64)
-    ensures { Writes out.old out.new (bytes_of 8 c) }
-{
-    out.put_all(&c.to_be_bytes());
-}
-
-// A number or none.
+// A number or none. None is two zeros here and nine in `put_shared`, and what is there is written by another call: one generic function of the two
+// would take both as parameters, and be no plainer.
 pub fn put_link(out: &mut Page, l: Option<u8>)
     ensures { Writes out.old out.new (link_bytes l) }
 {
@@ -57,7 +43,8 @@ pub fn put_link(out: &mut Page, l: Option<u8>)
     }
 }
 
-// The same of what is there only where c is true.
+// The same of what is there only where c is true. The flag stands beside the link: callers have it as a bool of the place, and `then_some` at
+// each of their eleven calls would be no plainer.
 #[tactic(auto, using(buffer::proofs::Writes::writes), unfolding(crate::specs::Layout::noted, container::specs::Choice::ite))]
 pub fn put_noted(out: &mut Page, c: bool, l: Option<u8>)
     ensures { Writes out.old out.new (noted c l) }
@@ -77,7 +64,7 @@ pub fn put_shared(out: &mut Page, s: Option<u64>)
         None => put_zeros(out, 9),
         Some(c) => {
             out.put(1);
-            put_word(out, c);
+            put_number::<8>(out, c);
         }
     }
 }

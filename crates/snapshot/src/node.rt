@@ -9,15 +9,18 @@ ghost use Rattle.depths.specs.Rows.{rows, full};
 ghost use Rattle.definitions.specs.Nodes.{is_route};
 ghost use Rattle.definitions.specs.declared.Kind.TheVariants.{Main};
 ghost use Rattle.definitions.specs.declared.Stage.TheVariants.{Completing};
-ghost use Rattle.snapshot.specs.Layout.{each, kind_number, stage_number, agreed_bytes, own_bytes, depth_bytes, node_bytes, reached_below};
+ghost use Rattle.snapshot.specs.Layout.{each, agreed_bytes, own_bytes, depth_bytes, node_bytes, reached_below};
 ghost use Rattle.snapshot.specs.Fields.{plain, based, field_bytes};
 
-use super::bytes::{put_link, put_pair, put_shared, put_word, put_zeros};
+use super::bytes::{put_link, put_number, put_shared, put_zeros};
 use buffer::Page;
-use definitions::{Kind, Node, Nodes, Stage};
+use definitions::{Kind, Node, Nodes, Stage, Version};
+use nodes::Results;
 
-// Marks node x, whose range is given, and what is below it as reachable.
-pub fn reach(nodes: &Nodes, ranges: &mut [Option<u64>; 256], x: u8, range: u64, levels: u8)
+// Marks node x, whose range is given, and what is below it as reachable. It walks as tree's `set_below` does, but marks each node on the way:
+// a walk of both would take what is done at a node as a parameter, and be no plainer.
+#[tactic(auto, using(crate::proofs::Reached::reached_cases))]
+pub fn reach(nodes: &Nodes, ranges: &mut Results, x: u8, range: u64, levels: u8)
     ensures { stores ranges.new ≡ reached_below levels (table nodes.now) x range (stores ranges.old) }
 {
     nodes::fill(ranges, x, range);
@@ -31,29 +34,6 @@ pub fn reach(nodes: &Nodes, ranges: &mut [Option<u64>; 256], x: u8, range: u64, 
         let high = container::upper(range, n.key);
         reach(nodes, ranges, n.left, low, levels - 1);
         reach(nodes, ranges, n.right, high, levels - 1);
-    }
-}
-
-fn kind_number(k: Kind) -> u8
-    ensures { result ≡ kind_number k }
-{
-    match k {
-        Kind::Normal => 0,
-        Kind::Route => 1,
-        Kind::Main => 2,
-        Kind::Neighbour => 3,
-        Kind::Range => 4,
-    }
-}
-
-fn stage_number(s: Stage) -> u8
-    ensures { result ≡ stage_number s }
-{
-    match s {
-        Stage::Preparing => 1,
-        Stage::Completing => 2,
-        Stage::Aborted => 3,
-        Stage::Done => 4,
     }
 }
 
@@ -82,9 +62,7 @@ fn put_agreed(out: &mut Page, n: Node)
 fn put_main(out: &mut Page, n: Node)
     ensures { Writes out.old out.new (own_bytes Main (plain n)) }
 {
-    let stage = n.stage;
-    let number = stage_number(stage);
-    out.put_all(&[number, 0]);
+    out.put_all(&[n.stage as u8, 0]);
     put_agreed(out, n);
     put_zeros(out, 6);
 }
@@ -96,7 +74,7 @@ fn put_base(out: &mut Page, n: Node)
     let parent = n.parent;
     put_zeros(out, 6);
     put_link(out, parent);
-    put_word(out, n.container);
+    put_number::<8>(out, n.container);
 }
 
 // The fields of a node, 32 bytes.
@@ -135,7 +113,8 @@ pub fn put_fields(out: &mut Page, n: Node)
 }
 
 // The depths of the stations of c in node x, two bytes each.
-pub fn put_depths(out: &mut Page, version: u8, depths: &[u16], x: u8, c: u64)
+#[tactic(auto, using(buffer::proofs::Writes::writes, crate::proofs::NodeCases::next_past))]
+pub fn put_depths(out: &mut Page, version: Version, depths: &[u16], x: u8, c: u64)
     ensures { Writes out.old out.new (each (depth_bytes (version ∷ []) (container c (rows depths.now x))) 64) }
 {
     if version == 1 {
@@ -146,7 +125,7 @@ pub fn put_depths(out: &mut Page, version: u8, depths: &[u16], x: u8, c: u64)
         put_zeros(out, 128);
         return;
     }
-    // from one station of c to the next; between two there are zeros alone
+    // no for: s goes from one station of c to the next, and between two there are zeros alone
     let mut s = 0u8;
     while s < 64 {
         let rest = container::upper(c, s);
@@ -155,21 +134,23 @@ pub fn put_depths(out: &mut Page, version: u8, depths: &[u16], x: u8, c: u64)
         s = low;
         if low < 64 {
             let d = depths::depth_at(depths, x, low);
-            put_pair(out, u64::from(d));
+            put_number::<2>(out, u64::from(d));
             s = low + 1;
         }
     }
 }
 
 // The container that a node holds: none of a route.
+#[tactic(auto, using(crate::proofs::NodeCases::node_cases))]
 fn holding(n: Node) -> u64
     ensures { result ≡ ite (is_route n.kind) 0 n.container }
 {
     let kind = n.kind;
     if nodes::is_route(kind) {
-        return 0;
+        0
+    } else {
+        n.container
     }
-    n.container
 }
 
 // Node x, 176 bytes; `range` is its range where it is reachable.
@@ -178,17 +159,15 @@ pub fn put_node(
     out: &mut Page,
     nodes: &Nodes,
     depths: &[u16],
-    version: u8,
+    version: Version,
     range: Option<u64>,
     x: u8,
 )
     ensures { Writes out.old out.new (node_bytes (version ∷ []) range (full (table nodes.now) (rows depths.now) x)) }
 {
     let n = nodes::node_at(nodes, x);
-    let kind = n.kind;
-    let number = kind_number(kind);
     let held = holding(n);
-    out.put(number);
+    out.put(n.kind as u8);
     put_shared(out, range);
     put_fields(out, n);
     put_zeros(out, 6);

@@ -2,76 +2,58 @@
 ghost use Rattle.std.specs.Prelude.{◌≡◌, [], ◌++◌};
 ghost use Rattle.buffer.specs.Writes.{Writes};
 ghost use Rattle.steps.specs.Decision.{thread};
-ghost use Rattle.definitions.specs.Records.{action_number};
 ghost use Rattle.snapshot.specs.Layout.{thread_head};
 ghost use Rattle.snapshot.specs.Parts.{number_of, read_of, side_of, own_of, operation, flags, early, late};
 
-use super::bytes::{put_noted, put_one, put_pair, put_zeros};
-use super::places;
+use super::bytes::{put_noted, put_number, put_zeros};
+use super::places::Field;
 use buffer::Page;
-use definitions::Action;
 use steps::Notes;
 
-// An action's number.
-fn action_number(a: Action) -> u8
-    ensures { result ≡ action_number a }
-{
-    match a {
-        Action::Lookup => 1,
-        Action::Insert => 2,
-        Action::Remove => 3,
-        Action::Split => 4,
-        Action::Join => 5,
-        Action::Query => 6,
-    }
-}
-
-// The number of its action, 0 of an idle thread.
+// The number of its action. A state has 0 there of an idle thread, as of each note below that is not there.
+#[tactic(auto, using(crate::proofs::Heads::number_cases))]
 fn number_of(th: Notes) -> u8
     ensures { result ≡ number_of (thread th []) }
 {
     if th.place == 0 {
-        return 0;
+        0
+    } else {
+        u8::from(th.action)
     }
-    let action = th.action;
-    action_number(action)
 }
 
 // Routes read, 8 for more.
+#[tactic(auto, using(crate::proofs::Heads::read_cases))]
 fn read_of(th: Notes) -> u8
     ensures { result ≡ read_of (thread th []) }
 {
-    if th.place == 2 {
-        if th.read < 8 {
-            return th.read;
-        }
-        return 8;
+    if Field::Read.is_at(th.place) {
+        th.read.min(8)
+    } else {
+        0
     }
-    0
 }
 
 // 1 for the left child, 2 for the right.
+#[tactic(auto, using(crate::proofs::Heads::side_cases))]
 fn side_of(th: Notes) -> u8
     ensures { result ≡ side_of (thread th []) }
 {
-    if places::spans(22, 34, th.place) {
-        if th.left {
-            return 1;
-        }
-        return 2;
+    if !Field::Side.is_at(th.place) {
+        0
+    } else if th.left {
+        1
+    } else {
+        2
     }
-    0
 }
 
 // Whether the main is its own.
-#[tactic(auto, using(buffer::proofs::Writes::writes), unfolding(container::specs::Choice::ite))]
+#[tactic(auto, unfolding(container::specs::Choice::ite))]
 fn own_of(th: Notes) -> u8
     ensures { result ≡ own_of (thread th []) }
 {
-    if places::has_main(th.place) {
-        return u8::from(th.owner);
-    }
-    0
+    u8::from(Field::Main.is_at(th.place) && th.owner)
 }
 
 // Its operation.
@@ -80,7 +62,7 @@ fn put_operation(out: &mut Page, th: Notes)
 {
     let number = number_of(th);
     out.put_all(&[th.place, number, th.station]);
-    put_pair(out, u64::from(th.extra));
+    put_number::<2>(out, u64::from(th.extra));
 }
 
 // Its notes that are no nodes.
@@ -98,14 +80,10 @@ fn put_early(out: &mut Page, th: Notes)
     ensures { Writes out.old out.new (early (thread th [])) }
 {
     let p = th.place;
-    let has_route = places::has_route(p);
-    let has_base = places::has_base(p);
-    let has_parent = places::spans(19, 37, p);
-    let has_found = places::spans(24, 29, p);
-    put_noted(out, has_route, Some(th.route));
-    put_noted(out, has_base, Some(th.base));
-    put_noted(out, has_parent, Some(th.parent));
-    put_noted(out, has_found, Some(th.found));
+    put_noted(out, Field::Route.is_at(p), Some(th.route));
+    put_noted(out, Field::Base.is_at(p), Some(th.base));
+    put_noted(out, Field::Parent.is_at(p), Some(th.parent));
+    put_noted(out, Field::Found.is_at(p), Some(th.found));
 }
 
 // Its nodes after that.
@@ -113,14 +91,11 @@ fn put_late(out: &mut Page, th: Notes)
     ensures { Writes out.old out.new (late (thread th [])) }
 {
     let p = th.place;
-    let has_neighbour = places::spans(30, 35, p);
-    let has_main = places::has_main(p);
-    let has_grandparent = places::spans(33, 36, p);
     let grandparent = th.grandparent;
-    put_noted(out, has_neighbour, Some(th.neighbour));
-    put_noted(out, has_main, Some(th.main));
-    put_noted(out, has_grandparent, grandparent);
-    put_noted(out, p == 35, Some(th.other));
+    put_noted(out, Field::Neighbour.is_at(p), Some(th.neighbour));
+    put_noted(out, Field::Main.is_at(p), Some(th.main));
+    put_noted(out, Field::Grandparent.is_at(p), grandparent);
+    put_noted(out, Field::Other.is_at(p), Some(th.other));
 }
 
 // Its first 24 bytes.
@@ -138,6 +113,6 @@ pub fn put_head(out: &mut Page, th: Notes, n: u64)
     ensures { Writes out.old out.new (thread_head n (thread th [])) }
 {
     put_notes(out, th);
-    put_one(out, n);
+    put_number::<1>(out, n);
     put_zeros(out, 7);
 }

@@ -1,20 +1,20 @@
 -- State of the first k records of a file, by the file that they are of their own; and the answer, by the refusals. Assumes nothing.
 use mathlib.Core.Path.{◌≡◌, refl, sym, ap, ◌∙◌, subst}
 use mathlib.Core.List.{List, [], ◌∷◌}
-use Prim.Native.Nat.{ℕ, zero, suc, ◌+◌, ◌*◌, ◌/◌, ◌%◌, ◌≤◌, ◌<◌}
+use Prim.Native.Nat.{ℕ, zero, suc, ◌≤◌, ◌<◌}
 use native.Mathlib.Omega.{arith}
 use borrow.Author.Tests.{eq-eqb, ne_eqb, lt-ltb, le-ltb}
 use lib.Dec.{eqb, ltb}
-use lib.ListN.{length, take, set}
+use lib.ListN.{length}
 use Rattle.container.specs.Choice.{ite}
 use Rattle.schedule.specs.Proper.{Proper}
 use Rattle.schedule.proofs.Laws.{proper}
-use Rattle.definitions.specs.Versions.{version, width}
+use Rattle.definitions.specs.Versions.{version}
 use Rattle.definitions.specs.Schedule.{count_of, file_refusal}
 use Rattle.definitions.specs.Run.{Progress, after, ended, overlay}
 use Rattle.run.proofs.Room.{has_room}
 use Rattle.writer.specs.Part.{part}
-use Rattle.writer.proofs.First.{head, count, part_fine, same, made}
+use Rattle.writer.proofs.First.{head, count, part_fine, same}
 use Rattle.snapshot.specs.Layout.{thread_bytes, node_bytes}
 use Rattle.snapshot.specs.State.{state_head, state_bytes, stated_at, state_refusal, state_report, state_buffer}
 use Rattle.snapshot.specs.declared.Stated.{Stated}
@@ -27,27 +27,21 @@ headed file q = refl
 same_state : (p file : List ℕ) (q : Progress) → version p ≡ version file → state_bytes p q ≡ state_bytes file q
 same_state p file q e = headed p q ∙ (ap (λ (v : ℕ). state_bytes (v ∷ []) q) e ∙ sym (headed file q))
 
--- ---- the first k records, which `out` has with their count
-module _ (file : List ℕ) (k : ℕ) (z : file_refusal file ≡ 0) (l : k ≤ count_of file) (out : List ℕ) {end : ℕ} (e : end ≡ 3 + width file * k) (h : take end out ≡ take end file) where
-  abbrev copied : List ℕ
-  copied = take end (set (set out 1 (k / 256)) 2 (k % 256))
-
-  is_part : copied ≡ part file k
-  is_part = made file k z l out e h
-
-  pub part_proper : Proper copied
+-- ---- the first k records, as the file p
+module _ (file : List ℕ) (k : ℕ) (z : file_refusal file ≡ 0) (l : k ≤ count_of file) (p : List ℕ) (is_part : p ≡ part file k) where
+  pub part_proper : Proper p
   part_proper = subst Proper (sym is_part) (proper (part file k) (part_fine file k z l))
 
   part_ended : ended (part file k) ≡ after file k
   part_ended = ap (after (part file k)) (count file k z l) ∙ same file k z l
 
-  pub part_report : {r : Stated} → r ≡ stated_at copied (ended copied) → r ≡ stated_at file (after file k)
+  pub part_report : {r : Stated} → r ≡ stated_at p (ended p) → r ≡ stated_at file (after file k)
   part_report q =
       q ∙ (ap (λ (p : List ℕ). stated_at p (ended p)) is_part
       ∙ (ap (stated_at (part file k)) part_ended
       ∙ ap (λ (b : List ℕ). record { refusal = (after file k).refusal; records = (after file k).done; length = length b }) (same_state (part file k) file (after file k) (head file k z l))))
 
-  pub part_buffer : (first : List ℕ) {w : List ℕ} → w ≡ overlay (state_bytes copied (ended copied)) first → w ≡ overlay (state_bytes file (after file k)) first
+  pub part_buffer : (first : List ℕ) {w : List ℕ} → w ≡ overlay (state_bytes p (ended p)) first → w ≡ overlay (state_bytes file (after file k)) first
   part_buffer first q =
       q ∙ (ap (λ (p : List ℕ). overlay (state_bytes p (ended p)) first) is_part
       ∙ (ap (λ (v : Progress). overlay (state_bytes (part file k) v) first) part_ended

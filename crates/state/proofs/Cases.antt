@@ -63,9 +63,10 @@ module _ (v : ℕ) (th : Notes) (h : ℕ → Frame) (t n : ℕ) where
   unfolding thread_bytes thread_head ite
   thread_flat e = rw e
 
-  pub thread_deep : (v ≡ 1 → ⊥) → thread_head n (thread th []) ++ frames_bytes 4 th.place (frames_of h t n) ≡ thread_bytes (v ∷ []) (thread th (frames_of h t n))
+  -- u and d are what its owner has
+  pub thread_deep : {u d : ℕ} → (v ≡ 1 → ⊥) → u ≡ t → d ≡ n → thread_head n (thread th []) ++ frames_bytes 4 th.place (frames_of h u d) ≡ thread_bytes (v ∷ []) (thread th (frames_of h t n))
   unfolding thread_bytes thread_head ite
-  thread_deep e = rw (ne_eqb v 1 e, frames_count h t n)
+  thread_deep e f g = rw (f, g, ne_eqb v 1 e, frames_count h t n)
 
 -- what the code would read past the thread table's end
 abbrev pub past : Notes

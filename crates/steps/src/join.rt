@@ -9,8 +9,8 @@ ghost use Rattle.definitions.specs.Steps.{beside, hooked, marking, grand_marking
 ghost use Rattle.effects.specs.Writes.{effect_of};
 ghost use Rattle.steps.specs.Decision.{thread, Decides, rising};
 
-use super::{Decision, Note, Notes};
-use definitions::{Answer, Content, Kind, Nodes, Spot, Stage};
+use super::{Decision, Note, Notes, on_way};
+use definitions::{Answer, Content, Kind, Nodes, Place, Spot, Stage};
 use effects::Write;
 use nodes::View;
 
@@ -18,12 +18,7 @@ use nodes::View;
 pub fn step_beside(nodes: &Nodes, th: Notes, x: u8) -> Decision
     ensures { Decides th result (λ h. beside (table nodes.now) h x) }
 {
-    let n = nodes::node_at(nodes, x);
-    if nodes::is_route(n.kind) {
-        Decision::note(23, Note::Route(x))
-    } else {
-        Decision::note(24, Note::Found(x))
-    }
+    on_way(nodes, x, 23, |_| Decision::note(24, Note::Found(x)))
 }
 
 // 25: the base under the parent becomes a main.
@@ -105,7 +100,7 @@ pub fn approach(view: &View, th: Notes) -> Decision
 }
 
 // 30, 33: the join mark of route g goes from none to the thread's main, then to place `succeeded`; failure leads to place `failed`.
-pub fn mark(nodes: &Nodes, g: u8, succeeded: u8, failed: u8, th: Notes) -> Decision
+pub fn mark(nodes: &Nodes, g: u8, succeeded: Place, failed: Place, th: Notes) -> Decision
     ensures { Decides th result (marking (table nodes.now) g succeeded failed) }
 {
     match nodes::node_at(nodes, g).mark {
@@ -121,18 +116,13 @@ pub fn mark(nodes: &Nodes, g: u8, succeeded: u8, failed: u8, th: Notes) -> Decis
 }
 
 // 31, 32: node x is read on the way to the parent; x is under the grandparent, where there is one. The parent leads to place `found`.
-pub fn rise(nodes: &Nodes, x: u8, grandparent: Option<u8>, found: u8, th: Notes) -> Decision
+pub fn rise(nodes: &Nodes, x: u8, grandparent: Option<u8>, found: Place, th: Notes) -> Decision
     ensures { Decides th result (rising (table nodes.now) x grandparent found) }
 {
     if x == th.parent {
         return Decision::note(found, Note::Grandparent(grandparent));
     }
-    let n = nodes::node_at(nodes, x);
-    if nodes::is_route(n.kind) {
-        Decision::note(32, Note::Route(x))
-    } else {
-        Decision::go(37)
-    }
+    on_way(nodes, x, 32, |_| Decision::go(37))
 }
 
 // 33: the grandparent's mark.
@@ -183,7 +173,7 @@ pub fn close(nodes: &Nodes, used: u16, th: Notes) -> Decision
     )
 }
 
-// 36: the grandparent's mark is cleared.
+// 36: the grandparent's mark is cleared. Not one function with `complete::invalidate`, which says why.
 pub fn unmarked(l: Option<u8>) -> Write
     ensures { effect_of result ≡ unmark l }
 {

@@ -1,13 +1,18 @@
 // The places: what one step of a thread decides. It reads the nodes and writes nothing; its effect is carried out by crate effects.
 #![tactic(auto)]
 
-ghost use Rattle.std.specs.Prelude.{◌<◌, ◌≤◌};
+ghost use Rattle.std.specs.Prelude.{◌≡◌, ◌<◌, ◌≤◌, true, false};
+ghost use Rattle.nodes.specs.Table.{table};
 ghost use Rattle.nodes.specs.View.{seen};
+ghost use Rattle.definitions.specs.Nodes.{is_route};
 ghost use Rattle.definitions.specs.Places.{place_of};
 ghost use Rattle.definitions.specs.Steps.{step};
+ghost use Rattle.effects.specs.declared.Write.TheVariants.{Quiet};
+ghost use Rattle.steps.specs.declared.Note.TheVariants.{Route};
+ghost use Rattle.steps.specs.declared.Decision.TheVariants.{Goes};
 ghost use Rattle.steps.specs.Decision.{Decides};
 
-use definitions::{Action, Answer};
+use definitions::{Action, Answer, Node, Nodes, Place, Quarter};
 use effects::Write;
 use nodes::View;
 
@@ -16,17 +21,19 @@ pub mod swap; // 10 to 13, 26 to 29, 41 to 44: the four-step swap
 pub mod join; // 19 to 38: a join until its stage is a node number
 pub mod complete; // 40 to 51: a join that is completed, by its owner or a helper
 
-// A thread: its operation, its place (0 where it is idle) and its notes. The frames of range queries lie apart.
+// A thread: its operation, its place and its notes. The frames of range queries lie apart.
 #[derive(Clone, Copy)]
 pub struct Notes {
     pub action: Action,
     pub station: u8,
     // of an insert its depth, of a query its upper end
     pub extra: u16,
-    pub place: u8,
+    // 0 where the thread is idle: 01 has no place 0, and a state shows it. An Option would be turned back into it there, and be no plainer
+    pub place: Place,
     // 2, 23, 32: the route reached; 4: the child read
     pub route: u8,
-    // with the stop on: the routes whose child was read since 1, 9 for more than 8; a search at 2 with 8 or 9 is counted
+    // with the stop on: the routes whose child was read since 1, 9 for more than 8; a search at 2 with 8 or 9 is counted. A number, no Option or
+    // enum: it is a count, it is only compared with 8, and a state shows it up to there
     pub read: u8,
     // the base reached
     pub base: u8,
@@ -42,6 +49,27 @@ pub struct Notes {
     // of a join: the grandparent, and the parent's other child
     pub grandparent: Option<u8>,
     pub other: u8,
+}
+
+impl Notes {
+    // Those of an idle thread.
+    pub const IDLE: Notes = Notes {
+        action: Action::Lookup,
+        station: 0,
+        extra: 0,
+        place: 0,
+        route: 0,
+        read: 0,
+        base: 0,
+        parent: 0,
+        left: true,
+        found: 0,
+        neighbour: 0,
+        main: 0,
+        owner: false,
+        grandparent: None,
+        other: 0,
+    };
 }
 
 // What a step notes of its thread, beside the place.
@@ -63,12 +91,14 @@ pub enum Note {
 }
 
 // What a step decides: the thread goes on, it finishes with the answer, node numbers have run out, or it goes back where its frames lead.
-// The effect lies first in each, so that a run finds it at one offset.
+// The effect lies first in each, so that a run finds it at one offset. `NodesOut` stands beside the others and is no `Err`: a full table is one
+// of the definitions' turns (`Full`), each part's contract says of one value which turn it is, and a run takes that apart in one match; with a
+// Result each decision that is made would stand in an `Ok`, and be no plainer.
 #[derive(Clone, Copy)]
 pub enum Decision {
     Goes {
         effect: Write,
-        place: u8,
+        place: Place,
         note: Note,
     },
     Answers {
@@ -89,7 +119,7 @@ impl Decision {
 
     // To a place.
     #[inline]
-    pub fn go(place: u8) -> Self
+    pub fn go(place: Place) -> Self
         ensures { result ≡ Goes Quiet place Nothing }
     {
         Self::note(place, Note::Nothing)
@@ -97,7 +127,7 @@ impl Decision {
 
     // To a place, with a note.
     #[inline]
-    pub fn note(place: u8, note: Note) -> Self
+    pub fn note(place: Place, note: Note) -> Self
         ensures { result ≡ Goes Quiet place note }
     {
         Decision::Goes {
@@ -109,7 +139,7 @@ impl Decision {
 
     // To a place; the effect is written.
     #[inline]
-    pub fn write(place: u8, effect: Write) -> Self
+    pub fn write(place: Place, effect: Write) -> Self
         ensures { result ≡ Goes effect place Nothing }
     {
         Decision::Goes {
@@ -131,6 +161,21 @@ impl Decision {
     }
 }
 
+// Node x is read on the way: a route leads to `place`, with a note, a base to what `at_base` says of it.
+#[inline]
+fn on_way<F: FnOnce(Node) -> Decision>(nodes: &Nodes, x: u8, place: Place, at_base: F) -> Decision
+    requires { F.IsAlwaysCallable at_base }
+    ensures route { is_route (table nodes.now x).kind ≡ true → result ≡ Goes Quiet place (Route x) }
+    ensures base { is_route (table nodes.now x).kind ≡ false → F.post at_base (table nodes.now x) result }
+{
+    let n = nodes::node_at(nodes, x);
+    if nodes::is_route(n.kind) {
+        Decision::note(place, Note::Route(x))
+    } else {
+        at_base(n)
+    }
+}
+
 // The place decides, below 60 (from there on: crate queries). A run takes the four parts apart (crate run): a part reads few of the
 // thread's notes. `search::find` is the first, for 1 and 2, `search::examine` the second, for 3; with the stop on, `search::count` is for 4
 // and 5.
@@ -141,10 +186,11 @@ pub fn decide_swap(view: &View, th: Notes) -> Decision
     requires { (10 ≤ th.place) × (th.place < 14) }
     ensures { Decides th result (step (place_of th.place) (seen view.now)) }
 {
-    swap::own(view, th, swap::quarter(th.place - 10))
+    swap::own(view, th, Quarter::from(th.place - 10))
 }
 
-// 15 to 51: a base that is blocked, and a join with its two swaps.
+// 15 to 51: a base that is blocked, and a join with its two swaps. A match on 01's ranges: seven parts with a function each, so that a function
+// handed in for each would be no plainer. So in the parts: each arm of a match on a place is one of 01's places.
 #[tactic(auto, using(crate::proofs::DecideLaws::at_swap))]
 pub fn decide_join(view: &View, th: Notes) -> Decision
     requires { (14 ≤ th.place) × (th.place < 60) }
@@ -153,10 +199,10 @@ pub fn decide_join(view: &View, th: Notes) -> Decision
     match th.place {
         0..=18 => search::unblock(view, th),
         19..=25 => join::approach(view, th),
-        26..=29 => swap::found(view, th, swap::quarter(th.place - 26)),
+        26..=29 => swap::found(view, th, Quarter::from(th.place - 26)),
         30..=39 => join::prepare(view, th),
         40 => complete::begin(view, th),
-        41..=44 => swap::united(view, th, swap::quarter(th.place - 41)),
+        41..=44 => swap::united(view, th, Quarter::from(th.place - 41)),
         _ => complete::finish(view, th),
     }
 }

@@ -14,7 +14,7 @@ ghost use Rattle.definitions.specs.Places.{place_of};
 ghost use Rattle.definitions.specs.Steps.{at_leaf, reached, onward, followed, help_by, blocked, lacks, cleared, lost, step};
 ghost use Rattle.steps.specs.Decision.{thread, Decides, read_at, finding, counting};
 
-use super::{Decision, Note, Notes};
+use super::{Decision, Note, Notes, on_way};
 use definitions::{Action, Answer, Check, Node, Nodes, Stage};
 use effects::Write;
 use nodes::View;
@@ -24,8 +24,7 @@ pub fn read_after(th: Notes) -> u8
     ensures { result ≡ read_at th.place th.read }
 {
     match th.place {
-        2 if th.read < 9 => th.read + 1,
-        2 => 9,
+        2 => th.read.min(8) + 1,
         _ => 0,
     }
 }
@@ -45,27 +44,18 @@ fn look_up(n: Node, station: u8, x: u8) -> Answer
 pub fn reach(nodes: &Nodes, th: Notes, x: u8) -> Decision
     ensures { Decides th result (λ h. reached (table nodes.now) h x) }
 {
-    let n = nodes::node_at(nodes, x);
-    if nodes::is_route(n.kind) {
-        return Decision::note(2, Note::Route(x));
-    }
-    match th.action {
+    on_way(nodes, x, 2, |n| match th.action {
         Action::Lookup => Decision::say(look_up(n, th.station, x)),
         Action::Query => Decision::NodesOut,
         _ => Decision::note(3, Note::Base(x)),
-    }
+    })
 }
 
 // 2, 4: a search that is counted goes on from x, to 2 or, at a base, to 5.
 pub fn pass(nodes: &Nodes, th: Notes, x: u8) -> Decision
     ensures { Decides th result (λ h. onward Quiet (table nodes.now) h x) }
 {
-    let n = nodes::node_at(nodes, x);
-    if nodes::is_route(n.kind) {
-        Decision::note(2, Note::Route(x))
-    } else {
-        Decision::note(5, Note::Base(x))
-    }
+    on_way(nodes, x, 2, |_| Decision::note(5, Note::Base(x)))
 }
 
 // 2: x, the child of a route, is read. With the stop on the 8th route leads to 4.

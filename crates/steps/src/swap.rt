@@ -1,11 +1,11 @@
 // The four-step swap and its three kinds: 10 to 13, 26 to 29, 41 to 44.
 #![tactic(auto, using(std::proofs::lemmas::Bool::Decides::nat_tests), unfolding(container::specs::Choice::ite, definitions::specs::Steps::probe, definitions::specs::Steps::replaced, definitions::specs::Steps::step))]
 
-ghost use Rattle.std.specs.Prelude.{◌≡◌, ◌+◌, ◌<◌};
+ghost use Rattle.std.specs.Prelude.{◌≡◌};
 ghost use Rattle.nodes.specs.Table.{table};
 ghost use Rattle.nodes.specs.View.{seen};
 ghost use Rattle.definitions.specs.Answers.{said};
-ghost use Rattle.definitions.specs.Places.{quarter_of, quarter_number, swap, own, found, united};
+ghost use Rattle.definitions.specs.Places.{swap, own, found, united};
 ghost use Rattle.definitions.specs.Steps.{newer, probe, replaced, step};
 ghost use Rattle.effects.specs.Writes.{effect_of};
 ghost use Rattle.steps.specs.Decision.{Decides};
@@ -15,27 +15,9 @@ use definitions::{Action, Answer, Content, Kind, Node, Nodes, Probe, Quarter, Sp
 use effects::Write;
 use nodes::View;
 
-// The step by its number, 0 to 3. No TryFrom: it never fails, and what lies over 3 is the last step.
-pub fn quarter(k: u8) -> Quarter
-    ensures { result ≡ quarter_of k }
-{
-    match k {
-        0 => Quarter::ReadLeft,
-        1 => Quarter::SwapLeft,
-        2 => Quarter::ReadRight,
-        _ => Quarter::SwapRight,
-    }
-}
-
-// The place of a step, counted from the first.
-pub fn place_of(first: u8, q: Quarter) -> u8
-    requires { first < 128 }
-    ensures { result ≡ first + quarter_number q }
-{
-    first + q as u8
-}
-
-// One of the four steps for the base x: where it hangs, the next step, or failure.
+// One of the four steps for the base x: where it hangs, the next step, or failure. All five swaps ask it, a query's through crate queries'
+// `look`, which has its frame's base for x. A match on the step: each asks another child or leads elsewhere, and a function handed in for
+// each would be no plainer.
 pub fn look(nodes: &Nodes, root: u8, parent: Option<u8>, x: u8, q: Quarter) -> Probe
     ensures { result ≡ probe q parent (table nodes.now) root x }
 {
@@ -56,7 +38,7 @@ pub fn look(nodes: &Nodes, root: u8, parent: Option<u8>, x: u8, q: Quarter) -> P
     }
 }
 
-// The answer of an insert or a remove.
+// The answer of an insert or a remove. No From: a bool stands for two of the answers, in these two operations alone.
 fn yes_or_no(yes: bool) -> Answer
     ensures { result ≡ said yes }
 {
@@ -81,40 +63,43 @@ fn newer(spot: Spot, at: u8, b: Node, content: Content) -> Write
 pub fn replace(spot: Spot, b: Node, used: u16, th: Notes) -> Decision
     ensures { Decides th result (replaced spot b used) }
 {
+    let Ok(at) = u8::try_from(used) else {
+        return Decision::NodesOut;
+    };
     match th.action {
-        Action::Insert if used < 256 => {
+        Action::Insert => {
             let held = container::contains(b.container, th.station);
             let content = Content::With(th.base, th.station, th.extra);
             Decision::Answers {
-                effect: newer(spot, used as u8, b, content),
+                effect: newer(spot, at, b, content),
                 answer: yes_or_no(!held),
             }
         }
-        Action::Remove if used < 256 => {
+        Action::Remove => {
             let held = container::contains(b.container, th.station);
             let content = Content::Without(th.base, th.station);
             Decision::Answers {
-                effect: newer(spot, used as u8, b, content),
+                effect: newer(spot, at, b, content),
                 answer: yes_or_no(held),
             }
         }
-        Action::Split if used < 254 => {
-            let at = used as u8;
-            Decision::Answers {
-                effect: Write::Fork {
-                    spot,
-                    at,
-                    left: at + 1,
-                    right: at + 2,
-                    key: container::split_key(b.container),
-                    base: th.base,
-                },
-                answer: Answer::Yes,
-            }
-        }
+        Action::Split if at < 254 => Decision::Answers {
+            effect: Write::Fork {
+                spot,
+                at,
+                left: at + 1,
+                right: at + 2,
+                key: container::split_key(b.container),
+                base: th.base,
+            },
+            answer: Answer::Yes,
+        },
         _ => Decision::NodesOut,
     }
 }
+
+// The three swaps of a step. They differ in the base, in the first place, in what is written and noted on success and in what failure leads to: one
+// function would take each of these, what success does as a closure, and be no plainer.
 
 // 10 to 13: the thread's own base.
 pub fn own(view: &View, th: Notes, q: Quarter) -> Decision
@@ -123,7 +108,7 @@ pub fn own(view: &View, th: Notes, q: Quarter) -> Decision
     let b = nodes::node_at(view.nodes, th.base);
     match look(view.nodes, view.root, b.parent, th.base, q) {
         Probe::Hit(spot) => replace(spot, b, view.used, th),
-        Probe::Next(r) => Decision::go(place_of(10, r)),
+        Probe::Next(r) => Decision::go(r.place_from(10)),
         Probe::Miss => search::lose(th),
     }
 }
@@ -151,7 +136,7 @@ pub fn found(view: &View, th: Notes, q: Quarter) -> Decision
                 note: Note::Neighbour(at),
             }
         }
-        Probe::Next(r) => Decision::go(place_of(26, r)),
+        Probe::Next(r) => Decision::go(r.place_from(26)),
         Probe::Miss => Decision::go(38),
     }
 }
@@ -164,7 +149,7 @@ pub fn united(view: &View, th: Notes, q: Quarter) -> Decision
     let b = nodes::node_at(view.nodes, m.neighbour);
     match look(view.nodes, view.root, b.parent, m.neighbour, q) {
         Probe::Hit(spot) => Decision::write(45, Write::Swing { spot, to: m.union }),
-        Probe::Next(r) => Decision::go(place_of(41, r)),
+        Probe::Next(r) => Decision::go(r.place_from(41)),
         Probe::Miss => Decision::go(45),
     }
 }

@@ -1,14 +1,15 @@
 -- What the loops of the pass hold, and one turn more of each: the records, the rows, the last operations. Assumes nothing.
 use mathlib.Core.Path.{◌≡◌, refl, sym, ap, ap₂, ◌∙◌}
 use mathlib.Core.Logic.{◌≢◌}
-use mathlib.Core.List.{List}
+use mathlib.Core.List.{List, ◌++◌}
 use Prim.Native.Nat.{ℕ, zero, suc, ◌+◌, ◌-◌, ◌*◌, ◌/◌, ◌%◌, ◌^◌, ◌≤◌, ◌<◌}
 use native.Mathlib.Omega.{arith}
 use native.Mathlib.Numerals.{add-one}
-use native.Mathlib.Decide.{ℕ_discrete}
-use native.Mathlib.Nat.{mod-eq_of_lt}
+use native.Mathlib.Decide.{ℕ_discrete, dec_lt}
+use native.Mathlib.Nat.{mod-eq_of_lt, mul-suc, mul-le-mul_left}
 use borrow.Author.Tests.{eq-eqb, ne_eqb}
-use lib.ListN.{get_or}
+use lib.ListN.{get_or, length, drop, length-drop, get_or-append}
+use Rattle.std.proofs.lemmas.List.{get_or-drop, drop-drop, drop_at}
 use Rattle.container.specs.Choice.{ite, upd}
 use Rattle.season.specs.Tally.{Tally, just, sum, taken, numbers}
 use Rattle.tally.specs.Walk.{packed, first_byte, thread_of, lanes, begun, walked, answer_place, answered, finished, closed, closing, Room, lane_in, Ready, Turned, Held}
@@ -148,6 +149,28 @@ module _ (rows : List ℕ) (w m : ℕ) (first tally : List ℕ) (b : ℕ) (few :
   pub answering_next : (l : List ℕ) (i : ℕ) → i ≡ answer_place (get_or rows (at + 3) 0) (get_or rows (at + 1) 0 % 8) → numbers l ≡ sum (numbers tally) (just i 1)
       → Answering rows w (m + 1) first l (b + 65536 ^ (get_or rows at 0 % 4))
   answering_next l i q f = rw (add-one m) (record { counts = f ∙ (ap₂ sum h.counts (ap (λ (n : ℕ). just n 1) q) ∙ (sum_assoc (numbers first) (answered rows w m) _ ∙ ap (sum (numbers first)) (sym answered_on))); ended = next_ended })
+
+-- ---- a walk over chunks of w bytes: of n rows `left` are to come, and `rest` is what is left of the buffer
+module _ (rows rest : List ℕ) (w n left : ℕ) where
+  module _ (row rest' : List ℕ) (left' : ℕ) (few : left ≤ n) (here : rest ≡ drop (w * (n - left)) rows) (cut : rest ≡ row ++ rest') (wide : length row ≡ w) (less : left' + 1 ≡ left) where
+    pub chunk_one : n - left' ≡ n - left + 1
+    chunk_one = omega arith
+
+    pub chunk_byte : (k : ℕ) → k < w → get_or row k 0 ≡ get_or rows (w * (n - left) + k) 0
+    chunk_byte k h = sym (get_or-append row rest' 0 k (omega (arith, wide))) ∙ ap (λ l. get_or l k 0) (sym cut ∙ here) ∙ get_or-drop (w * (n - left)) rows k 0
+
+    pub chunk_rest : rest' ≡ drop (w * (n - left')) rows
+    chunk_rest = sym (drop_at row rest' w wide) ∙ ap (drop w) (sym cut ∙ here) ∙ drop-drop w (w * (n - left)) rows
+        ∙ ap (λ m. drop m rows) (rw chunk_one (omega (arith, mul-suc w (n - left))))
+
+  -- no row is left where no chunk is
+  pub chunk_end : left ≤ n → rest ≡ drop (w * (n - left)) rows → w * n ≤ length rows → (0 < left → length rest < w) → n - left ≡ n
+  chunk_end few here room h = elim (dec_lt 0 left) [
+    | no z ↦ omega arith
+    | yes l ↦
+        let a : w * suc (n - left) ≤ w * n = mul-le-mul_left w (omega arith) in
+        absurd (omega (arith, h l, a, mul-suc w (n - left), ap length here, length-drop (w * (n - left)) rows))
+  ]
 
 -- ---- the last operations
 pub record Closes (total : Tally) (tally : List ℕ) (w o : ℕ) : Type 0 where

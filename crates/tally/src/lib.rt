@@ -11,15 +11,15 @@ ghost use Rattle.container.specs.Choice.{ite};
 ghost use Rattle.tally.specs.Walk.{packed, lanes, begun, walked, answer_place, answered, finished, closing, first_byte, Room, Ready, Turned, Visited, Held, Reached, Onward, Low, Spare, Told};
 ghost use Rattle.tally.specs.Marks.{Width, mark, bits, step_word};
 
-use definitions::Report;
+use definitions::{Refusal, Report, Version};
 use season::{Average, Tallied};
 
 mod marks;
 
 // The refusal of a file that would take a number past 32 bits.
-const FULL: u64 = 19;
+const FULL: u64 = Refusal::Tally as u64;
 
-// The average of what has none.
+// The average of what has none; C is handed 0 over 1 for it, so it is no `None`.
 const NO_AVERAGE: Average = Average {
     steps: 0,
     operations: 1,
@@ -32,7 +32,8 @@ struct Walked {
     begun: u64,
 }
 
-// The first `done` records of a schedule, of `width` bytes each, which Run carried out.
+// The first `done` records of a schedule, of `width` bytes each, which Run carried out. The width is known at run time, by the version: so it
+// stands beside, and a record is found by it, where a slice of arrays would have it in its type.
 #[derive(Clone, Copy)]
 struct Records<'a> {
     schedule: &'a [u8],
@@ -44,9 +45,10 @@ struct Records<'a> {
     ghost low: { Low schedule.now width done },
 }
 
-// ---- lanes
+// ---- lanes. A thread is a byte's upper half, below 4 in each record that Run carried out: a type of four threads would be made by a check that
+// can fail, at each record anew.
 
-// One in lane t.
+// One in lane t. That t is a thread is told here and in `lane`: a type for that would be made of each byte by the same test, and be no plainer.
 #[tactic(auto, using(crate::proofs::Lanes::unit_is))]
 fn unit(t: u8) -> u64
     requires { t < 4 }
@@ -64,7 +66,8 @@ fn lane(w: u64, t: u8) -> u64
     (w >> (16 * t)) % 65536
 }
 
-// ---- counts: the tally stays C's array of 65 numbers, with room told at each call, since each leaves another room
+// ---- counts. The tally is C's own array of 65 numbers, here and in each function below that counts, adds or reads. How much room it has is told
+// at each call, since each leaves another room; the walks, of which a file takes one, are told the same.
 
 // n more at place i.
 #[tactic(auto, using(crate::proofs::Sums::more_is))]
@@ -111,7 +114,7 @@ fn walk_one(x: u8, w: Walked, tally: &mut [u32; 65]) -> Walked
 
 // ---- many records: only those that are marked are visited, the others are steps of the thread before them
 
-// The number where a record, whose first byte is x, is a start, else 0.
+// The number where a record, whose first byte is x, is a start, else 0: it multiplies what is counted, so that `visit_one` has no branch.
 #[tactic(auto, unfolding(container::specs::Choice::ite))]
 fn of_start(x: u8, n: u64) -> u64
     ensures { result ≡ ite (eqb (x % 16) 0) 0 n }
@@ -123,7 +126,8 @@ fn of_start(x: u8, n: u64) -> u64
 }
 
 // One record, whose first byte is x, as far as it is a start. Not `walk_one`: which of the records that are marked are starts can't be
-// foreseen, and with its branch this pass took 1.28 ns a record where it takes 1.10.
+// foreseen, and with its branch going over the records took 1.28 ns a record, and so takes 1.10; it is to take no more than at the start ("Speed"
+// in docs/DESIGN-PASS.md).
 fn visit_one(x: u8, w: Walked, tally: &mut [u32; 65]) -> Walked
     requires { Ready x w.lanes w.begun tally.old }
     ensures { Visited x w.lanes w.begun tally.old result.lanes result.begun tally.new }
@@ -187,6 +191,7 @@ impl Records<'_> {
         let mut one = unit(self.first_byte(k - 1) / 16);
         let mut last = 0usize;
         let mut mask = marks;
+        // A `while`: there is no index, for the lowest mark goes each turn.
         while mask != 0 {
             let i = u64::trailing_zeros(mask) as usize;
             let x = self.first_byte(k + i);
@@ -209,7 +214,7 @@ impl Records<'_> {
         let mut at = 3 + self.width;
         let mut k = 1usize;
         let mut ahead = marks::marks(self.schedule, self.width, at, self.done - 1);
-        // A `while`: over `step_by(64)` the last k is past `done`, and `visit` and the marks ahead are told k + n all the same.
+        // A `while`: k and the marks found a turn ahead go on by n together.
         while k < self.done {
             let n = marks::block_size(self.done - k);
             let these = ahead;
@@ -221,7 +226,8 @@ impl Records<'_> {
         w
     }
 
-    // All: by marks where they are many and of two bytes or four.
+    // All: by marks where they are many and of two bytes or four. The width is tested here, where it is needed: another has no marks, and the
+    // records are walked one by one whatever it is.
     fn walk(&self, tally: &mut [u32; 65]) -> Walked
         requires { Room tally.old 33554432 }
         ensures { Held self.now.schedule.now self.now.width self.now.done tally.old tally.new result.lanes result.begun }
@@ -233,7 +239,7 @@ impl Records<'_> {
     }
 }
 
-// Where an answer is counted: yes for 1, no for any other.
+// Where an answer is counted: yes for 1, no for any other. Both are bytes of a row, which Run wrote for C: to make them enums again could fail.
 #[tactic(auto, unfolding(container::specs::Choice::ite))]
 fn answer_place(y: u8, a: u8) -> usize
     requires { a < 8 }
@@ -252,11 +258,10 @@ fn count_answers(rows: &[u8], width: usize, done: usize, tally: &mut [u32; 65]) 
     ensures { (numbers tally.new ≡ sum (numbers tally.old) (answered rows.now width done)) × (result ≡ packed 4 (finished rows.now width done)) }
 {
     let mut ended = 0u64;
-    for m in 0..done {
-        let at = width * m;
-        let t = rows[at] % 4;
-        let a = rows[at + 1] % 8;
-        let y = rows[at + 3];
+    for row in rows.chunks_exact(width).take(done) {
+        let t = row[0] % 4;
+        let a = row[1] % 8;
+        let y = row[3];
         let i = answer_place(y, a);
         count(tally, i, 1);
         ended = ended + unit(t);
@@ -271,6 +276,7 @@ fn close(all: u64, left: u64, tally: &mut [u32; 65])
 {
     let mut lanes = all;
     let mut rest = left;
+    // A `while`: there is no index, for the lowest lane goes each turn, until no thread is left that began an operation.
     while lanes != 0 {
         let e = lanes % 65536;
         let o = rest % 65536;
@@ -287,7 +293,7 @@ fn close(all: u64, left: u64, tally: &mut [u32; 65])
 
 // ---- one file
 
-// One of the refusal, none of 0.
+// One of the refusal, none of 0: the number that the report has for C.
 #[tactic(auto, using(crate::proofs::Cases::refusal_one, crate::proofs::Cases::refusal_none))]
 fn count_refusal(tally: &mut [u32; 65], bad: u64)
     requires { (bad < 17) × ((bad ≡ 0 → ⊥) → get_or tally.old (48 + bad) 0 < 4294967295) }
@@ -299,9 +305,10 @@ fn count_refusal(tally: &mut [u32; 65], bad: u64)
     }
 }
 
-// How long a record and a row are: 2 and 4 bytes in version 1, 4 and 14 in versions 2 and 3.
+// How long a record and a row are: 2 and 4 bytes in version 1, 4 and 14 in versions 2 and 3. printed's `row_width` is the second: that
+// crate is not below this one, and one `if` gives both here.
 #[tactic(auto, unfolding(container::specs::Choice::ite))]
-fn widths(version: u8) -> (usize, usize)
+fn widths(version: Version) -> (usize, usize)
     ensures { (result.0 ≡ ite (eqb version 1) 2 4) × (result.1 ≡ ite (eqb version 1) 4 14) }
 {
     if version == 1 { (2, 4) } else { (4, 14) }
@@ -330,7 +337,8 @@ fn count_file(schedule: &[u8], rows: &[u8], report: Report, tally: &mut [u32; 65
 
 // ---- adding
 
-// Whether every count is below 2 ^ 31 (the sum of their high halves is below 2 ^ 15), and one more of refusal `bad` passes nothing.
+// Whether every count is below 2 ^ 31 (the sum of their high halves is below 2 ^ 15), and one more of refusal `bad`, the
+// report's number for C, passes nothing.
 fn is_roomy(tally: &[u32; 65], bad: u64) -> bool
     requires { bad < 17 }
     ensures { IsTrue result → Spare tally.now bad }
@@ -361,7 +369,7 @@ fn joined(i: usize, x: u32, y: u32) -> u64
     u64::from(x) + u64::from(y)
 }
 
-// The sum of two tallies, where it keeps within 32 bits.
+// The sum of two tallies, where it keeps within 32 bits. No heap: it is an array, as C's is. By place, for `joined` needs the place.
 fn added(tally: &[u32; 65], one: &[u32; 65]) -> Option<[u32; 65]>
     ensures some { IfSome result (λ both. (fits (sum (numbers tally.now) (numbers one.now)) ≡ true) × (numbers both ≡ sum (numbers tally.now) (numbers one.now))) }
     ensures none { IfNone result (fits (sum (numbers tally.now) (numbers one.now)) ≡ false) }
@@ -389,6 +397,7 @@ pub fn tally(schedule: &[u8], rows: &mut [u8], tally: &mut [u32; 65]) -> Tallied
         words(&tally[..]);
         return Tallied { report, refusal: 0 };
     }
+    // no heap: the file's own tally
     let mut one = [0u32; 65];
     count_file(schedule, rows, report, &mut one);
     match added(tally, &one) {
@@ -410,13 +419,14 @@ fn gcd(a: u64, b: u64) -> u64
     ensures { result ≡ gcd a b }
 {
     let (mut x, mut y) = (a, b);
+    // A `while`: no index is counted, and the remainders end with 0.
     while y != 0 {
         (x, y) = (y, x % y);
     }
     x
 }
 
-// Steps over operations in lowest terms, 0/1 where there is none.
+// Steps over operations in lowest terms, 0/1 where there is none, as C is handed it.
 #[tactic(auto, using(crate::proofs::Averages::gcd_positive, crate::proofs::Averages::average_none, crate::proofs::Averages::average_some))]
 fn in_lowest(steps: u64, operations: u64) -> Average
     ensures { result ≡ average steps operations }
@@ -431,7 +441,7 @@ fn in_lowest(steps: u64, operations: u64) -> Average
     }
 }
 
-// The average of an action's row; 0/1 for a number that is no action's.
+// The average of an action's row; 0/1 for a number that is no action's. C asks by the number, and any number.
 #[tactic(auto, unfolding(season::specs::Season::average_of, container::specs::Choice::ite))]
 pub fn average_of(tally: &[u32; 65], action: u8) -> Average
     ensures { result ≡ average_of tally.now action }

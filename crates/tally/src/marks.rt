@@ -4,7 +4,9 @@ ghost use Rattle.std.specs.Int.Bits.{bit_and, bit_xor};
 ghost use Rattle.tally.specs.Walk.{packed};
 ghost use Rattle.tally.specs.Marks.{Width, mark, bits, block_size, apart, two_bytes, in_lane, Bytes};
 
-// ---- eight bytes in a word, two in a lane of 16 bits
+// ---- eight bytes in a word, two in a lane of 16 bits. Each function below is told that a record stands before `at`, how many from `at` on, and by
+// `Width W` that records have two bytes or four: each asks another length, from another place, so a struct of the slice, the width and the place
+// would be made anew at each call, by the same facts.
 
 // The thread of the first of two bytes in each lane.
 const THREADS: u64 = 0x0030_0030_0030_0030;
@@ -14,6 +16,7 @@ const FIRSTS: u64 = 0x003f_003f_003f_003f;
 
 const EVEN_FIRSTS: u64 = 0x0000_003f_0000_003f;
 
+// The word from `at` on. Byte by byte: `first_chunk` and `try_from` give what can fail, and here it can't.
 fn word(s: &[u8], at: usize) -> u64
     requires { at + 8 ≤ length s.now }
     ensures { (result ≡ packed 4 (two_bytes s.now at)) × Bytes s.now }
@@ -91,7 +94,7 @@ fn sixty_four<const W: usize>(s: &[u8], at: usize) -> u64
     a + 65536 * b + 4294967296 * c + 281474976710656 * d
 }
 
-// Of 64 records.
+// Of 64 records: the one place where a width that is known at run time becomes a constant.
 fn block(s: &[u8], width: usize, at: usize) -> u64
     requires { Width width × ((width ≤ at) × (at + 64 * width ≤ length s.now)) }
     ensures { result ≡ bits 64 (λ i. mark s.now width (at + width * i)) }

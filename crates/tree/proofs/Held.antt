@@ -12,8 +12,10 @@ use Rattle.container.specs.Container.{has, union, cut, below, from, size}
 use Rattle.container.specs.Depths.{merge, within}
 use Rattle.container.proofs.Digits.{on, off, test}
 use Rattle.container.proofs.Laws.{has_union, has_cut, below_in, below_out, from_in, from_out}
-use Rattle.definitions.specs.Nodes.{Nodes, shape, is_route}
+use Rattle.definitions.specs.Nodes.{Nodes, Shapes, shape, is_route}
 use Rattle.definitions.specs.Tree.{held_below, stored_below}
+use Rattle.definitions.proofs.Counted.{below_counted}
+use Rattle.depths.specs.Rows.{full}
 use Rattle.tree.specs.Below.{set_below, count_below, depth_under}
 
 pub held_set : (k : ℕ) (n : Nodes) (x range : ℕ) → (held_below k n x range).set ≡ set_below k (λ y. shape (n y)) x range
@@ -30,6 +32,12 @@ held_stored zero n x range = refl
 held_stored (suc k) n x range =
     ap₂ (λ (a b : ℕ). ite (is_route (n x).kind) (a + b) (size (cut (n x).container.set range)))
     (held_stored k n (n x).left (below (n x).key range)) (held_stored k n (n x).right (from (n x).key range))
+
+-- so the size of the set is the stored count
+pub set_size : (k : ℕ) (t : Shapes) (x range : ℕ) {c n : ℕ} → c ≡ set_below k t x range → n ≡ size c → n ≡ count_below k t x range
+set_size k t x range e f =
+    let n : Nodes = full t (λ _ _. 0) in
+    f ∙ rw e (rw (← held_set k n x range, ← held_stored k n x range) (sym (below_counted k n x range)))
 
 or_parts : (a b : Bool) → a || b ≡ true → a ≡ false → b ≡ true
 or_parts true b e f = absurd (true≢false f)

@@ -8,7 +8,7 @@ ghost use Rattle.tree.specs.Below.{set_below, count_below, depth_under};
 
 use definitions::Nodes;
 
-// The stations below node x, whose range is given.
+// The stations below node x, whose range is given. Snapshot's `reach` walks alike, and says why it stands apart.
 #[tactic(auto, using(crate::proofs::Cases::set_cases))]
 pub fn set_below(nodes: &Nodes, x: u8, range: u64, levels: u8) -> u64
     ensures { result ≡ set_below levels (table nodes.now) x range }
@@ -24,22 +24,14 @@ pub fn set_below(nodes: &Nodes, x: u8, range: u64, levels: u8) -> u64
     container::united(a, b)
 }
 
-// How many stations are below node x, whose range is given: in each base's container, inside the base's range. It walks as `set_below`
-// does, but counts at a base, and adds two sides up: a walk of both would take both steps as parameters, and be no plainer.
-#[tactic(auto, using(crate::proofs::Cases::stored_cases))]
+// How many stations are below node x, whose range is given: in each base's container, inside the base's range. It is the size of the set
+// below x, for no station is found on both sides of a route.
+#[tactic(auto, using(crate::proofs::Held::set_size))]
 pub fn stored_below(nodes: &Nodes, x: u8, range: u64, levels: u8) -> u64
     ensures { result ≡ count_below levels (table nodes.now) x range }
 {
-    let n = nodes::node_at(nodes, x);
-    if levels == 0 || !nodes::is_route(n.kind) {
-        let inside = container::common(n.container, range);
-        return container::count(inside) as u64;
-    }
-    let low = container::lower(range, n.key);
-    let high = container::upper(range, n.key);
-    let a = stored_below(nodes, n.left, low, levels - 1);
-    let b = stored_below(nodes, n.right, high, levels - 1);
-    a + b
+    let set = set_below(nodes, x, range, levels);
+    u64::from(container::count(set))
 }
 
 // The depth of station s where it leads to from node x, with at most so many steps down.
@@ -47,7 +39,7 @@ pub fn depth_under(nodes: &Nodes, depths: &[u16], x: u8, levels: u8, s: u8) -> u
     ensures { result ≡ depth_under levels (full (table nodes.now) (rows depths.now)) x s }
 {
     let mut y = x;
-    for k in 0..levels {
+    for _ in 0..levels {
         let n = nodes::node_at(nodes, y);
         if !nodes::is_route(n.kind) {
             break;

@@ -4,7 +4,7 @@ use mathlib.Core.Bool.{Bool, true, false, ◌&&◌}
 use mathlib.Core.List.{List}
 use Prim.Native.Nat.{ℕ, ◌≤◌, ◌<◌}
 use native.Mathlib.Omega.{arith}
-use borrow.Author.Tests.{eq-eqb, ne_eqb, lt-ltb, le-ltb, le-leb, lt-leb}
+use borrow.Author.Tests.{eq-eqb, ne_eqb, lt-ltb, le-ltb}
 use lib.Dec.{eqb, leb}
 use lib.ListN.{length}
 use Rattle.container.specs.Choice.{ite}
@@ -28,12 +28,6 @@ unfolding halt ite
 unhalted r e = rw (ne_eqb r.refusal 0 e)
 
 -- ---- a file of version 3
-
-pub three_short : (file : List ℕ) → length file < 3 → leb 3 (length file) ≡ leb 3 (length file) && stop_of file
-three_short file h = rw (lt-leb 3 (length file) h)
-
-pub three_long : (file : List ℕ) {b : Bool} → 3 ≤ length file → b ≡ stop_of file → b ≡ leb 3 (length file) && stop_of file
-three_long file h e = e ∙ rw (le-leb 3 (length file) h)
 
 module _ (file : List ℕ) (o : leb 3 (length file) && stop_of file ≡ true) where
   pub three_report : (n : ℕ) → record { refusal = 2; records = 0; rows = 0; set = 0; stored = 0; used = 0 } ≡ profile_report file n

@@ -2,7 +2,11 @@
 -- them where the whole one stands after k records. Assumes nothing.
 use mathlib.Core.Path.{◌≡◌, refl, ap, ◌∙◌}
 use mathlib.Core.Bool.{Bool, true, false, ◌||◌}
-use mathlib.Core.List.{List}
+use mathlib.Core.List.{List, [], ◌∷◌}
+use Rattle.std.specs.Int.{to_be_bytes}
+use Rattle.std.proofs.Common.{w16}
+use borrow.Rule.Slice.PartMut.{put_mid}
+use Rattle.buffer.proofs.Writes.{pair_bytes}
 use Prim.Native.Nat.{ℕ, zero, suc, ◌+◌, ◌*◌, ◌/◌, ◌%◌, ◌≤◌, ◌<◌}
 use native.Mathlib.Omega.{arith}
 use borrow.Author.Tests.{eq-eqb, le-ltb}
@@ -55,6 +59,13 @@ module _ (p file : List ℕ) (k : ℕ) (head : get_or p 0 0 ≡ get_or file 0 0)
       ∙ (ap (advance p (after file j)) (record_same j (omega arith)) ∙ advance_same (after file j) (record_at file j))
 
 -- ---- the part of a file that is not refused
+
+-- two bytes written at 1
+put_in : (out : List ℕ) (a b : ℕ) → 3 ≤ length out → put_mid 1 2 out (a ∷ b ∷ []) ≡ set (set out 1 a) 2 b
+put_in [] a b h = absurd (omega arith)
+put_in (x ∷ []) a b h = absurd (omega arith)
+put_in (x ∷ y ∷ []) a b h = absurd (omega arith)
+put_in (x ∷ y ∷ z ∷ out) a b h = refl
 
 known_version : (file : List ℕ) → file_refusal file ≡ 0 → eqb (version file) 1 || (eqb (version file) 2 || eqb (version file) 3) ≡ true
 unfolding file_refusal ite
@@ -146,8 +157,11 @@ module _ (file : List ℕ) (k : ℕ) (z : file_refusal file ≡ 0) (l : k ≤ co
   same = after_same (part file k) file k head rest k (omega arith)
 
   -- out has the part's bytes, and the count goes into it
-  pub made : (out : List ℕ) {end : ℕ} → end ≡ 3 + width file * k → take end out ≡ take end file → take end (set (set out 1 (k / 256)) 2 (k % 256)) ≡ part file k
-  made out {end} e h =
-      take-set-lt end (set out 1 (k / 256)) 2 (k % 256) (omega arith)
-      ∙ (ap (λ l. set l 2 (k % 256)) (take-set-lt end out 1 (k / 256) (omega arith) ∙ ap (λ l. set l 1 (k / 256)) h)
-      ∙ ap (λ i. set (set (take i file) 1 (k / 256)) 2 (k % 256)) e)
+  pub made : (out : List ℕ) {end : ℕ} {high : List ℕ} → end ≡ 3 + width file * k → 3 ≤ length out → take end out ≡ take end file → high ≡ to_be_bytes w16 k
+      → take end (put_mid 1 2 out high) ≡ part file k
+  made out {end} e m h g =
+      ap (λ x. take end (put_mid 1 2 out x)) (g ∙ pair_bytes k (omega (arith, fine.few, l)))
+      ∙ (ap (take end) (put_in out (k / 256) (k % 256) m)
+      ∙ (take-set-lt end (set out 1 (k / 256)) 2 (k % 256) (omega arith)
+      ∙ (ap (λ x. set x 2 (k % 256)) (take-set-lt end out 1 (k / 256) (omega arith) ∙ ap (λ x. set x 1 (k / 256)) h)
+      ∙ ap (λ i. set (set (take i file) 1 (k / 256)) 2 (k % 256)) e)))

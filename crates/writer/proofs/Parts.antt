@@ -2,18 +2,18 @@
 use mathlib.Core.Path.{◌≡◌, refl, ap, ◌∙◌}
 use mathlib.Core.Bool.{Bool, true, false}
 use mathlib.Core.List.{List}
-use Prim.Native.Nat.{ℕ, zero, suc, ◌+◌, ◌*◌, ◌/◌, ◌%◌, ◌≤◌}
+use Prim.Native.Nat.{ℕ, zero, suc, ◌*◌, ◌≤◌}
 use native.Mathlib.Omega.{arith}
 use borrow.Author.Tests.{eq-eqb, ne_eqb, le-ltb}
 use lib.Dec.{eqb, ltb}
-use lib.ListN.{length, set, take}
+use lib.ListN.{length}
 use Rattle.container.specs.Choice.{ite}
-use Rattle.definitions.specs.Versions.{version, width, row_room}
+use Rattle.definitions.specs.Versions.{version, row_room}
 use Rattle.definitions.specs.Schedule.{count_of, file_refusal}
 use Rattle.definitions.specs.Run.{after, report_of, overlay, run_refusal, run_report, run_buffer}
 use Rattle.definitions.specs.declared.Report.{Report}
 use Rattle.writer.specs.Part.{part}
-use Rattle.writer.proofs.First.{head, count, part_fine, same, made}
+use Rattle.writer.proofs.First.{head, count, part_fine, same}
 
 pub file_fine : (file : List ℕ) (n : ℕ) → run_refusal file n ≡ 0 → file_refusal file ≡ 0
 unfolding run_refusal ite
@@ -51,16 +51,11 @@ module _ (file : List ℕ) (n k : ℕ) (z : run_refusal file n ≡ 0) (r : row_r
   unfolding run_buffer ite
   buffers p rows e c a = rw (eq-eqb (run_refusal p (length rows)) 0 e, c, a)
 
-  part_report : run_report (part file k) n ≡ report_of (after file k)
-  part_report = reports (part file k) fits (count file k fine l) (same file k fine l)
+  -- p is the part
+  pub part_report : (p : List ℕ) {r : Report} → p ≡ part file k → r ≡ run_report p n → r ≡ report_of (after file k)
+  part_report p e q = q ∙ (ap (λ i. run_report i n) e ∙ reports (part file k) fits (count file k fine l) (same file k fine l))
 
-  part_buffer : (rows : List ℕ) → length rows ≡ n → run_buffer (part file k) rows ≡ overlay (after file k).rows rows
-  part_buffer rows e = buffers (part file k) rows (ap (run_refusal (part file k)) e ∙ fits) (count file k fine l) (same file k fine l)
-
-  -- out has the part's bytes, and the count goes into it
-  module _ (out : List ℕ) {end : ℕ} (e : end ≡ 3 + width file * k) (h : take end out ≡ take end file) where
-    pub made_report : {r : Report} → r ≡ run_report (take end (set (set out 1 (k / 256)) 2 (k % 256))) n → r ≡ report_of (after file k)
-    made_report q = q ∙ (ap (λ p. run_report p n) (made file k fine l out e h) ∙ part_report)
-
-    pub made_buffer : (rows : List ℕ) {w : List ℕ} → length rows ≡ n → w ≡ run_buffer (take end (set (set out 1 (k / 256)) 2 (k % 256))) rows → w ≡ overlay (after file k).rows rows
-    made_buffer rows i q = q ∙ (ap (λ p. run_buffer p rows) (made file k fine l out e h) ∙ part_buffer rows i)
+  pub part_buffer : (p rows : List ℕ) {w : List ℕ} → length rows ≡ n → p ≡ part file k → w ≡ run_buffer p rows → w ≡ overlay (after file k).rows rows
+  part_buffer p rows i e q =
+      q ∙ (ap (λ x. run_buffer x rows) e
+      ∙ buffers (part file k) rows (ap (run_refusal (part file k)) i ∙ fits) (count file k fine l) (same file k fine l))

@@ -1,20 +1,19 @@
--- Which records are barred, as the scan finds it, and the bytes that are copied. Assumes nothing.
+-- Which records are barred, as the scan finds it. Assumes nothing.
+use Rattle.std.specs.Prelude.{Option, None, Some, MatchOption}
 use mathlib.Core.Path.{◌≡◌, refl, sym, ap, ◌∙◌}
 use mathlib.Core.Bool.{Bool, true, false, not, ◌&&◌}
 use mathlib.Core.List.{List}
 use Prim.Native.Nat.{ℕ, ◌+◌, ◌*◌, ◌/◌, ◌%◌, ◌≤◌, ◌<◌}
-use native.Mathlib.Numerals.{add-one}
 use native.Mathlib.Omega.{arith}
-use borrow.Author.Tests.{eq-eqb, ne_eqb, le-leb, lt-leb}
+use borrow.Author.Tests.{ne_eqb, le-leb, lt-leb}
 use lib.Dec.{eqb, ltb, leb}
-use lib.ListN.{length, get_or, take, set, length-set}
-use lib.Seq.{length-take-le, take-suc, take-suc-set}
+use lib.ListN.{length, get_or}
 use Rattle.container.specs.Choice.{ite}
 use Rattle.definitions.specs.Versions.{version, width}
 use Rattle.definitions.specs.Schedule.{count_of, record_at}
 use Rattle.definitions.specs.Profile.{outside, barred}
-use Rattle.profile.specs.Cut.{Cut}
 use Rattle.schedule.specs.Proper.{Proper}
+use Rattle.writer.specs.Part.{FirstBarred}
 
 -- ---- the first byte of a record: thread t, action a; version v
 
@@ -72,47 +71,28 @@ pub ruleset bars_cases = (bars_low, bars_high, bars_query, bars_over, bars_rest)
 
 -- ---- where a record starts
 
-pub starts_one : (v k : ℕ) → v ≡ 1 → 3 + 2 * k ≡ 3 + ite (eqb v 1) 2 4 * k
+-- record k starts inside a file that is not refused
+pub within : (file : List ℕ) {v k at : ℕ} → Proper file → k < count_of file → v ≡ version file → at ≡ 3 + ite (eqb v 1) 2 4 * k → at < length file
 unfolding ite
-starts_one v k e = rw (eq-eqb v 1 e)
-
-pub starts_two : (v k : ℕ) → (v ≡ 1 → ⊥) → 3 + 4 * k ≡ 3 + ite (eqb v 1) 2 4 * k
-unfolding ite
-starts_two v k e = rw (ne_eqb v 1 e)
-
--- record k starts before the end of `count` of them
-pub starts_inside : (v k count n : ℕ) {at : ℕ} → k < count → at ≡ 3 + ite (eqb v 1) 2 4 * k → 3 + ite (eqb v 1) 2 4 * count ≤ n → at < n
-unfolding ite
-starts_inside v k count n l e h = by (eqb v 1) e h
+within file {k = k} {at = at} p l e f = by (eqb (version file) 1) (rw e at f) p.whole
   where
-    by : (b : Bool) {at : ℕ} → at ≡ 3 + ite b 2 4 * k → 3 + ite b 2 4 * count ≤ n → at < n
-    by true e h = omega arith
-    by false e h = omega arith
-
--- what the scan asks of a file that is not refused
-pub scanned : (file : List ℕ) {v count : ℕ} → v ≡ version file → count ≡ count_of file → Proper file → (v ≡ version file) × ((count ≤ 4096) × (3 + ite (eqb v 1) 2 4 * count ≤ length file))
-scanned file e f p = (e, (omega (arith, p.few), rw (e, f) (omega (arith, p.whole))))
+    by : (b : Bool) → at ≡ 3 + ite b 2 4 * k → length file ≡ 3 + ite b 2 4 * count_of file → at < length file
+    by true g h = omega arith
+    by false g h = omega arith
 
 pub started : (file : List ℕ) (k : ℕ) {v end : ℕ} → v ≡ version file → end ≡ 3 + ite (eqb v 1) 2 4 * k → end ≡ 3 + width file * k
 started file k e f = f ∙ ap (λ v. 3 + ite (eqb v 1) 2 4 * k) e
 
-pub cut_of : (file : List ℕ) {count k : ℕ} → count ≡ count_of file → Cut file count k → Cut file (count_of file) k
-cut_of file e c = rw (← e) c
+-- the first of the n records that is barred
+pub first_of : (file : List ℕ) {n : ℕ} (r : Option ℕ) → n ≡ count_of file
+    → MatchOption r ((k : ℕ) → 0 ≤ k → k < n → barred (record_at file k) ≡ false)
+    (λ i. (0 ≤ i) × (i < n) × (barred (record_at file i) ≡ true) × ((k : ℕ) → 0 ≤ k → k < i → barred (record_at file k) ≡ false))
+    → FirstBarred file r
+first_of file None e f = record { low = omega arith; free = λ i l. f i (omega arith) (omega arith); bars = λ l. absurd (omega arith) }
+first_of file (Some k) e f = (omega (arith, f.1), record { low = omega (arith, f.1); free = λ i l. f.3 i (omega arith) l; bars = λ _. f.2 })
 
 -- ---- record k, by the byte that it starts with
 
 pub bars_at : (file : List ℕ) (v k : ℕ) {at : ℕ} {b : Bool} → v ≡ version file → at ≡ 3 + ite (eqb v 1) 2 4 * k → b ≡ (leb (get_or file at 0 / 16) 3 && leb (get_or file at 0 % 16) (ite (eqb v 1) 5 6)) && outside (get_or file at 0 / 16) (get_or file at 0 % 16) → barred (record_at file k) ≡ b
 unfolding record_at
 bars_at file v k e f g = sym (g ∙ rw (f, e))
-
--- ---- the bytes that are copied
-
-pub copied_more : (s out : List ℕ) (k : ℕ) → k < length s → k < length out → take k out ≡ take k s → take (k + 1) (set out k (get_or s k 0)) ≡ take (k + 1) s
-copied_more s out k l m e = rw (add-one, take-suc-set out k (get_or s k 0) m, take-suc s k 0 l, e)
-
--- the count goes into the copy, which keeps its length
-pub part_inside : (out : List ℕ) (a b : ℕ) {end n : ℕ} → length out ≡ n → end ≤ n → end ≤ length (set (set out 1 a) 2 b)
-part_inside out a b e h = simp length-set (omega arith)
-
-pub part_length : (out : List ℕ) (a b : ℕ) {end n : ℕ} → length out ≡ n → end ≤ n → end ≡ length (take end (set (set out 1 a) 2 b))
-part_length out a b {end} e h = sym (length-take-le end (set (set out 1 a) 2 b) (part_inside out a b e h))

@@ -7,10 +7,12 @@ use Rattle.depths.proofs.select.Goals.{then-contains, else-contains}
 pub loop-s-preserved : goal.loop-s-preserved
 loop-s-preserved c =
     let f = c.loop-s.invariant in
+    rw (c.index-in-loop-s.ensures, c.index.ensures) (
     filled f _ (omega arith) (omega arith) (elim c.if-contains.branch [
       | then-contains w ↦ chosen_in _ _ _ f (omega arith) c.contains.ensures w.if-contains.true w.from-is
       | else-contains w ↦ chosen_out _ _ _ f (omega arith) c.contains.ensures w.if-contains.false w.from-is
     ])
+    )
 
 pub returns : goal.returns
 returns c = chosen _ _ _ c.loop-s.invariant (omega arith) (omega arith)

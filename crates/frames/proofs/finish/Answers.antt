@@ -1,7 +1,6 @@
 -- `frames::finish` meets its contract. Assumes nothing.
-use Rattle.std.proofs.Common.{rules}
 use Rattle.frames.proofs.Ends.{end_back}
 use Rattle.frames.proofs.finish.Goals as goal
 
-pub returns-else-depth-eq1 : goal.returns-else-depth-eq1
-returns-else-depth-eq1 c = search (end_back, rules)
+pub returns-then-owner-ne1 : goal.returns-then-owner-ne1
+returns-then-owner-ne1 c = end_back _ _ _ _ _ _ _ _ _ _ _ c.in-Some.is c.if-owner-eq0.false c.if-owner-ne1.true c.below.ensures.thread c.below.ensures.depth c.leave.ensures

@@ -6,4 +6,4 @@ pub returns-in-Ok : goal.returns-in-Ok
 returns-in-Ok c = report_decided c.args.history.now c.decide.result c.in-Ok.ensures.ok.0 c.in-Ok.ensures.ok.1 c.decide.ensures
 
 pub returns-in-Err : goal.returns-in-Err
-returns-in-Err c = report_refused c.args.history.now c.refused.result c.in-Err.why c.in-Err.ensures.err c.refused.ensures
+returns-in-Err c = report_refused c.args.history.now c.from.result c.in-Err.why c.in-Err.ensures.err c.from.ensures

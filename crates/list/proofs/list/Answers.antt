@@ -1,13 +1,13 @@
 -- `list::list` meets its contract. Assumes nothing.
-use mathlib.Core.Path.{refl, ◌∙◌}
-use Rattle.definitions.proofs.Refusals.{refused, refused_as}
+use mathlib.Core.Path.{refl}
+use Rattle.definitions.proofs.Refusals.{refused}
 use Rattle.list.proofs.Cases.{has_text_room, refused_report_lem, refused_buffer, listed_report, listed_buffer}
 use Rattle.list.proofs.list.Goals as goal
 
 pub returns-in-Err : goal.returns-in-Err
 returns-in-Err c =
     let e = c.in-Err.ensures.refusal in
-    (refused_report_lem _ c.args.text.now (c.from.ensures ∙ e) (refused_as _ c.from.ensures), refused_buffer _ c.args.text.now e (refused _))
+    (refused_report_lem _ c.args.text.now e (refused _) c.from.ensures.0 c.from.ensures.1, refused_buffer _ c.args.text.now e (refused _))
 
 pub report-requires-clause-room : goal.report-requires-clause-room
 report-requires-clause-room c = has_text_room _ _ c.in_default.ensures.refusal refl

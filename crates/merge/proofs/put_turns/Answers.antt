@@ -1,42 +1,33 @@
 -- `merge::put_turns` meets its contract. Assumes nothing.
-use Prim.Native.Nat.{◌+◌, ◌*◌, ◌≤◌}
 use mathlib.Core.Path.{◌≡◌, refl, ◌∙◌}
+use Prim.Native.Nat.{◌+◌, ◌-◌, ◌*◌, ◌≤◌, min}
 use native.Mathlib.Omega.{arith}
-use lib.ListN.{length}
-use Rattle.merge.proofs.Cases.{four, turns_none, turns_more, in_two, in_three, four_kept}
-use borrow.Author.Rules.{Below-set}
+use lib.ListN.{length, length-append}
+use Rattle.std.specs.List.{zip}
+use Rattle.std.proofs.lemmas.Iterator.{YieldsList-from_slice, YieldsList-from_zip}
+use Rattle.std.proofs.lemmas.Iterator.Consumers.{YieldsList-from_enumerate, YieldsList-turn, YieldsList-end}
+use Rattle.std.proofs.lemmas.List.FromFn.{length-enumerate_from}
+use Rattle.std.proofs.lemmas.Slice.Zip.{length-zip}
+use Rattle.definitions.specs.Schedule.{count_of}
+use Rattle.definitions.specs.Merge.{needed}
+use Rattle.merge.proofs.Cases.{Turn, turn_is, turns_none, turn_put}
 use Rattle.merge.proofs.put_turns.Goals as goal
 
 pub loop-k-init : goal.loop-k-init
-loop-k-init c = (refl, turns_none _ _ _)
-
-pub bounds-out-k-in-loop-k : goal.bounds-out-k-in-loop-k
-bounds-out-k-in-loop-k c =
-    let s = c.loop-k in
-    Below-set _ s.out _ _ _ (omega (arith, c.loop-k-test.true, c.requires, s.invariant.0))
-
-pub bounds-out-k-in-loop-k-2 : goal.bounds-out-k-in-loop-k-2
-bounds-out-k-in-loop-k-2 c =
-    let s = c.loop-k in
-    in_two s.out _ _ _ _ _ (omega (arith, c.loop-k-test.true, c.requires, s.invariant.0))
-
-pub bounds-out-k-in-loop-k-3 : goal.bounds-out-k-in-loop-k-3
-bounds-out-k-in-loop-k-3 c =
-    let s = c.loop-k in
-    in_three s.out _ _ _ _ _ _ _ (omega (arith, c.loop-k-test.true, c.requires, s.invariant.0))
+loop-k-init c = turns_none _ _ _
 
 pub loop-k-preserved : goal.loop-k-preserved
 loop-k-preserved c =
-    let s = c.loop-k in
-    let h : 3 + 4 * (s.k + 1) ≤ length s.out = omega (arith, c.loop-k-test.true, c.requires, s.invariant.0) in (
-      four_kept s.out _ _ _ _ _ _ _ _ ∙ s.invariant.0,
-      turns_more _ _ s.k _ s.invariant.1 (four _ _ _ _ _ _ (omega arith) (omega arith) (omega arith) (omega arith) h),
-    )
-
-pub shape_of-out : goal.shape_of-out
-shape_of-out c = c.loop-k.invariant.0
+    let four : 3 + 4 * c.in-Some.k + 4 - (3 + 4 * c.in-Some.k) ≡ 4 = omega arith in
+    let room : needed c.args.first.now c.args.second.now ≤ length c.loop-k.out = omega (arith, c.requires.2, c.loop-k.auto.out) in
+    let road = YieldsList-from_enumerate (YieldsList-from_zip (YieldsList-from_slice c.records.result.now (cc)) (YieldsList-from_slice c.records-2.result.now (cc))) (cc) in
+    let h = YieldsList-turn road c.loop-k.yielded c.loop-k.k-iterator c.loop-k.yielded_by _ c.next.new.self (c.in-Some.k, (c.in-Some.one, c.in-Some.other)) refl c.in-Some.ensures.steps in
+    let t : Turn c.records.result.now c.records-2.result.now (length c.loop-k.yielded) (c.in-Some.k, (c.in-Some.one.now, c.in-Some.other.now)) = turn_is _ _ _ _ h.0 h.1 in
+    turn_put _ _ c.records.ensures c.records-2.ensures t _ _ _ _ c.loop-k.invariant c.copy_from_slice.ensures.after four (length-append c.loop-k.yielded _) room
 
 pub returns : goal.returns
 returns c =
-    let q : c.loop-k.k ≡ c.args.count = omega arith in
-    rw (← q) c.loop-k.invariant.1
+    let road = YieldsList-from_enumerate (YieldsList-from_zip (YieldsList-from_slice c.records.result.now (cc)) (YieldsList-from_slice c.records-2.result.now (cc))) (cc) in
+    let e = YieldsList-end road c.loop-k.yielded c.loop-k.k-iterator c.loop-k.yielded_by _ c.next.new.self refl c.in-None.ensures.steps in
+    let n : length c.loop-k.yielded ≡ min (count_of c.args.first.now) (count_of c.args.second.now) = e.1 ∙ length-enumerate_from 0 (zip c.records.result.now c.records-2.result.now) ∙ length-zip c.records.result.now c.records-2.result.now ∙ rw (c.records.ensures.many, c.records-2.ensures.many) in
+    rw n at c.loop-k.invariant

@@ -8,7 +8,7 @@ pub returns-in_err-check-clause-refusal : goal.returns-in_err-check-clause-refus
 returns-in_err-check-clause-refusal c = handed_on _ _ c.from_residual.ensures.1 ∙ refusal_file _ _ c.in_err-check.ensures.refusal (refused _)
 
 pub returns-then-room-room_for-clause-refusal : goal.returns-then-room-room_for-clause-refusal
-returns-then-room-room_for-clause-refusal c = refusal_room _ _ c.in_ok-check.ensures.refusal refl c.count_of-count.ensures c.room_for.ensures c.if-room-room_for.true
+returns-then-room-room_for-clause-refusal c = refusal_room _ _ c.in_ok-check.ensures.refusal refl refl c.room_for.ensures c.if-room-room_for.true
 
 pub returns-clause-refusal : goal.returns-clause-refusal
-returns-clause-refusal c = refusal_none _ _ c.in_ok-check.ensures.refusal refl c.count_of-count.ensures c.room_for.ensures c.if-room-room_for.false
+returns-clause-refusal c = refusal_none _ _ c.in_ok-check.ensures.refusal refl refl c.room_for.ensures c.if-room-room_for.false

@@ -1,13 +1,13 @@
 -- `run::run` meets its contract. Assumes nothing.
 use mathlib.Core.Path.{refl, sym, ◌∙◌}
-use Rattle.definitions.proofs.Refusals.{refused, refused_as}
+use Rattle.definitions.proofs.Refusals.{refused}
 use Rattle.run.proofs.Ended.{room_for, refused_report_lem, refused_buffer, passed_report, passed_buffer}
 use Rattle.run.proofs.run.Goals as goal
 
 pub returns-in-Err : goal.returns-in-Err
 returns-in-Err c =
     let e = c.in-Err.ensures.refusal in
-    (refused_report_lem _ c.args.rows.now (c.from.ensures ∙ e) (refused_as _ c.from.ensures), refused_buffer _ c.args.rows.now e (refused _))
+    (c.from.ensures ∙ refused_report_lem _ c.args.rows.now e (refused _), refused_buffer _ c.args.rows.now e (refused _))
 
 pub report-requires-clause-room : goal.report-requires-clause-room
 report-requires-clause-room c = room_for _ _ (sym c.in_default.ensures.refusal)

@@ -9,14 +9,14 @@ use Rattle.state.proofs.report.Goals as goal
 pub carry_out-p-requires : goal.carry_out-p-requires
 carry_out-p-requires g c = (c.requires.proper, (c.fresh-nodes.ensures, (unset _, (lent_so _ c.requires.enough, spare_so _ c.requires.enough _))))
 
-pub write_bench-at-requires : goal.write_bench-at-requires
-write_bench-at-requires g c =
+pub invariant_of-bench : goal.invariant_of-bench
+invariant_of-bench g c =
     let e = c.carry_out-p.ensures in
-    (all_few _ _ e.0 e.1, record { frames = λ v. omega (arith, c.requires.there v) })
+    record { few = all_few _ _ e.0 e.1; there = record { frames = λ v. omega (arith, c.requires.there v) } }
 
 pub returns : goal.returns
 returns g c =
     let h = c.carry_out-p.ensures.0 in
     let o = c.carry_out-p.ensures.1 in
-    let e = whole_put _ _ h (λ v. omega (arith, c.requires.enough.whole v)) _ _ o.threads o.stop c.write_bench-at.ensures in
+    let e = whole_put _ _ h (λ v. omega (arith, c.requires.enough.whole v)) _ _ o.threads o.stop c.write-at.ensures in
     (held_report _ _ _ c.requires.room e (c.from.ensures ∙ (c.code.ensures ∙ h.refusal)) h.done, held_buffer _ _ _ c.requires.room e)

@@ -7,5 +7,5 @@ use Rattle.depths.specs.Rows.{rows, full}
 use Rattle.tree.specs.Below.{depth_under}
 use Rattle.tree.proofs.depth_under.Given as goal
 
-abbrev pub invariant-loop-k : goal.invariant-loop-k
-invariant-loop-k l = depth_under (l.levels - l.k) (full (table l.nodes) (rows l.depths)) l.y l.s ≡ depth_under l.levels (full (table l.nodes) (rows l.depths)) l.x l.s
+abbrev pub invariant-loop : goal.invariant-loop
+invariant-loop l = depth_under (l.levels - l.counter) (full (table l.nodes) (rows l.depths)) l.y l.s ≡ depth_under l.levels (full (table l.nodes) (rows l.depths)) l.x l.s

@@ -1,7 +1,8 @@
 -- `judge::Work::decide` meets its contract. Assumes nothing.
 use mathlib.Core.Path.{refl}
-use Rattle.definitions.specs.Judgement.{accepts}
+use Rattle.judge.specs.Standing.{held}
+use Rattle.judge.proofs.Whole.{decided}
 use Rattle.judge.proofs.Work.decide.Goals as goal
 
-pub returns-in-Some : goal.returns-in-Some
-returns-in-Some c = let (l, first, is) = c.in-Some.ensures.some in record { number = refl; operations = refl; verdict = accepts l first refl is }
+pub returns : goal.returns
+returns c = record { number = refl; operations = refl; verdict = decided (held c.args.self.now) c.order-order.result _ c.order-order.ensures.some c.order-order.ensures.none c.is_some.ensures c.unwrap_or.ensures }

@@ -1,10 +1,8 @@
 -- `snapshot::bytes::put_zeros` meets its contract. Assumes nothing.
-use borrow.Author.Rules.{rules}
+use mathlib.Core.Path.{refl}
 use native.Mathlib.Omega.{arith}
-use Rattle.snapshot.proofs.ByteCases.{zeros_room}
+use Rattle.snapshot.proofs.ByteCases.{zeros_filled}
 use Rattle.snapshot.proofs.bytes.put_zeros.Goals as goal
 
-pub loop-k-preserved : goal.loop-k-preserved
-loop-k-preserved c =
-    let i = c.loop-k.invariant in
-    (i.0, (search rules, zeros_room _ _ _ _ (omega (arith, i.1.0, c.if-n-len.true, c.if-at-len.true)) i.1.1))
+pub returns-then-at-len : goal.returns-then-at-len
+returns-then-at-len c = (refl, zeros_filled _ c.args.out.now.at c.args.n (omega (arith, c.if-n-len.true, c.if-at-len.true)) (omega arith) (c.fill.ensures.after (λ y e. e)))

@@ -5,7 +5,7 @@ use Rattle.snapshot.proofs.frame.put_frame.Goals as goal
 
 pub returns : goal.returns
 returns c =
-    said _ (frame_parts _ _ c.has_hand-has_hand.ensures c.spans-has_stack.ensures c.has_backup-has_backup.ensures c.begun_of-begun.ensures c.done_of-done.ensures)
+    said _ (frame_parts _ _ c.is_at.ensures c.is_at-2.ensures c.is_at-3.ensures c.is_at-has_stack.ensures c.is_at-has_backup.ensures c.is_at-has_done.ensures c.from.ensures c.done_of.ensures)
     (next _ _ _ c.put_all.ensures (next _ _ _ c.put_link.ensures (next _ _ _ c.put_noted.ensures (next _ _ _ c.put_noted-2.ensures (next _ _ _ c.put_noted-3.ensures
-    (next _ _ _ c.put.ensures (next _ _ _ c.put_length.ensures (next _ _ _ c.put_length-2.ensures (next _ _ _ c.put_zeros.ensures (next _ _ _ c.put_word.ensures
+    (next _ _ _ c.put.ensures (next _ _ _ c.put_length.ensures (next _ _ _ c.put_length-2.ensures (next _ _ _ c.put_zeros.ensures (next _ _ _ c.put_number.ensures
     (next _ _ _ c.put_stack.ensures c.put_stack-2.ensures)))))))))))

@@ -14,9 +14,6 @@ returns-then-c-eq0 c = (search rules, search depths_empty)
 pub loop-s-init : goal.loop-s-init
 loop-s-init c = (search rules, (search rules, search depths_start))
 
-pub overflow_sub-low : goal.overflow_sub-low
-overflow_sub-low c = search next_past
-
 pub loop-s-smaller-then-low-lt64 : goal.loop-s-smaller-then-low-lt64
 loop-s-smaller-then-low-lt64 c = omega (arith, next_past _ _ c.loop-s-test.true c.upper-rest.ensures c.lowest-low.ensures, c.if-low-lt64.true)
 
@@ -27,7 +24,7 @@ loop-s-preserved-then-low-lt64 c = (
     search rules,
     depths_there _ _ _ _ _ c.if-version-eq1.false refl (next_there _ _ c.loop-s-test.true c.upper-rest.ensures c.lowest-low.ensures c.if-low-lt64.true) (c.from-then-low-lt64.ensures ∙ c.depth_at-d.ensures)
         (depths_next _ _ _ _ _ c.if-version-eq1.false c.loop-s-test.true c.upper-rest.ensures c.lowest-low.ensures c.from.ensures c.loop-s.invariant.1.1 c.put_zeros-in-loop-s.ensures.1)
-        c.put_pair.ensures.1,
+        c.put_number.ensures.1,
   ),
 )
 
