@@ -3,16 +3,16 @@ use mathlib.Core.Path.{◌≡◌, refl, sym, ◌∙◌, ap}
 use mathlib.Core.Bool.{true, false, ◌&&◌}
 use mathlib.Core.Logic.{inl, inr}
 use Prim.Native.Nat.{ℕ, zero, suc, ◌+◌, ◌*◌, ◌/◌, ◌%◌, ◌^◌, ◌<◌, ◌≤◌}
-use native.Mathlib.Nat.{pow-suc, mul_comm, add-zero, zero-add, suc-add, div-one, div-div-eq-div-mul}
+use native.Mathlib.Nat.{pow-suc, mul_comm, zero-add, suc-add, div-one, div-div-eq-div-mul}
 use native.Mathlib.Decide.{ℕ_discrete, dec_lt}
 use native.Mathlib.Omega.{arith}
 use lib.Count.{ones_in}
 use lib.Dec.{eqb}
-use lib.Pow.{shl-shr, shr-shr}
+use lib.Pow.{shl-shr}
 use borrow.Author.Tests.{eq-eqb, eqb-true}
 use Rattle.container.specs.Choice.{ite}
 use Rattle.container.specs.Container.{has}
-use Rattle.container.specs.Select.{seek, selected, entries, row_of}
+use Rattle.container.specs.Select.{seek, selected}
 use Rattle.container.proofs.Digits.{bit_at, has_is, test, on, off, digit, odd_of, low_even, low_half, low_in, high_out}
 use Rattle.container.proofs.Sizes.{ones_none}
 
@@ -123,28 +123,3 @@ ranked_from k c h p r = record {
   there = bit_from k p c ∙ sym (low_in p 8 (c / 2 ^ k) r.inside) ∙ r.there;
   below = rw (ones_parts k p c, ← (ones_low p 8 (c / 2 ^ k) (omega (arith, r.inside))), r.below);
 }
-
--- ---- an entry is read off its row
-
-seek_le : (n p w h : ℕ) → seek n p w h ≤ p + n
-unfolding seek ite
-seek_le zero p w h = omega arith
-seek_le (suc n) p w h = elim (test (has w p && eqb (ones_in p w) h)) [ on e ↦ rw e (omega arith) | off e ↦ rw e (omega (arith, seek_le n (suc p) w h)) ]
-
-selected_le : (b h : ℕ) → selected b h ≤ 8
-unfolding selected
-selected_le b h = seek_le 8 0 b h
-
-in_row : (n b p k : ℕ) → k < n → entries n b p / 2 ^ (k * 8) % 256 ≡ selected b (p + k)
-unfolding entries
-in_row zero b p k l = absurd (omega arith)
-in_row (suc n) b p zero l = rw (div-one (entries n b (suc p) * 256 + selected b p), add-zero p) (omega (arith, selected_le b p))
-in_row (suc n) b p (suc k) l =
-    let e : suc k * 8 ≡ 8 + k * 8 = omega arith in
-    let f : (entries n b (suc p) * 256 + selected b p) / 2 ^ 8 ≡ entries n b (suc p) = omega (arith, selected_le b p) in
-    let g : suc p + k ≡ p + suc k = omega arith in
-    rw (e, ← (shr-shr (entries n b (suc p) * 256 + selected b p) 8 (k * 8)), f, in_row n b (suc p) k (omega arith), g)
-
-pub entry_is : (b p : ℕ) {r : ℕ} → p < 8 → r ≡ row_of b → r / 2 ^ (p * 8) % 256 ≡ selected b p
-unfolding row_of
-entry_is b p l e = rw e (in_row 8 b 0 p l ∙ ap (selected b) (zero-add p))

@@ -13,14 +13,6 @@ seek (suc n) p w h = ite (has w p && eqb (ones_in p w) h) p (seek n (suc p) w h)
 unfoldable pub selected : ℕ → ℕ → ℕ
 selected byte position = seek 8 0 byte position
 
--- a byte's row of the table: the entries of n positions from p on, a byte for each, the lowest first
-unfoldable pub entries : ℕ → ℕ → ℕ → ℕ
-entries zero byte p = 0
-entries (suc n) byte p = entries n byte (suc p) * 256 + selected byte p
-
-unfoldable pub row_of : ℕ → ℕ
-row_of byte = entries 8 byte 0
-
 -- running counts of ones: in each of n bytes, a and the ones of that byte of w and of the bytes below it
 unfoldable pub running : ℕ → ℕ → ℕ → ℕ
 running zero a w = 0

@@ -31,8 +31,8 @@ fn put_header(out: &mut Page, events: u16)
     out.put_all(&[1, high, low]);
 }
 
-// The event of a row: 1 for no, 2 for yes, where Run has 0 and 1: one more. The answer is a byte of a row, which Run wrote for C: to make it an
-// enum again could fail.
+// The event of a row: the row's first three bytes, then its answer's number and one more, so 1 for no and 2 for yes. The answer is a byte of a row,
+// which Run wrote for C: to make it an enum again could fail.
 fn put_finish(out: &mut Page, row: &[u8; 4])
     requires { get_or row.now 3 0 < 255 }
     ensures { Writes out.old out.new (get_or row.now 0 0 ∷ get_or row.now 1 0 ∷ get_or row.now 2 0 ∷ (get_or row.now 3 0 + 1) ∷ []) }

@@ -14,7 +14,7 @@ ghost use Rattle.listing.specs.Texts.{headed, shown, station_part, plain_route};
 use buffer::Page;
 use definitions::{Kind, Node, Nodes, Version};
 
-// The word for a kind. By a match, with no Display, as buffer's `put_decimal`, which says why.
+// The word for a kind. By a match; with no Display, as buffer's numbers: the reason stands there.
 pub fn put_kind(out: &mut Page, kind: Kind)
     ensures { Writes out.old out.new (kind_word kind) }
 {

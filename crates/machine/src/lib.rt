@@ -95,7 +95,7 @@ pub fn ask(last: u8, x: u8, y: u8, d: u16, place: Place) -> Result<Asked, Refusa
 
 // The notes of a thread that has noted an operation, at a place, and nothing else. The three parts of an operation are
 // no struct: they are three fields of `Notes`, which steps read one by one, and travel together only from a record into these, and
-// from a query's notes into frames' `finish`.
+// from a thread's notes at 82 into frames' `finish`.
 fn notes_at(action: Action, station: u8, extra: u16, place: Place) -> Notes
     ensures { thread result [] ≡ begun action station extra place }
 {

@@ -52,8 +52,8 @@ pub fn put_answer(out: &mut Page, y: u8)
 
 // ---- the rows
 
-// The length of a row. One `if`, as for each size by version, where it is used: writer's of the first records of a file, list's of a text, tally's
-// of a record and a row. One table of all would stand in a crate below these, and be no plainer.
+// The length of a row. One `if` or match, as for each size by version, where it is used: schedule's of a file, run's of a record and of the
+// rows, list's of a text, tally's of a record and a row. One table of all would stand in schedule or below it, and be no plainer.
 #[tactic(auto, using(crate::proofs::Cases::width_cases))]
 fn row_width(version: Version) -> usize
     ensures { result ≡ row_width (headed version) }
@@ -133,7 +133,7 @@ pub fn put_last(out: &mut Page, stored: u64, used: u64)
 // ---- the whole
 
 // The lines of a run: its report and rows, its text, and the file's version and count. A report stands beside its buffer, r beside `rows` and l
-// beside `text`: so C lends the buffers, and so it is told.
+// beside `text`: as Run and List hand them back, for C.
 pub fn put_lines(
     out: &mut Page,
     version: Version,

@@ -58,7 +58,7 @@ fn bare(place: Place) -> Result<Outcome, Shortage>
 }
 
 // One step of a thread, which has the notes th and stands at a place from 60 on; a query was asked for the stations from `station` to `extra`.
-// A switch on the place: 82 ends the frame on top, every other place changes it. A function handed in for each place would be no plainer.
+// A switch on the place: 82 ends the frame on top, every other place leaves it on top. A function handed in for each place would be no plainer.
 pub fn query(view: &View, frames: &mut Frames, owner: Owner, th: Notes) -> Result<Outcome, Shortage>
     requires place { 60 ≤ th.place }
     requires room { Room th.place (frames_of (held frames.old) owner.thread owner.depth) }

@@ -27,6 +27,11 @@ reread_none t end threads = record { own = refl; puts = λ v. refl; size = refl 
 pub reread_one : (t r : ℕ) (end : Notes) (threads : List Notes) → t < length threads → Rereads t r end threads (set threads t (reread r (get_or threads t end)))
 reread_one t r end threads i = record { own = get_or-set_same threads t (reread r (get_or threads t end)) end i; puts = λ v. set-set threads t _ v; size = length-set threads t _ }
 
+-- its place stays
+pub place_on : (t : ℕ) (end : Notes) (threads : List Notes) {threads' : List Notes} (r : ℕ) → t < length threads → threads' ≡ set threads t (reread r (get_or threads t end))
+    → (get_or threads' t end).place ≡ (get_or threads t end).place
+place_on t end threads r i e = rw (e, get_or-set_same threads t (reread r (get_or threads t end)) end i) refl
+
 -- the count after a step at the place p, where it is neither of two
 pub count_other : (p c : ℕ) → (p ≡ 4 → ⊥) → (p ≡ 5 → ⊥) → c ≡ recounted p c
 count_other p c g h = rw (ne_eqb p 4 g, ne_eqb p 5 h)

@@ -18,6 +18,7 @@ pub mod Queried
 pub mod Wide
 pub mod Chosen
 pub mod Staged
+pub mod Settled
 pub mod Looked
 pub mod Reading
 pub mod Ended

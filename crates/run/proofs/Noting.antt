@@ -2,13 +2,10 @@
 use mathlib.Core.Path.{◌≡◌, refl}
 use mathlib.Core.List.{List}
 use Prim.Native.Nat.{ℕ}
-use native.Mathlib.Omega.{arith}
 use Rattle.steps.specs.declared.Notes.{Notes}
 use Rattle.steps.specs.declared.Note.{Note}
-use Rattle.steps.specs.Decision.{thread}
 use Rattle.machine.specs.Noted.{frames_after, Noted}
 use Rattle.definitions.specs.Threads.{Frame}
-use Rattle.definitions.specs.Places.{to_route}
 
 -- the notes th at the place p; nothing else is noted, or a new frame, which lies apart
 abbrev pub placed : ℕ → Notes → Notes
@@ -30,12 +27,6 @@ placed p th = record {
   other = th.other;
 }
 
-pub nothing_noted_lem : {th : Notes} (p : ℕ) → Noted th (placed p th) Note.Nothing p
-nothing_noted_lem p = record { after = λ f fs. refl }
-
-pub route_noted : {th v : Notes} (p x : ℕ) → ((fs : List Frame) → thread v fs ≡ to_route p x (thread th fs)) → Noted th v (Note.Route x) p
-route_noted p x q = record { after = λ f fs. q fs }
-
 pub opened_noted : {th : Notes} (p : ℕ) → Noted th (placed p th) Note.Opened p
 opened_noted p = record { after = λ f fs. refl }
 
@@ -52,6 +43,3 @@ unopened_still (Note.Main x d) f fs o = refl
 unopened_still (Note.Grandparent g) f fs o = refl
 unopened_still (Note.Other x) f fs o = refl
 unopened_still Note.Opened f fs o = absurd (o refl)
-
-pub unopened : Note.Nothing ≡ Note.Opened → ⊥
-unopened e = let z : ◌≡◌ {A = ℕ} 0 1 = cc in omega arith

@@ -1,8 +1,7 @@
 -- Where the ways of a record meet in the loop: nothing is left to do, or a row is, or what has to do with frames (`query::round`); and what the
 -- loop holds once that is done. Rests on crate answers by the laws of one record more.
 use Rattle.std.specs.Prelude.{Result as Outcome, Ok, Err}
-use mathlib.Core.Path.{◌≡◌, refl, sym, ap, ◌∙◌, subst}
-use mathlib.Core.Bool.{Bool}
+use mathlib.Core.Path.{◌≡◌, refl, ap, ◌∙◌, subst}
 use mathlib.Core.List.{List, [], ◌∷◌}
 use Prim.Native.Nat.{ℕ, zero, suc, ◌+◌, ◌/◌, ◌%◌, ◌≤◌, ◌<◌}
 use native.Mathlib.Omega.{arith}
@@ -18,7 +17,7 @@ use Rattle.steps.specs.declared.Notes.{Notes}
 use Rattle.effects.specs.declared.Write.{Write}
 use Rattle.steps.specs.declared.Note.{Note}
 use Rattle.steps.specs.declared.Decision.{Decision}
-use Rattle.steps.specs.Decision.{thread, Decides, finding}
+use Rattle.steps.specs.Decision.{thread}
 use Rattle.machine.specs.declared.Asked.{Asked}
 use Rattle.machine.specs.Noted.{Noted}
 use Rattle.machine.specs.Enacted.{depth_by}
@@ -40,12 +39,11 @@ use Rattle.run.specs.declared.query.Left.{Left}
 use Rattle.run.specs.declared.query.Left.TheVariants.{Goes, Found}
 use Rattle.run.specs.declared.query.Task.{Task}
 use Rattle.run.specs.declared.query.Task.TheVariants.{Start, Help, Back, Step, Refuse}
-use Rattle.run.proofs.Decided.{reread, written, Decided}
-use Rattle.run.proofs.Changed.{count_other, Rereads, Begun}
-use Rattle.run.proofs.Sought.{Seeks, Sought, sought_find}
+use Rattle.run.proofs.Decided.{written, Decided}
+use Rattle.run.proofs.Changed.{Rereads}
 use Rattle.run.proofs.Noting.{placed, unopened_still}
-use Rattle.run.proofs.Turn.{seen, stand, Asking, few, awake, noted_on, said_on, opened_on, opens_few, back_on}
-use Rattle.run.proofs.Queried.{searching, asking_on, stack_fits, left_on, left_found, left_refused}
+use Rattle.run.proofs.Turn.{seen, stand, Asking, few, noted_on, said_on, opened_on, opens_few, back_on}
+use Rattle.run.proofs.Queried.{asking_on, stack_fits, left_on, left_found, left_refused}
 use Rattle.run.proofs.Wide.{wide_turn, wide_back, wide_start, wide_open}
 
 -- a list put what it has
@@ -225,42 +223,3 @@ module _ {file : List ℕ} {k x y e : ℕ} {n : Shapes} {l : List ℕ} {s : Stor
                     (opened_on q z d low i l' w g u b c o (record { after = λ fr fs. rw there at (e (fr ∷ fs)) }) (rw there at f.0));
               });
         }
-
-  -- 1 and 2, which have decided d and write nothing
-  module _ (z : a ≡ Ok Asked.Step) (d : Decision) {threads' : List Notes} (on : Bool) (low : (seen threads x end).place < 3)
-      (i : Begun (sight n root used s shown (stop (stop_of file) count)) (x / 16 % 4) end threads threads' d)
-      (j : Decides (seen threads' x end) d (finding (seen threads' x end).place on n root)) where
-    found : Sought d
-    found =
-        let own : seen threads' x end ≡ reread (seen threads' x end).read (seen threads x end) = i.rereads.own in
-        let at : (seen threads' x end).place ≡ (seen threads x end).place = ap (λ (v : Notes). v.place) own in
-        let same : (seen threads' x end).action ≡ (seen threads x end).action = ap (λ (v : Notes). v.action) own in
-        sought_find on n root (omega (arith, at, awake q z)) (omega (arith, at, low)) (λ w. searching q z (omega arith) (λ v. omega arith) (sym same ∙ w)) j
-
-    nodes_still : Applied n root used s shown (written d) n root s
-    nodes_still = rw found.silent (record { stored = λ _ _. refl })
-
-    depths_still : length l ≡ 16384 → rows l ≡ deepened (written d) n q.stands.deep
-    depths_still m = rw found.silent (q.stands.depths m)
-
-    used_still : used ≡ used_after used (written d)
-    used_still = rw found.silent
-
-    count_still : count ≡ recounted (seen threads x end).place count
-    count_still = count_other (seen threads x end).place count (λ m. omega arith) (λ m. omega arith)
-
-    pub found_done : {v : Notes} {e₁ : Write} {p : ℕ} {m : Note} → d ≡ Decision.Goes e₁ p m → Noted (seen threads' x end) v m p
-        → Next file k n l s (set threads' (x / 16 % 4) v) counts h count root used shown finished at first buffer
-    found_done o m = noted_done z d (omega arith) i.decided l nodes_still depths_still used_still i.rereads count_still o m (subst Seeks o found.ways)
-
-    -- in two stores
-    pub found_twice : (u : Notes) {v : Notes} {e₁ : Write} {p : ℕ} {m : Note} → d ≡ Decision.Goes e₁ p m → Noted (seen threads' x end) v m p
-        → Next file k n l s (set (set threads' (x / 16 % 4) u) (x / 16 % 4) v) counts h count root used shown finished at first buffer
-    found_twice u o m = rw set-set (found_done o m)
-
-    pub found_row_lem : {e₁ : Write} {a₁ : Answer} → d ≡ Decision.Answers e₁ a₁ → Answering file k x n l s threads' counts h count root used shown finished at first buffer end a₁
-    found_row_lem o = answer_row z d (omega arith) i.decided l nodes_still depths_still used_still i.rereads count_still o
-
-    -- it does one or the other
-    pub found_some : Seeks d
-    found_some = found.ways

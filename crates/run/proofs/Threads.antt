@@ -21,7 +21,7 @@ use Rattle.run.specs.Standing.{Sizes, Spare}
 use Rattle.frames.specs.declared.frame.Frame.{Frame as Kept}
 use Rattle.std.specs.Prelude.{Option}
 
-abbrev notes_of : Thread → Notes
+abbrev pub notes_of : Thread → Notes
 notes_of th = record {
   action = th.action;
   station = th.station;

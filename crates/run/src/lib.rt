@@ -17,16 +17,17 @@ ghost use Rattle.definitions.specs.Schedule.{count_of};
 ghost use Rattle.definitions.specs.Versions.{version, by, width, row_room};
 ghost use Rattle.definitions.specs.Run.{ended, report_of, overlay, wider_row, run_refusal, run_report, run_buffer};
 ghost use Rattle.run.specs.Threads.{recounted};
+ghost use Rattle.run.specs.Settled.{Settles};
 ghost use Rattle.run.specs.Standing.{Lent, Spare, Enough, row_of, Carried, Handed};
 
 use buffer::Page;
-use definitions::{Action, Answer, Nodes, Place, Refusal, Report, Stop, Version};
+use definitions::{Action, Answer, Nodes, Place, Quarter, Refusal, Report, Stop, Version};
 use frames::Frames;
 use frames::frame::Frame;
 use machine::Asked;
 use nodes::View;
 use query::{Counts, Left, Task};
-use steps::{Decision, Note, Notes, search};
+use steps::{Decision, Note, Notes, complete, join, search, swap};
 
 pub mod query; // a step at a place from 60 on, and the row of a query
 
@@ -105,7 +106,7 @@ pub fn put_row(
     page.at
 }
 
-// The count of the stop after a step at this place. A match on 01's places, as in the parts of steps (`decide_join` says why).
+// The count of the stop after a step at this place. A match on 02's places 4 and 5, as in the parts of steps: the header of crate steps says why.
 fn recount(place: Place, count: usize) -> usize
     requires { (count < 5) × (place ≡ 5 → 0 < count) }
     ensures { result ≡ recounted place count }
@@ -117,12 +118,64 @@ fn recount(place: Place, count: usize) -> usize
     }
 }
 
-// The last two bytes of a record from version 2 on, which starts at `from`.
-fn extra_at(schedule: &[u8], from: usize) -> u16
-    requires { from + 3 < length schedule.now }
-    ensures { result ≡ get_or schedule.now (from + 2) 0 * 256 + get_or schedule.now (from + 3) 0 }
+// The last two bytes of a record from version 2 on.
+fn extra_of(bytes: &[u8]) -> u16
+    requires { 3 < length bytes.now }
+    ensures { result ≡ get_or bytes.now 2 0 * 256 + get_or bytes.now 3 0 }
 {
-    u16::from_be_bytes([schedule[from + 2], schedule[from + 3]])
+    u16::from_be_bytes([bytes[2], bytes[3]])
+}
+
+// What a step below 60 has decided is carried out: it writes, its thread notes, and what is left to do for the thread comes back. Inlined: by a
+// call, 4,096 records of version 1 take 1.06 times as long, 256 records 1.25 to 1.3 times. Root, numbers used and notes are lent each by itself: a
+// struct of the first two would be made for the call, and taken apart again.
+#[inline(always)]
+fn settle(
+    nodes: &mut Nodes,
+    depths: &mut [u16],
+    root: &mut u8,
+    used: &mut u16,
+    th: &mut Notes,
+    d: Decision,
+) -> Job
+    ensures { Settles d (table nodes.old) depths.old root.old used.old th.old (table nodes.new) depths.new root.new used.new th.new result }
+{
+    match d {
+        Decision::Goes {
+            effect,
+            place,
+            note,
+        } => {
+            *root = machine::enact(nodes, depths, *root, *used, effect);
+            *used = effects::used_after(*used, effect);
+            match note {
+                Note::Nothing => {
+                    th.place = place;
+                    Job::Nothing
+                }
+                // a range base is in the way: its query is helped in a frame of its own
+                Note::Opened => {
+                    th.place = place;
+                    Job::Task(Task::Help)
+                }
+                _ => {
+                    *th = machine::note(*th, place, note);
+                    Job::Nothing
+                }
+            }
+        }
+        Decision::Answers { effect, answer } => {
+            *root = machine::enact(nodes, depths, *root, *used, effect);
+            *used = effects::used_after(*used, effect);
+            Job::Row(answer)
+        }
+        Decision::Back { effect } => {
+            *root = machine::enact(nodes, depths, *root, *used, effect);
+            *used = effects::used_after(*used, effect);
+            Job::Task(Task::Back)
+        }
+        Decision::NodesOut => Job::Task(Task::Refuse(Refusal::Numbers)),
+    }
 }
 
 // All records of a file that is not refused, from a fresh bench; the first one refused ends them. A thread's record changes where it
@@ -130,10 +183,10 @@ fn extra_at(schedule: &[u8], from: usize) -> u16
 // its own to ask, so that it pays nothing for what the others have more (a long run takes no more than at the start: docs/DESIGN-PASS.md,
 // "Speed"). `frames` has how many frames each thread has; the arrays that hold them may hold anything at first. A file that asks for no query has
 // no frame and no result of a store, and may be lent no memory for them. That the file is proper is told to the few that carry it out: a
-// struct around C's slice would say the same, and each would open it. What decides a step is asked for by an `if` on each range of places, in the
-// order of their numbers, the search first; a match would have the same ranges as its arms, and be no plainer. The loop moves `from` by hand:
-// the branch that reads a record by its version knows where the next one starts; `step_by` would have the width beside it, and the count of the
-// records still. Bytes are read at `from`, for there are no chunks of one width in a file of any version.
+// struct around C's slice would say the same, and each would open it. Which part decides a step below 60 is a match on
+// ranges of places, 01's and 02's 4, 5 and 19: twelve parts with a function each, so that a function handed in for each would be no plainer. What
+// each decides is settled at once: with one `settle` after the match a decision lies in memory, and 4,096 records of version 1 take 1.04 times as
+// long, 256 records 1.15 times (docs/DESIGN-PASS.md, "Speed").
 pub fn carry_out(
     nodes: &mut Nodes,
     depths: &mut [u16],
@@ -159,111 +212,88 @@ pub fn carry_out(
     let on = v == 3;
     let mut finished = 0usize;
     let mut at = 0usize;
-    let mut from = 3usize;
-    let mut k = 0usize;
-    while from < schedule.len() {
-        let x = schedule[from];
-        let y = schedule[from + 1];
-        let mut after = from + 2;
-        let next = k + 1;
+    let width = if v == 1 { 2 } else { 4 };
+    for (k, bytes) in schedule[3..].chunks_exact(width).enumerate() {
+        let x = bytes[0];
+        let y = bytes[1];
         let t = (x / 16 % 4) as usize;
         let place = threads[t].place;
         let mut extra = 0u16;
         let asked = if v == 1 {
             machine::ask(5, x, y, 0, place)
         } else {
-            extra = extra_at(schedule, from);
-            after = from + 4;
+            extra = extra_of(bytes);
             machine::ask(6, x, y, extra, place)
         };
         let job = match asked {
             Err(refusal) => Job::Task(Task::Refuse(refusal)),
             Ok(what) => match what {
                 Asked::Step => {
-                    if place < 3 {
-                        // 1, 2: the search, which writes nothing
-                        if on {
-                            threads[t].read = search::read_after(threads[t]);
+                    let view = View {
+                        nodes: &*nodes,
+                        results: &results[..],
+                        root,
+                        used,
+                        shown,
+                        stop: Stop { on, count },
+                    };
+                    match place {
+                        1 => {
+                            if on {
+                                threads[t].read = search::read_after(threads[t]);
+                            }
+                            let d = search::reach(nodes, threads[t], root);
+                            settle(nodes, depths, &mut root, &mut used, &mut threads[t], d)
                         }
-                        match search::find(nodes, root, on, threads[t]) {
-                            Decision::Goes {
-                                place: to,
-                                note,
-                                ..
-                            } => match note {
-                                Note::Route(route) => {
-                                    threads[t].place = to;
-                                    threads[t].route = route;
-                                    Job::Nothing
-                                }
-                                _ => {
-                                    threads[t] = machine::note(threads[t], to, note);
-                                    Job::Nothing
-                                }
-                            },
-                            Decision::Answers { answer, .. } => Job::Row(answer),
-                            _ => unreachable!(),
+                        2 => {
+                            if on {
+                                threads[t].read = search::read_after(threads[t]);
+                            }
+                            let d = search::descend(nodes, on, threads[t]);
+                            settle(nodes, depths, &mut root, &mut used, &mut threads[t], d)
                         }
-                    } else if place < 60 {
-                        // 3, 10 to 13, or 15 to 51, with the stop on also 4, 5 and 19
-                        let view = View {
-                            nodes: &*nodes,
-                            results: &results[..],
-                            root,
-                            used,
-                            shown,
-                            stop: Stop { on, count },
-                        };
-                        let d = if place == 3 {
-                            search::examine(&view, threads[t])
-                        } else if place < 10 {
+                        3 => {
+                            let d = search::examine(&view, threads[t]);
+                            settle(nodes, depths, &mut root, &mut used, &mut threads[t], d)
+                        }
+                        4..=9 => {
                             count = recount(place, count);
-                            search::count(nodes, threads[t])
-                        } else if place < 14 {
-                            steps::decide_swap(&view, threads[t])
-                        } else {
-                            // a copy, so that the view lies in memory for these places alone
-                            let seen = view;
-                            steps::decide_join(&seen, threads[t])
-                        };
-                        match d {
-                            Decision::Goes {
-                                effect,
-                                place: to,
-                                note,
-                            } => {
-                                root = machine::enact(nodes, depths, root, used, effect);
-                                used = effects::used_after(used, effect);
-                                match note {
-                                    Note::Nothing => {
-                                        threads[t].place = to;
-                                        Job::Nothing
-                                    }
-                                    // a range base is in the way: its query is helped in a frame of its own
-                                    Note::Opened => {
-                                        threads[t].place = to;
-                                        Job::Task(Task::Help)
-                                    }
-                                    _ => {
-                                        threads[t] = machine::note(threads[t], to, note);
-                                        Job::Nothing
-                                    }
-                                }
-                            }
-                            Decision::Answers { effect, answer } => {
-                                root = machine::enact(nodes, depths, root, used, effect);
-                                used = effects::used_after(used, effect);
-                                Job::Row(answer)
-                            }
-                            Decision::Back { effect } => {
-                                root = machine::enact(nodes, depths, root, used, effect);
-                                used = effects::used_after(used, effect);
-                                Job::Task(Task::Back)
-                            }
-                            Decision::NodesOut => Job::Task(Task::Refuse(Refusal::Numbers)),
+                            let d = search::count(nodes, threads[t]);
+                            settle(nodes, depths, &mut root, &mut used, &mut threads[t], d)
                         }
-                    } else {
-                        Job::Task(Task::Step)
+                        10..=13 => {
+                            let d = swap::own(&view, threads[t], Quarter::from(place - 10));
+                            settle(nodes, depths, &mut root, &mut used, &mut threads[t], d)
+                        }
+                        14..=18 => {
+                            let d = search::unblock(&view, threads[t]);
+                            settle(nodes, depths, &mut root, &mut used, &mut threads[t], d)
+                        }
+                        19..=25 => {
+                            let d = join::approach(&view, threads[t]);
+                            settle(nodes, depths, &mut root, &mut used, &mut threads[t], d)
+                        }
+                        26..=29 => {
+                            let d = swap::found(&view, threads[t], Quarter::from(place - 26));
+                            settle(nodes, depths, &mut root, &mut used, &mut threads[t], d)
+                        }
+                        30..=39 => {
+                            let d = join::prepare(&view, threads[t]);
+                            settle(nodes, depths, &mut root, &mut used, &mut threads[t], d)
+                        }
+                        40 => {
+                            let d = complete::begin(&view, threads[t]);
+                            settle(nodes, depths, &mut root, &mut used, &mut threads[t], d)
+                        }
+                        41..=44 => {
+                            let d = swap::united(&view, threads[t], Quarter::from(place - 41));
+                            settle(nodes, depths, &mut root, &mut used, &mut threads[t], d)
+                        }
+                        45..=59 => {
+                            let d = complete::finish(&view, threads[t]);
+                            settle(nodes, depths, &mut root, &mut used, &mut threads[t], d)
+                        }
+                        _ => Job::Task(Task::Step),
                     }
                 }
                 // a query's start has a frame
@@ -339,15 +369,13 @@ pub fn carry_out(
                 }
             }
         }
-        from = after;
-        k = next;
     }
     Standing {
         root,
         used,
         shown,
         refusal: Ok(()),
-        done: k,
+        done: schedule::count_of(schedule),
         finished,
         at,
         threads,

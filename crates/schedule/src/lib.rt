@@ -141,7 +141,7 @@ impl Iterator for Reader<'_> {
     ghost remaining = { left_in };
 
     // The record at the position, of two bytes or of four; the position is then that of the one after. An arm for each
-    // of the two widths.
+    // of the two widths: the version is known at run time alone, so a width in a type would be chosen by the same two arms, and be no plainer.
     fn next(&mut self) -> Option<Record> {
         let rest = self.schedule.get(self.at..)?;
         match rest {

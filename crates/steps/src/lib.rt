@@ -1,21 +1,21 @@
 // The places: what one step of a thread decides. It reads the nodes and writes nothing; its effect is carried out by crate effects.
 #![tactic(auto)]
 
-ghost use Rattle.std.specs.Prelude.{◌≡◌, ◌<◌, ◌≤◌, true, false};
+ghost use Rattle.std.specs.Prelude.{◌≡◌, true, false};
 ghost use Rattle.nodes.specs.Table.{table};
-ghost use Rattle.nodes.specs.View.{seen};
 ghost use Rattle.definitions.specs.Nodes.{is_route};
-ghost use Rattle.definitions.specs.Places.{place_of};
-ghost use Rattle.definitions.specs.Steps.{step};
 ghost use Rattle.effects.specs.declared.Write.TheVariants.{Quiet};
 ghost use Rattle.steps.specs.declared.Note.TheVariants.{Route};
 ghost use Rattle.steps.specs.declared.Decision.TheVariants.{Goes};
-ghost use Rattle.steps.specs.Decision.{Decides};
 
-use definitions::{Action, Answer, Node, Nodes, Place, Quarter};
+use definitions::{Action, Answer, Node, Nodes, Place};
 use effects::Write;
-use nodes::View;
 
+// A run takes the places apart (crate run), below 60 (from there on: crate queries), so that each part reads few of the thread's notes and what
+// it decides is carried out at once: `search::reach` is for 1, `search::descend` for 2, `search::examine` for 3; with the stop on, `search::count` for 4 and 5;
+// `search::unblock` for 15 and 16; `swap::own`, `swap::found` and `swap::united` for the swaps; `join::approach`, `join::prepare`,
+// `complete::begin` and `complete::finish` for the rest of a join. In a part each arm of a match on a place is a place of 01 or 02, or, the last, the
+// numbers that no place has: a function handed in for each would be no plainer.
 pub mod search; // 1 to 5, 15, 16: the search, the base reached, a base that is blocked
 pub mod swap; // 10 to 13, 26 to 29, 41 to 44: the four-step swap
 pub mod join; // 19 to 38: a join until its stage is a node number
@@ -173,36 +173,5 @@ fn on_way<F: FnOnce(Node) -> Decision>(nodes: &Nodes, x: u8, place: Place, at_ba
         Decision::note(place, Note::Route(x))
     } else {
         at_base(n)
-    }
-}
-
-// The place decides, below 60 (from there on: crate queries). A run takes the four parts apart (crate run): a part reads few of the
-// thread's notes. `search::find` is the first, for 1 and 2, `search::examine` the second, for 3; with the stop on, `search::count` is for 4
-// and 5.
-
-// 10 to 13: the swap of the thread's own base.
-#[tactic(auto, using(crate::proofs::DecideLaws::at_swap))]
-pub fn decide_swap(view: &View, th: Notes) -> Decision
-    requires { (10 ≤ th.place) × (th.place < 14) }
-    ensures { Decides th result (step (place_of th.place) (seen view.now)) }
-{
-    swap::own(view, th, Quarter::from(th.place - 10))
-}
-
-// 15 to 51: a base that is blocked, and a join with its two swaps. A match on 01's ranges: seven parts with a function each, so that a function
-// handed in for each would be no plainer. So in the parts: each arm of a match on a place is one of 01's places.
-#[tactic(auto, using(crate::proofs::DecideLaws::at_swap))]
-pub fn decide_join(view: &View, th: Notes) -> Decision
-    requires { (14 ≤ th.place) × (th.place < 60) }
-    ensures { Decides th result (step (place_of th.place) (seen view.now)) }
-{
-    match th.place {
-        0..=18 => search::unblock(view, th),
-        19..=25 => join::approach(view, th),
-        26..=29 => swap::found(view, th, Quarter::from(th.place - 26)),
-        30..=39 => join::prepare(view, th),
-        40 => complete::begin(view, th),
-        41..=44 => swap::united(view, th, Quarter::from(th.place - 41)),
-        _ => complete::finish(view, th),
     }
 }

@@ -1,18 +1,19 @@
 // 1 to 3: the search and the base reached; with the stop on, 4 and 5, where a search is counted and no longer. 15 and 16: a base that
 // is blocked. The check of a base is nodes::check, at 3 and at 15.
 // Of these places a query comes to 15 and 16 alone; at the others it is Full, as the definitions say.
-#![tactic(auto, using(std::proofs::lemmas::Bool::Decides::nat_tests), unfolding(container::specs::Choice::ite, definitions::specs::Steps::reached, definitions::specs::Steps::onward, definitions::specs::Steps::followed, definitions::specs::Steps::lost, definitions::specs::Steps::lacks, definitions::specs::Steps::blocked, definitions::specs::Steps::cleared, definitions::specs::Steps::step, definitions::specs::Nodes::replaceable, crate::specs::Decision::read_at, crate::specs::Decision::finding, crate::specs::Decision::counting))]
+#![tactic(auto, using(std::proofs::lemmas::Bool::Decides::nat_tests), unfolding(container::specs::Choice::ite, definitions::specs::Steps::reached, definitions::specs::Steps::onward, definitions::specs::Steps::followed, definitions::specs::Steps::lost, definitions::specs::Steps::lacks, definitions::specs::Steps::blocked, definitions::specs::Steps::cleared, definitions::specs::Steps::step, definitions::specs::Nodes::replaceable, crate::specs::Decision::read_at, crate::specs::Decision::counting))]
 
 ghost use Rattle.std.specs.Prelude.{◌≡◌, [], ◌<◌, ◌≤◌};
 ghost use Rattle.nodes.specs.Table.{table};
 ghost use Rattle.nodes.specs.View.{seen};
 ghost use Rattle.container.specs.Choice.{ite};
 ghost use Rattle.container.specs.Container.{has};
+ghost use Rattle.definitions.specs.Nodes.{child_for};
 ghost use Rattle.definitions.specs.declared.Answer.TheVariants.{No, At};
 ghost use Rattle.definitions.specs.declared.Effect.TheVariants.{Quiet};
 ghost use Rattle.definitions.specs.Places.{place_of};
 ghost use Rattle.definitions.specs.Steps.{at_leaf, reached, onward, followed, help_by, blocked, lacks, cleared, lost, step};
-ghost use Rattle.steps.specs.Decision.{thread, Decides, read_at, finding, counting};
+ghost use Rattle.steps.specs.Decision.{thread, Decides, read_at, counting};
 
 use super::{Decision, Note, Notes, on_way};
 use definitions::{Action, Answer, Check, Node, Nodes, Stage};
@@ -40,7 +41,7 @@ fn look_up(n: Node, station: u8, x: u8) -> Answer
     }
 }
 
-// 1, 2: node x is read.
+// 1, 2: node x is read. At 1 it is the root.
 pub fn reach(nodes: &Nodes, th: Notes, x: u8) -> Decision
     ensures { Decides th result (λ h. reached (table nodes.now) h x) }
 {
@@ -150,19 +151,12 @@ pub fn clear(b: Node, on: bool, th: Notes) -> Decision
     }
 }
 
-// 1, 2, of a thread that has noted the routes read where the stop is on (`read_after`).
-pub fn find(nodes: &Nodes, root: u8, on: bool, th: Notes) -> Decision
-    requires { th.place < 3 }
-    ensures { Decides th result (finding th.place on (table nodes.now) root) }
+// 2, of a thread that has noted the routes read where the stop is on (`read_after`): its route's child on the station's way is read.
+pub fn descend(nodes: &Nodes, on: bool, th: Notes) -> Decision
+    ensures { Decides th result (λ h. followed on (table nodes.now) h (child_for h.station (table nodes.now h.route))) }
 {
-    match th.place {
-        1 => reach(nodes, th, root),
-        2 => {
-            let n = nodes::node_at(nodes, th.route);
-            follow(nodes, on, th, nodes::child_for(th.station, n))
-        }
-        _ => Decision::go(th.place),
-    }
+    let n = nodes::node_at(nodes, th.route);
+    follow(nodes, on, th, nodes::child_for(th.station, n))
 }
 
 // 3: is the base replaceable?

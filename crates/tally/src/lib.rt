@@ -214,7 +214,7 @@ impl Records<'_> {
         let mut at = 3 + self.width;
         let mut k = 1usize;
         let mut ahead = marks::marks(self.schedule, self.width, at, self.done - 1);
-        // A `while`: k and the marks found a turn ahead go on by n together.
+        // A `while`: k and the marks found a turn ahead go on by n together; `step_by` would count k alone, and be no plainer.
         while k < self.done {
             let n = marks::block_size(self.done - k);
             let these = ahead;
@@ -369,7 +369,8 @@ fn joined(i: usize, x: u32, y: u32) -> u64
     u64::from(x) + u64::from(y)
 }
 
-// The sum of two tallies, where it keeps within 32 bits. No heap: it is an array, as C's is. By place, for `joined` needs the place.
+// The sum of two tallies, where it keeps within 32 bits. No heap: it is an array, as C's is. By place, for `joined` needs the place:
+// `zip` and `enumerate` would be no plainer.
 fn added(tally: &[u32; 65], one: &[u32; 65]) -> Option<[u32; 65]>
     ensures some { IfSome result (λ both. (fits (sum (numbers tally.now) (numbers one.now)) ≡ true) × (numbers both ≡ sum (numbers tally.now) (numbers one.now))) }
     ensures none { IfNone result (fits (sum (numbers tally.now) (numbers one.now)) ≡ false) }

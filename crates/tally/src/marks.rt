@@ -4,9 +4,9 @@ ghost use Rattle.std.specs.Int.Bits.{bit_and, bit_xor};
 ghost use Rattle.tally.specs.Walk.{packed};
 ghost use Rattle.tally.specs.Marks.{Width, mark, bits, block_size, apart, two_bytes, in_lane, Bytes};
 
-// ---- eight bytes in a word, two in a lane of 16 bits. Each function below is told that a record stands before `at`, how many from `at` on, and by
-// `Width W` that records have two bytes or four: each asks another length, from another place, so a struct of the slice, the width and the place
-// would be made anew at each call, by the same facts.
+// ---- eight bytes in a word, two in a lane of 16 bits. The functions below that read records are told, as each needs it, that one stands before
+// `at`, how many stand from `at` on, and by `Width W` that they have two bytes or four: most calls ask another length or another place, so a struct
+// of the slice, the width and the place would be made anew at each of those, by the same facts.
 
 // The thread of the first of two bytes in each lane.
 const THREADS: u64 = 0x0030_0030_0030_0030;

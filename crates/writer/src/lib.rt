@@ -50,7 +50,8 @@ fn first_barred(s: &[u8]) -> Option<usize>
     (0..schedule::count_of(s)).find(|k| bars(s, *k))
 }
 
-// The first n bytes of s: a public function over slices of any length, by which `part_of` cuts a file.
+// The first n bytes of s: a public function over slices of any length, by which `part_of` cuts a file. n stands beside s: to cut both slices at
+// the call would be no plainer.
 pub fn copy(s: &[u8], n: usize, out: &mut [u8])
     requires { (n ≤ length s.now) × (n ≤ length out.old) }
     ensures { take n out.new ≡ take n s.now }

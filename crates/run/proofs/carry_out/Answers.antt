@@ -1,174 +1,154 @@
 -- `run::carry_out` meets its contract: each way round the loop, by what its record leaves to do (Ways.antt), and the loop's ends. Assumes nothing.
 mod Ways
 use Rattle.frames.specs.View.{held}
-use Rattle.std.proofs.Common.{◌/◌, ◌%◌, refl, ap, ◌∙◌, arith, get_or, set, false, ◌≡◌, ℕ}
-use borrow.Author.Tests.{eq-eqb, ne_eqb}
-use lib.ListN.{length-set}
-use lib.Seq.{get_or-set_same}
-use Rattle.nodes.specs.Table.{table}
-use Rattle.nodes.specs.Stores.{stores}
+use Rattle.std.proofs.Common.{◌+◌, ◌-◌, ◌*◌, ◌/◌, ◌%◌, ◌<◌, refl, sym, length, ap, ◌∙◌, arith, get_or, set, ◌≡◌, ℕ}
+use Rattle.std.specs.Slice.Iter.{chunks_exact_rest, chunks_exact_size}
+use Rattle.std.specs.Iterator.Adapters.{enumerate_source, enumerate_count}
+use lib.ListN.{take, drop, length-set, length-drop}
+use native.Mathlib.Nat.{mul-zero}
+use lib.Seq.{get_or-set_same, take-length}
 use Rattle.steps.specs.declared.Notes.{Notes}
-use Rattle.effects.specs.declared.Write.{Write}
-use Rattle.steps.specs.declared.Note.{Note}
-use Rattle.steps.specs.declared.Decision.{Decision}
-use Rattle.steps.specs.declared.Decision.TheVariants.{Goes}
 use Rattle.steps.specs.Decision.{thread}
-use Rattle.definitions.specs.declared.Answer.{Answer}
-use Rattle.definitions.specs.Bench.{stop, sight}
 use Rattle.definitions.specs.Places.{to_base}
-use Rattle.definitions.specs.Versions.{stop_of}
+use Rattle.definitions.specs.Versions.{width}
 use Rattle.definitions.specs.Run.{after}
 use Rattle.run.proofs.Rows.{finished_few}
-use Rattle.run.proofs.Reading.{at_end, near, far, inside}
+use Rattle.run.proofs.Reading.{least, wide_plain, wide_more, at_end}
 use Rattle.run.proofs.Threads.{all_kept, kept_deep, kept_on}
-use Rattle.run.proofs.Changed.{Begun, begun_off, begun_on}
 use Rattle.run.proofs.Noting.{placed}
-use Rattle.run.proofs.Turn.{seen, awake, count_few, count_some_lem}
-use Rattle.run.proofs.Staged.{going, finding_set, found_some}
-use Rattle.run.proofs.Sought.{Seeks}
+use Rattle.run.proofs.Turn.{seen, count_few, count_some_lem}
+use Rattle.run.proofs.Staged.{going, finding_set}
 use Rattle.run.proofs.Ended.{none_yet, all_done, stopped}
 use Rattle.run.proofs.carry_out.Goals as goal
-use Rattle.run.proofs.carry_out.Goals.{In-loop-from, Joined-v-eq1, Joined-asked, then-on, else-on}
-use Rattle.run.proofs.carry_out.Answers.Ways.{few, read, asking, sizes, is_asked, past, staged}
+use Rattle.run.proofs.carry_out.Goals.{Joined-v-eq1-2, then-v-eq1, else-v-eq1}
+use Rattle.run.proofs.carry_out.Answers.Ways.{number, numbered, next_number, next_wide, next_rest, few, asking, sizes, past, staged}
 
-pub loop-from-init : goal.loop-from-init
-loop-from-init c = (omega arith, (omega arith, (all_kept, (refl, (refl, none_yet _ _ (held c.args.lent.now) c.requires.1.0 c.requires.1.1.0 (λ _. c.requires.1.1.1.0.blank) c.idle_notes-idle.ensures)))))
-
-pub bounds-schedule-from-in-loop-from : goal.bounds-schedule-from-in-loop-from
-bounds-schedule-from-in-loop-from c =
-    omega (arith, near c.args.schedule.now c.loop-from.k c.loop-from.invariant.1.0 (inside c.args.schedule.now c.requires.0 c.loop-from.k (few (goal.at.bounds-schedule-from-in-loop-from c).In-loop-from)))
-
-pub extra_at-extra-requires : goal.extra_at-extra-requires
-extra_at-extra-requires c =
-    far c.args.schedule.now c.loop-from.k c.loop-from.invariant.1.0 (inside c.args.schedule.now c.requires.0 c.loop-from.k (few (goal.at.extra_at-extra-requires c).In-loop-from)) (λ z. c.if-v-eq1.false (c.version_of-v.ensures ∙ z))
+pub loop-k-init : goal.loop-k-init
+loop-k-init c =
+    let s = c.args.schedule.now in
+    let gives = c.into_iter-k-iterator.ensures.into_iter_gives in
+    let none : enumerate_count c.into_iter-k-iterator.result ≡ 0 = ap enumerate_count gives ∙ c.enumerate-k-items.ensures.count in
+    let all = ap enumerate_source gives ∙ c.enumerate-k-items.ensures.source in
+    let broad : c.if-v-eq1.width ≡ width s =
+    elim c.if-v-eq1.branch [
+      | then-v-eq1 w ↦ wide_plain s c.version_of-v.ensures w.if-v-eq1.true w.width-is
+      | else-v-eq1 w ↦ wide_more s c.version_of-v.ensures w.if-v-eq1.false w.width-is
+    ] in
+    let whole : take (length s - 3) (drop 3 s) ≡ drop 3 s = ap (λ (n : ℕ). take n (drop 3 s)) (sym (length-drop 3 s)) ∙ take-length (drop 3 s) in
+    let size = ap chunks_exact_size all ∙ c.chunks_exact.ensures.size ∙ broad in
+    record {
+      few = omega (arith, none);
+      wide = size;
+      rest = ap chunks_exact_rest all ∙ c.chunks_exact.ensures.rest ∙ (whole ∙ rw (none, mul-zero (width s)) refl);
+      kept = all_kept;
+      four = refl;
+      each = refl;
+      stands = rw none (none_yet _ _ (held c.args.lent.now) c.requires.1.0 c.requires.1.1.0 (λ _. c.requires.1.1.1.0.blank) c.idle_notes-idle.ensures);
+    }
 
 pub recount-count-requires : goal.recount-count-requires
 recount-count-requires c =
-    let q = asking (goal.at.recount-count-requires c).Joined-v-eq1 in
+    let q = asking (goal.at.recount-count-requires c).Joined-v-eq1-2 in
     (omega (arith, count_few q), count_some_lem q)
-
--- 1 and 2 go on or finish
-no_other : (d : Decision) → Seeks d → ((e : Write) → (p : ℕ) → (m : Note) → d ≡ Goes e p m → ⊥) → ((e : Write) → (a : Answer) → d ≡ Decision.Answers e a → ⊥) → ⊥
-no_other (Goes e p m) s g a = g e p m refl
-no_other (Decision.Answers e v) s g a = a e v refl
-no_other Decision.NodesOut s g a = s
-no_other (Decision.Back e) s g a = s
-
-pub unreachable-requires : goal.unreachable-requires
-unreachable-requires c =
-    let q = asking (goal.at.unreachable-requires c).Joined-v-eq1 in
-    let z = is_asked c.in-Ok.is c.in-Step.is in
-    let l = c.loop-from in
-    let s = c.args.schedule.now in
-    let b : Begun (sight (table l.nodes) l.root l.used (stores l.results) l.shown (stop (stop_of s) l.count)) (get_or s l.from 0 / 16 % 4) past l.threads c.if-on.threads c.find.result =
-    elim c.if-on.branch [
-      | then-on v ↦ rw (← c.version_of-v.ensures) (begun_on _ _ _ _ _ _ _ _ _ _ (awake q z) c.if-place-lt3.true c.find.ensures (eq-eqb _ _ v.if-on.true) (omega (arith, q.four)) v.read_after.ensures v.threads-is)
-      | else-on v ↦ rw (← c.version_of-v.ensures) (begun_off _ _ _ _ _ _ _ _ _ _ (awake q z) c.if-place-lt3.true c.find.ensures (ne_eqb _ _ v.if-on.false) v.threads-is)
-    ] in
-    no_other c.find.result (found_some q z c.find.result _ c.if-place-lt3.true b c.find.ensures) c.in_default.not-Goes c.in_default.not-Answers
 
 pub overflow_add-finished : goal.overflow_add-finished
 overflow_add-finished c =
-    omega (arith, c.loop-from.invariant.1.1.1.1.1.finished, finished_few c.args.schedule.now c.loop-from.k, few (goal.at.overflow_add-finished c).In-loop-from, c.requires.0.few)
+    let j = (goal.at.overflow_add-finished c).Joined-v-eq1-2 in
+    omega (arith, c.loop-k.invariant.stands.finished, finished_few c.args.schedule.now (number j), few j, c.requires.0.few)
 
 pub overflow_add-finished-in-Ok-Found : goal.overflow_add-finished-in-Ok-Found
 overflow_add-finished-in-Ok-Found c =
-    omega (arith, c.loop-from.invariant.1.1.1.1.1.finished, finished_few c.args.schedule.now c.loop-from.k, few (goal.at.overflow_add-finished-in-Ok-Found c).In-loop-from, c.requires.0.few)
+    let j = (goal.at.overflow_add-finished-in-Ok-Found c).Joined-v-eq1-2 in
+    omega (arith, c.loop-k.invariant.stands.finished, finished_few c.args.schedule.now (number j), few j, c.requires.0.few)
 
 pub round-left-requires : goal.round-left-requires
 round-left-requires c =
     let h = goal.at.round-left-requires c in
-    let r = rw c.in-Task.is at (staged h.Joined-asked (asking h.Joined-v-eq1)).stage in
-    record { thread = omega arith; frames = r.frames; memory = λ u. sizes h.Joined-v-eq1 (r.wide u); able = record { more = r.more; room = r.room } }
+    let j = h.Joined-v-eq1-2 in
+    let r = rw c.in-Task.is at (staged h.Joined-asked (asking j)).stage in
+    record { thread = omega arith; frames = r.frames; memory = λ u. sizes j (r.wide u); able = record { more = r.more; room = r.room } }
 
 pub returns-in-Err-left : goal.returns-in-Err-left
 returns-in-Err-left c =
     let h = goal.at.returns-in-Err-left c in
-    let r = rw c.in-Task.is at (staged h.Joined-asked (asking h.Joined-v-eq1)).stage in
-    stopped _ _ _ (few h.In-loop-from) (rw c.in-Err-left.is at (r.on _ _ _ _ _ c.round-left.auto.depths c.round-left.ensures))
+    let j = h.Joined-v-eq1-2 in
+    let r = rw c.in-Task.is at (staged h.Joined-asked (asking j)).stage in
+    rw (numbered j) (stopped _ _ _ (few j) (rw c.in-Err-left.is at (r.on _ _ _ _ _ c.round-left.auto.depths c.round-left.ensures)))
 
-pub loop-from-preserved-in-Nothing-job : goal.loop-from-preserved-in-Nothing-job
-loop-from-preserved-in-Nothing-job c =
-    let h = goal.at.loop-from-preserved-in-Nothing-job c in
-    let g = staged h.Joined-asked (asking h.Joined-v-eq1) in
-    let f = few h.In-loop-from in
-    (omega (arith, f), ((read h.Joined-v-eq1).1.0, (kept_deep c.loop-from.invariant.1.1.0 g.same, (g.four, (g.each, rw c.in-Nothing-job.is at g.stage)))))
+pub loop-k-preserved-in-Nothing : goal.loop-k-preserved-in-Nothing
+loop-k-preserved-in-Nothing c =
+    let h = goal.at.loop-k-preserved-in-Nothing c in
+    let j = h.Joined-v-eq1-2 in
+    let g = staged h.Joined-asked (asking j) in
+    record {
+      few = omega (arith, next_number j, few j);
+      wide = next_wide j;
+      rest = next_rest j;
+      kept = kept_deep c.loop-k.invariant.kept g.same;
+      four = g.four;
+      each = g.each;
+      stands = rw (next_number j) (rw c.in-Nothing.is at g.stage);
+    }
 
-pub loop-from-preserved-in-Row : goal.loop-from-preserved-in-Row
-loop-from-preserved-in-Row c =
-    let h = goal.at.loop-from-preserved-in-Row c in
-    let g = staged h.Joined-asked (asking h.Joined-v-eq1) in
-    let f = few h.In-loop-from in
-    let r = rw c.in-Row.is at g.stage in (
-      omega (arith, f),
-      (
-        (read h.Joined-v-eq1).1.0,
-        (
-          kept_deep c.loop-from.invariant.1.1.0 g.same,
-          (
-            length-set c.match-asked.threads _ _ ∙ g.four,
-            (
-              length-set c.match-asked.frames _ _ ∙ g.each,
-              r.on _ c.idle_notes-idle.ensures (omega arith) c.version_of-v.ensures (λ z. g.same ∙ (c.loop-from.invariant.1.1.0.depths ∙ c.requires.1.1.1.0.whole z)) c.put_row-at.ensures,
-            ),
-          ),
-        ),
-      ),
-    )
+pub loop-k-preserved-in-Row : goal.loop-k-preserved-in-Row
+loop-k-preserved-in-Row c =
+    let h = goal.at.loop-k-preserved-in-Row c in
+    let j = h.Joined-v-eq1-2 in
+    let g = staged h.Joined-asked (asking j) in
+    let r = rw c.in-Row.is at g.stage in
+    record {
+      few = omega (arith, next_number j, few j);
+      wide = next_wide j;
+      rest = next_rest j;
+      kept = kept_deep c.loop-k.invariant.kept g.same;
+      four = length-set c.match-asked.threads _ _ ∙ g.four;
+      each = length-set c.match-asked.frames _ _ ∙ g.each;
+      stands = rw (next_number j) (r.on _ c.idle_notes-idle.ensures (omega arith) c.version_of-v.ensures (λ z. g.same ∙ (c.loop-k.invariant.kept.depths ∙ c.requires.1.1.1.0.whole z)) c.put_row-at.ensures);
+    }
 
-pub loop-from-preserved-in-Ok-Goes : goal.loop-from-preserved-in-Ok-Goes
-loop-from-preserved-in-Ok-Goes c =
-    let h = goal.at.loop-from-preserved-in-Ok-Goes c in
-    let g = staged h.Joined-asked (asking h.Joined-v-eq1) in
-    let f = few h.In-loop-from in
+pub loop-k-preserved-in-Ok-Goes : goal.loop-k-preserved-in-Ok-Goes
+loop-k-preserved-in-Ok-Goes c =
+    let h = goal.at.loop-k-preserved-in-Ok-Goes c in
+    let j = h.Joined-v-eq1-2 in
+    let g = staged h.Joined-asked (asking j) in
     let r = rw c.in-Task.is at g.stage in
     let goes = going _ _ _ _ _ _ _ _ _ _ _ _ _ _ _ _ _ _ _ _ _ _ {c = c.in-Ok-Goes.counts} {p = c.in-Ok-Goes.to} {b = c.in-Ok-Goes.base} {m = c.in-Ok-Goes.depth} c.in-Ok-Goes.is (rw c.in-Ok-Goes.is at c.in-Ok-Goes.field-0-is) (r.on _ _ _ _ _ c.round-left.auto.depths c.round-left.ensures) in
     let o = c.round-left.auto in
     let threads = c.match-asked.threads in
-    let x = get_or c.args.schedule.now c.loop-from.from 0 in
+    let x = get_or c.in-Some.bytes.now 0 0 in
     let first = placed c.in-Ok-Goes.to (seen threads x past) in
-    let kept = get_or-set_same threads (x / 16 % 4) first past (omega (arith, g.four)) in (
-      omega (arith, f),
-      (
-        (read h.Joined-v-eq1).1.0,
-        (
-          kept_on c.loop-from.invariant.1.1.0 (record { depths = o.depths ∙ g.same; results = o.results; frames = o.lent }),
-          (
-            length-set (set threads (x / 16 % 4) first) _ _ ∙ (length-set threads (x / 16 % 4) first ∙ g.four),
-            (
-              length-set c.match-asked.frames _ _ ∙ g.each,
-              goes.on first (λ fs. ap (λ (v : Notes). to_base v.place c.in-Ok-Goes.base (thread v fs)) kept),
-            ),
-          ),
-        ),
-      ),
-    )
+    let kept = get_or-set_same threads (x / 16 % 4) first past (omega (arith, g.four)) in
+    record {
+      few = omega (arith, next_number j, few j);
+      wide = next_wide j;
+      rest = next_rest j;
+      kept = kept_on c.loop-k.invariant.kept (record { depths = o.depths ∙ g.same; results = o.results; frames = o.lent });
+      four = length-set (set threads (x / 16 % 4) first) _ _ ∙ (length-set threads (x / 16 % 4) first ∙ g.four);
+      each = length-set c.match-asked.frames _ _ ∙ g.each;
+      stands = rw (next_number j) (goes.on first (λ fs. ap (λ (v : Notes). to_base v.place c.in-Ok-Goes.base (thread v fs)) kept));
+    }
 
-pub loop-from-preserved : goal.loop-from-preserved
-loop-from-preserved c =
-    let h = goal.at.loop-from-preserved c in
-    let g = staged h.Joined-asked (asking h.Joined-v-eq1) in
-    let f = few h.In-loop-from in
+pub loop-k-preserved : goal.loop-k-preserved
+loop-k-preserved c =
+    let h = goal.at.loop-k-preserved c in
+    let j = h.Joined-v-eq1-2 in
+    let g = staged h.Joined-asked (asking j) in
     let r = rw c.in-Task.is at g.stage in
     let finds = finding_set _ _ _ _ _ _ _ _ _ _ _ _ _ _ _ _ _ _ _ _ _ _ {c = c.in-Ok-Found.counts} {d = c.in-Ok-Found.set} c.in-Ok-Found.is (rw c.in-Ok-Found.is at c.in-Ok-Found.field-0-is) (r.on _ _ _ _ _ c.round-left.auto.depths c.round-left.ensures) in
-    let o = c.round-left.auto in (
-      omega (arith, f),
-      (
-        (read h.Joined-v-eq1).1.0,
-        (
-          kept_on c.loop-from.invariant.1.1.0 (record { depths = o.depths ∙ g.same; results = o.results; frames = o.lent }),
-          (
-            length-set c.match-asked.threads _ _ ∙ g.four,
-            (
-              length-set c.match-asked.frames _ _ ∙ g.each,
-              finds.on _ c.idle_notes-idle.ensures (omega arith) c.version_of-v.ensures c.put_found-at.ensures,
-            ),
-          ),
-        ),
-      ),
-    )
+    let o = c.round-left.auto in
+    record {
+      few = omega (arith, next_number j, few j);
+      wide = next_wide j;
+      rest = next_rest j;
+      kept = kept_on c.loop-k.invariant.kept (record { depths = o.depths ∙ g.same; results = o.results; frames = o.lent });
+      four = length-set c.match-asked.threads _ _ ∙ g.four;
+      each = length-set c.match-asked.frames _ _ ∙ g.each;
+      stands = rw (next_number j) (finds.on _ c.idle_notes-idle.ensures (omega arith) c.version_of-v.ensures c.put_found-at.ensures);
+    }
 
 pub returns : goal.returns
 returns c =
-    let v = c.loop-from.invariant in
-    all_done _ _ _ (ap (after _) (at_end c.args.schedule.now c.requires.0 c.loop-from.k v.0 (omega (arith, v.1.0, c.loop-from-test.false)))) v.1.1.1.1.1
+    let s = c.args.schedule.now in
+    let i = c.loop-k.invariant in
+    let all : enumerate_count c.loop-k.k-iterator ≡ c.count_of.result = at_end s c.requires.0 _ i.rest i.few (omega (arith, c.in-None.ensures.steps.0.1.0, i.wide)) ∙ sym c.count_of.ensures in
+    all_done _ _ _ (ap (after _) c.count_of.ensures) (rw all at i.stands)

@@ -1,7 +1,10 @@
--- The loop of `run::carry_out`: what it keeps, and what comes nearer to its end.
+-- The loop of `run::carry_out`: what it keeps.
 use Rattle.frames.specs.View.{held}
-use Rattle.std.proofs.Common.{◌≡◌, ◌+◌, ◌*◌, ◌-◌, ◌≤◌, length}
+use Rattle.std.proofs.Common.{◌≡◌, ◌+◌, ◌*◌, ◌≤◌, length}
 use Rattle.std.specs.Prelude.{Ok}
+use Rattle.std.specs.Slice.Iter.{chunks_exact_rest, chunks_exact_size}
+use Rattle.std.specs.Iterator.Adapters.{enumerate_source, enumerate_count}
+use lib.ListN.{drop}
 use Rattle.nodes.specs.Table.{table}
 use Rattle.nodes.specs.Stores.{stores}
 use Rattle.definitions.specs.Bench.{stop}
@@ -14,11 +17,17 @@ use Rattle.run.proofs.Threads.{Keeps}
 use Rattle.run.proofs.Turn.{stand}
 use Rattle.run.proofs.carry_out.Given as goal
 
-abbrev pub invariant-loop-from : goal.invariant-loop-from
-invariant-loop-from l =
-    (l.k ≤ count_of l.schedule) × ((l.from ≡ 3 + width l.schedule * l.k) × (Keeps l.initial.depths l.initial.results l.initial.lent l.depths l.results l.lent
-    × ((length l.threads ≡ 4) × ((length l.frames ≡ 4) × Stands (table l.nodes) l.depths (stores l.results) (stop (stop_of l.schedule) l.count)
-    (threads_of l.threads l.frames (held l.lent)) (stand l.root l.used l.shown (Ok tt) l.k l.finished l.at) l.initial.rows l.rows (after l.schedule l.k)))))
-
-abbrev pub decreases-loop-from : goal.decreases-loop-from
-decreases-loop-from l = length l.schedule - l.from
+abbrev pub invariant-loop-k : goal.invariant-loop-k
+invariant-loop-k l =
+    let k = enumerate_count l.k-iterator in
+    let chunks = enumerate_source l.k-iterator in
+    record {
+      few : k ≤ count_of l.schedule;
+      wide : chunks_exact_size chunks ≡ width l.schedule;
+      rest : chunks_exact_rest chunks ≡ drop (3 + width l.schedule * k) l.schedule;
+      kept : Keeps l.initial.depths l.initial.results l.initial.lent l.depths l.results l.lent;
+      four : length l.threads ≡ 4;
+      each : length l.frames ≡ 4;
+      stands : Stands (table l.nodes) l.depths (stores l.results) (stop (stop_of l.schedule) l.count)
+          (threads_of l.threads l.frames (held l.lent)) (stand l.root l.used l.shown (Ok tt) k l.finished l.at) l.initial.rows l.rows (after l.schedule k);
+    }

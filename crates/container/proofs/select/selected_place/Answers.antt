@@ -1,6 +1,6 @@
--- `selected_place` meets its contract: the entry of a position in the byte's row.
-use Rattle.container.proofs.Rank.{entry_is}
+-- `selected_place` meets its contract: the table's entry. Assumes nothing.
+use Rattle.container.proofs.Table.{entry_at}
 use Rattle.container.proofs.select.selected_place.Goals as goal
 
 pub returns : goal.returns
-returns c = entry_is c.args.byte c.args.position c.requires.1 c.row_of-row.ensures
+returns c = entry_at c.args.byte c.args.position c.requires.0 c.requires.1
