@@ -3,7 +3,7 @@
 
 ghost use Rattle.std.specs.Prelude.{◌≡◌};
 
-// How many there are.
+// A constant, for a crate has code: how many there were with request a; the crate has all of tests/vectors now.
 pub fn count() -> u64
     ensures { result ≡ 85 }
 {
