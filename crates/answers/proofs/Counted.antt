@@ -1,6 +1,7 @@
 -- The count of the stop is the number of searches between its two steps, at every moment of every list of records
 -- (definitions/specs/Count.antt). It rests on CountSteps.antt.
 use mathlib.Core.Path.{◌≡◌, refl, ◌∙◌, ap}
+use mathlib.Core.Logic.{◌⊎◌, inl, inr}
 use mathlib.Core.Bool.{Bool, true, false}
 use mathlib.Core.List.{List, [], ◌∷◌}
 use Prim.Native.Nat.{ℕ, zero, suc, ◌+◌, ◌/◌, ◌%◌, ◌<◌, ◌≤◌}
@@ -49,8 +50,22 @@ five_in : {sw i : Bool} {th : Thread} → Noted sw i th → th.place ≡ 5 → i
 five_in {sw} k e = elim (test sw) [ on z ↦ k.stands z ∙ rw e | off z ↦ absurd ((k.off_place z).1 e) ]
 
 pub right : (sw : Bool) (b : Bench) (i : ℕ → Bool) → Tally sw b i → CountRight sw b i
-right sw b i z = (z.switch, z.count, (λ e. (z.count ∙ none e, λ t. (z.notes t).off_place e)), λ t h e. rw z.count (sum_has i t h (five_in (z.notes t) e)))
+right sw b i z = (
+  z.switch,
+  z.count,
+  (λ e. (z.count ∙ none e, λ t. (z.notes t).off_place e)),
+  (λ t h e. rw z.count (sum_has i t h (five_in (z.notes t) e))),
+  (λ t e. out t e),
+  λ h. z.count ∙ rest h,
+)
   where
+    out : (t : ℕ) → (b.threads t).place ≡ 0 ⊎ (b.threads t).place ≡ 1 → i t ≡ false
+    out t (inl e) = aside_not (z.notes t) (rw e, rw e, rw e)
+    out t (inr e) = aside_not (z.notes t) (rw e, rw e, rw e)
+
+    rest : ((t : ℕ) → t < 4 → (b.threads t).place ≡ 0) → searches i ≡ 0
+    rest h = rw (out 0 (inl (h 0 (omega arith))), out 1 (inl (h 1 (omega arith))), out 2 (inl (h 2 (omega arith))), out 3 (inl (h 3 (omega arith))))
+
     none : sw ≡ false → searches i ≡ 0
     none e = let n : (t : ℕ) → i t ≡ false = λ t. (z.notes t).off_out e in rw (n 0, n 1, n 2, n 3)
 
@@ -172,13 +187,6 @@ begins sw = record { switch = refl; count = refl; notes = λ t. aside_noted sw i
 -- 02, h: the count is right at every moment of every list, with the stop off or on
 pub count_rule : CountRule
 count_rule sw rs = from sw rs (fresh sw) (λ _. false) (begins sw)
-
--- with all threads idle no join is stopped
-pub idle_count : (sw : Bool) (b : Bench) (i : ℕ → Bool) → Tally sw b i → ((t : ℕ) → t < 4 → is_idle (b.threads t) ≡ true) → b.store.stop.count ≡ 0
-idle_count sw b i z h = z.count ∙ rw (none 0 (omega arith), none 1 (omega arith), none 2 (omega arith), none 3 (omega arith))
-  where
-    none : (t : ℕ) → t < 4 → i t ≡ false
-    none t l = let e : (b.threads t).place ≡ 0 = eqb-true (b.threads t).place 0 (h t l) in aside_not (z.notes t) (rw e, rw e, rw e)
 
 -- ---- every file, after its first k records: what the code that carries them out needs
 

@@ -2,7 +2,7 @@
 use Rattle.std.specs.Prelude.{Option, Some, None}
 use mathlib.Core.Path.{◌≡◌, refl, sym, ◌∙◌, ap}
 use mathlib.Core.Logic.{◌≢◌, ◌⊎◌, inl}
-use mathlib.Core.Bool.{Bool, true, false, cond, false≢true}
+use mathlib.Core.Bool.{Bool, true, false, not, cond, false≢true}
 use Prim.Native.Nat.{ℕ, ◌<◌, ◌≤◌}
 use native.Mathlib.Omega.{arith}
 use lib.Dec.{ltb, eqb}
@@ -42,7 +42,7 @@ pub as_mark : (c : Bool) (l : Option ℕ) (v : Entry) → ◌≡◌ {A = Entry} 
   key = v.key;
   left = v.left;
   right = v.right;
-  valid = v.valid;
+  invalid = v.invalid;
   mark = cond c l v.mark;
   parent = v.parent;
   container = v.container;
@@ -64,7 +64,7 @@ pub as_valid : (c : Bool) (l : Bool) (v : Entry) → ◌≡◌ {A = Entry} (reco
   key = v.key;
   left = v.left;
   right = v.right;
-  valid = cond c l v.valid;
+  invalid = cond c (not l) v.invalid;
   mark = v.mark;
   parent = v.parent;
   container = v.container;
@@ -86,7 +86,7 @@ pub as_stage : (c : Bool) (l : Stage) (v : Entry) → ◌≡◌ {A = Entry} (rec
   key = v.key;
   left = v.left;
   right = v.right;
-  valid = v.valid;
+  invalid = v.invalid;
   mark = v.mark;
   parent = v.parent;
   container = v.container;

@@ -1,6 +1,6 @@
 -- The count of the stop (02, h): "Show that the count equals the number of searches between the two steps."
 -- Who is between them is read off the places at which steps are taken, and off nothing else.
-use Rattle.std.specs.Prelude.{ℕ, zero, suc, ◌+◌, ◌/◌, ◌%◌, ◌<◌, ◌≡◌, ◌≢◌, Bool, true, false, cond, List, [], ◌∷◌, eqb}
+use Rattle.std.specs.Prelude.{ℕ, zero, suc, ◌+◌, ◌/◌, ◌%◌, ◌<◌, ◌≡◌, ◌≢◌, ◌⊎◌, Bool, true, false, cond, List, [], ◌∷◌, eqb}
 use Rattle.container.specs.Choice.{upd}
 use Rattle.definitions.specs.Bench.{Bench, fresh}
 use Rattle.definitions.specs.Records.{Result, refused, carried, record_step}
@@ -26,14 +26,17 @@ searches i = one (i 0) + (one (i 1) + (one (i 2) + one (i 3)))
 abbrev pub Unstopped : Bench → Type 0
 Unstopped b = (b.store.stop.count ≡ 0) × ((t : ℕ) → ((b.threads t).place ≢ 4) × ((b.threads t).place ≢ 5) × ((b.threads t).place ≢ 19))
 
--- at a moment: the switch is as it was at the start, the count is the number of searches between the two steps, and where a
--- thread is about to take one off there is one to take
+-- at a moment: the switch is as it was at the start, and the count is the number of searches between the two steps; where a
+-- thread is about to take one off there is one to take; a thread that is idle, or at 1, where a search begins, is between no
+-- two; and where all four are idle the count is 0
 abbrev pub CountRight : Bool → Bench → (ℕ → Bool) → Type 0
 CountRight on b i =
     (b.store.stop.on ≡ on)
     × (b.store.stop.count ≡ searches i)
     × (on ≡ false → Unstopped b)
     × ((t : ℕ) → t < 4 → (b.threads t).place ≡ 5 → 0 < b.store.stop.count)
+    × ((t : ℕ) → (b.threads t).place ≡ 0 ⊎ (b.threads t).place ≡ 1 → i t ≡ false)
+    × (((t : ℕ) → t < 4 → (b.threads t).place ≡ 0) → b.store.stop.count ≡ 0)
 
 -- after a record; a refused one leaves the bench, and none after it is carried out
 abbrev pub CountOnward : Result → Bool → Bench → Rec → (ℕ → Bool) → (Bench → (ℕ → Bool) → Type 0) → Type 0

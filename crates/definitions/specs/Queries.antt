@@ -54,7 +54,7 @@ pop_on [] f fs th = goes (at_frames p81 (with_stack [] f ∷ fs) th)
 pop_on (x ∷ s) f fs th = goes (at_frames p72 (with_stack (x ∷ s) f ∷ fs) th)
 
 abbrev pub ascended : Node → Frame → List Frame → Thread → Turn
-ascended r f fs th = ite (cond r.valid (ltb f.key r.key) false) (goes (at p71 th)) (pop_on (tail_of f.stack) f fs th)
+ascended r f fs th = ite (cond r.invalid false (ltb f.key r.key)) (goes (at p71 th)) (pop_on (tail_of f.stack) f fs th)
 
 -- 74: "set: 82. Unset: a range base of this store: add. Else 76"
 abbrev pub met_by : Option ℕ → Node → Frame → List Frame → Thread → Turn

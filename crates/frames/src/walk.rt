@@ -11,9 +11,9 @@ use definitions::{Effect, Node, Place};
 
 // Is the route valid, with its key over k?
 fn above(k: u8, route: Node) -> bool
-    ensures { result ≡ cond route.valid (ltb k route.key) false }
+    ensures { result ≡ cond route.invalid false (ltb k route.key) }
 {
-    route.valid && k < route.key
+    !route.invalid && k < route.key
 }
 
 // 70, with the top route.

@@ -134,38 +134,26 @@ pub fn begin(a: u8, y: u8, d: u16) -> Notes
     start(action_started(a), y, d)
 }
 
-// The notes at the new place, with what is noted. A new frame lies apart.
-pub fn note(th: Notes, place: Place, note: Note) -> Notes
-    ensures { Noted th result note place }
+// The notes come to the new place, and have what is noted. A new frame lies apart. In place: a run whose notes are copied here takes 1.05 times as
+// long.
+pub fn note(th: &mut Notes, place: Place, note: Note)
+    ensures { Noted th.old th.new note place }
 {
+    th.place = place;
     match note {
-        Note::Nothing | Note::Opened => Notes { place, ..th },
-        Note::Route(route) => Notes { place, route, ..th },
-        Note::Base(base) => Notes { place, base, ..th },
-        Note::Parent(parent) => Notes {
-            place,
-            parent,
-            ..th
-        },
-        Note::Side(left) => Notes { place, left, ..th },
-        Note::Found(found) => Notes { place, found, ..th },
-        Note::Neighbour(neighbour) => Notes {
-            place,
-            neighbour,
-            ..th
-        },
-        Note::Main { main, owner } => Notes {
-            place,
-            main,
-            owner,
-            ..th
-        },
-        Note::Grandparent(grandparent) => Notes {
-            place,
-            grandparent,
-            ..th
-        },
-        Note::Other(other) => Notes { place, other, ..th },
+        Note::Nothing | Note::Opened => {}
+        Note::Route(route) => th.route = route,
+        Note::Base(base) => th.base = base,
+        Note::Parent(parent) => th.parent = parent,
+        Note::Side(left) => th.left = left,
+        Note::Found(found) => th.found = found,
+        Note::Neighbour(neighbour) => th.neighbour = neighbour,
+        Note::Main { main, owner } => {
+            th.main = main;
+            th.owner = owner;
+        }
+        Note::Grandparent(grandparent) => th.grandparent = grandparent,
+        Note::Other(other) => th.other = other,
     }
 }
 

@@ -9,7 +9,7 @@ use lib.Dec.{eqb}
 use lib.ListN.{length, get_or, take, drop, length-append}
 use Rattle.container.specs.Choice.{ite}
 use Rattle.buffer.specs.Page.{Page, page, put_all}
-use Rattle.buffer.proofs.Laws.{put_all_append, put_fits, joined}
+use Rattle.buffer.proofs.Laws.{put_all_append, at_mid, joined}
 use borrow.Rule.Slice.PartMut.{put_mid}
 use Rattle.std.specs.List.{enumerate_from, zip}
 use Rattle.std.proofs.lemmas.List.{take-append-drop, length-take-le, get_or_default}
@@ -42,16 +42,6 @@ module _ (f : ℕ) (file : List ℕ) where
   foreign_all {k} {n} o b h i e z = let same : k ≡ n = omega arith in rw (← same, ← z) (sym e)
 
 -- ---- records in turns
-
--- bytes written over a part of the buffer
-pub at_mid : (l : List ℕ) (a k : ℕ) (xs : List ℕ) → length xs ≡ k → a + k ≤ length l → page (put_mid a k l xs) (a + k) ≡ put_all (page l a) xs
-at_mid l a k xs e h =
-    let n : length (take a l) ≡ a = length-take-le a l (omega arith) in
-    let m : length (take a l ++ xs) ≡ a + k = length-append (take a l) xs ∙ omega (arith, n, e) in
-    let front : put_all (page l 0) (take a l) ≡ page l a = put_fits (take a l) l (omega (arith, n)) ∙ rw (n, take-append-drop a l) in
-    let whole : put_all (page l 0) (take a l ++ xs) ≡ page ((take a l ++ xs) ++ drop (a + k) l) (a + k) = put_fits (take a l ++ xs) l (omega (arith, m)) ∙ rw m in
-    let mid : put_mid a k l xs ≡ (take a l ++ xs) ++ drop (a + k) l = sym (take-append-drop (a + k) (put_mid a k l xs)) ∙ ap₂ ◌++◌ (take-put_mid a k l xs (a + k) (omega (arith, e)) (omega arith)) (drop-put_mid a k l xs (a + k) (omega arith) (omega arith) e) in
-    ap (λ b. page b (a + k)) mid ∙ sym whole ∙ put_all_append (page l 0) (take a l) xs ∙ ap (λ q. put_all q xs) front
 
 -- what turn n of both files' records is
 pub record Turn (ones others : List (List ℕ)) (n : ℕ) (p : ℕ × (List ℕ × List ℕ)) : Type 0 where

@@ -2,8 +2,8 @@
 -- (Staged.antt). Rests on crate answers by the laws of one record more.
 use Rattle.std.specs.Prelude.{Result as Outcome, Ok, None}
 use mathlib.Core.Path.{◌≡◌, refl, ap, ◌∙◌}
-use mathlib.Core.List.{List, [], ◌∷◌}
-use Prim.Native.Nat.{ℕ, zero, suc, ◌/◌, ◌%◌, ◌<◌}
+use mathlib.Core.List.{List, []}
+use Prim.Native.Nat.{ℕ, ◌/◌, ◌%◌, ◌<◌}
 use native.Mathlib.Omega.{arith}
 use lib.ListN.{length, get_or, set, length-set}
 use Rattle.machine.specs.declared.Asked.{Asked}
@@ -29,15 +29,13 @@ use Rattle.run.proofs.Decided.{written}
 use Rattle.run.proofs.Noting.{placed}
 use Rattle.run.proofs.Threads.{notes_of}
 use Rattle.run.proofs.Turn.{seen, Asking, full_on, deeper}
-use Rattle.run.proofs.Staged.{Stage, Staged, restaged, noted_done, answer_row, round_refused, round_back, round_open}
+use Rattle.run.proofs.Staged.{set_own, Stage, Staged, restaged, noted_done, answer_row, round_refused, round_back, round_open}
 
 -- ---- the notes
 
 -- notes put where they stand
-put_back : (c : List Notes) (t : ℕ) (v d : Notes) → v ≡ get_or c t d → t < length c → set c t v ≡ c
-put_back [] t v d e h = absurd (omega arith)
-put_back (m ∷ c) zero v d e h = rw e
-put_back (m ∷ c) (suc t) v d e h = ap (λ (l : List Notes). m ∷ l) (put_back c t v d e (omega arith))
+put_back : (c : List Notes) (t : ℕ) (v d : Notes) → v ≡ get_or c t d → set c t v ≡ c
+put_back c t v d e = rw e (set_own c t d)
 
 -- a new frame's place is all that is noted
 opened_placed : {th v : Notes} {p : ℕ} → Noted th v Note.Opened p → v ≡ placed p th
@@ -65,7 +63,7 @@ module _ {file : List ℕ} {k x y e : ℕ} {n : Shapes} {l : List ℕ} {s : Stor
   -- where nothing is noted
   unnoted : {j : Job} → v ≡ seen threads' x end → Stage file k x n' l' s threads' counts h count' root' used' shown finished at first buffer end j → Left j
   unnoted o g =
-      restaged refl refl (put_back threads' (x / 16 % 4) v end o (omega (arith, four))) refl refl refl refl refl (record { four = four; each = q.each; same = same; stage = g })
+      restaged refl refl (put_back threads' (x / 16 % 4) v end o) refl refl refl refl refl (record { four = four; each = q.each; same = same; stage = g })
 
   module _ {f : Effect} (o : written d ≡ f) (w : Effected f n l root used n' l' root' used') where
     all : Enacted n l root used s shown (written d) n' l' root' s
@@ -104,5 +102,5 @@ module _ {file : List ℕ} {k x y e : ℕ} {n : Shapes} {l : List ℕ} {s : Stor
       by (Back b) i g = rw g.1.1 (unnoted g.1.0 (back (ap written i) g.0 i))
       by NodesOut i g =
           let k = c.kept i in
-          restaged g.0 g.1.0 (put_back threads' (x / 16 % 4) v end g.1.1.1.1.0 (omega (arith, four)) ∙ k.0) refl k.1 g.1.1.0 g.1.1.1.0 g.1.1.1.1.1
+          restaged g.0 g.1.0 (put_back threads' (x / 16 % 4) v end g.1.1.1.1.0 ∙ k.0) refl k.1 g.1.1.0 g.1.1.1.0 g.1.1.1.1.1
           (record { four = q.four; each = q.each; same = refl; stage = round_refused q refl refl Numbers (full_on q z d low c.decided i refl) })

@@ -47,10 +47,10 @@ use Rattle.run.proofs.Queried.{asking_on, stack_fits, left_on, left_found, left_
 use Rattle.run.proofs.Wide.{wide_turn, wide_back, wide_start, wide_open}
 
 -- a list put what it has
-set_own : (c : List ℕ) (t : ℕ) → set c t (get_or c t 0) ≡ c
-set_own [] t = refl
-set_own (m ∷ c) zero = refl
-set_own (m ∷ c) (suc t) = ap (λ (d : List ℕ). m ∷ d) (set_own c t)
+pub set_own : {A : Type 0} (c : List A) (t : ℕ) (d : A) → set c t (get_or c t d) ≡ c
+set_own [] t d = refl
+set_own (m ∷ c) zero d = refl
+set_own {A} (m ∷ c) (suc t) d = ap (λ (l : List A). m ∷ l) (set_own c t d)
 
 -- record k has been carried out
 abbrev pub Next : List ℕ → ℕ → Shapes → List ℕ → Stores → List Notes → List ℕ → (ℕ → Frame) → ℕ → ℕ → ℕ → ℕ → ℕ → ℕ → List ℕ → List ℕ → Type 0
@@ -199,7 +199,7 @@ module _ {file : List ℕ} {k x y e : ℕ} {n : Shapes} {l : List ℕ} {s : Stor
       more = λ f. let v : ◌≡◌ {A = ℕ} 0 1 = cc in absurd (omega arith);
       room = λ f. let v : ◌≡◌ {A = ℕ} 0 1 = cc in absurd (omega arith);
       on = λ n'' l'' s'' h' p same f. rw f.1.goes (record {
-        on = λ _ {v = t} j. rw (f.0.nodes, f.0.depths, f.0.stores, set_own counts (x / 16 % 4), set-set)
+        on = λ _ {v = t} j. rw (f.0.nodes, f.0.depths, f.0.stores, set_own counts (x / 16 % 4) 0, set-set)
             (back_on q z d low i l' w g u b c o (record { after = λ _ fs. j fs }) f.1.backs);
       });
     }

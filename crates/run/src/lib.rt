@@ -159,7 +159,7 @@ fn settle(
                     Job::Task(Task::Help)
                 }
                 _ => {
-                    *th = machine::note(*th, place, note);
+                    machine::note(th, place, note);
                     Job::Nothing
                 }
             }

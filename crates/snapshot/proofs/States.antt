@@ -227,12 +227,14 @@ chain (suc (suc k)) = chain (suc k) ++ op 0 Insert (2 + k) (6 + k) ++ op 0 Split
 abbrev far : List ℕ
 far = schedule 3 (chain 8 ++ op 1 Lookup 8 11)
 
--- head, t0 and t1 after its 8th step, with seven routes read; after the 9th, at 4; after the 10th, at 5 and counted
+-- head, t0 and t1 after its 8th step, with seven routes read; after the 9th, at 4; after the 10th, at 5 and counted; after the 11th, finished, and
+-- the count is 0 again
 abbrev far_heads : List (ℕ × List ℕ)
 far_heads =
     (161, filled 16 (head 3 161 0 3 34 ++ 0 ∷ 1 ∷ 0 ∷ []) ++ idle 1 ++ busy 2 1 8 0 7 0 0 (at 31) 0 [])
     ∷ (162, filled 16 (head 3 162 0 3 34 ++ 0 ∷ 1 ∷ 0 ∷ []) ++ idle 1 ++ busy 4 1 8 0 0 0 0 (at 33) 0 [])
     ∷ (163, filled 16 (head 3 163 0 3 34 ++ 0 ∷ 1 ∷ 1 ∷ []) ++ idle 1 ++ busy 5 1 8 0 0 0 0 (no ++ at 33) 0 [])
+    ∷ (164, filled 16 (head 3 164 0 3 34 ++ 0 ∷ 1 ∷ 0 ∷ []) ++ idle 2)
     ∷ []
 
 -- ---- the theorem

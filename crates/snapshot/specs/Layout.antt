@@ -176,7 +176,7 @@ stage_number Done = 4
 -- "A route node has a key, left, right, a valid mark [..] and a join mark"
 abbrev pub route_bytes : Kind → Entry → List ℕ
 route_bytes Normal e = zeros 6
-route_bytes Route e = e.key ∷ e.left ∷ e.right ∷ flag e.valid ∷ link_bytes e.mark
+route_bytes Route e = e.key ∷ e.left ∷ e.right ∷ flag (not e.invalid) ∷ link_bytes e.mark
 route_bytes Main e = zeros 6
 route_bytes Neighbour e = zeros 6
 route_bytes Range e = zeros 6

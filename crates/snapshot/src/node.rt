@@ -89,7 +89,7 @@ pub fn put_fields(out: &mut Page, n: Node)
         }
         Kind::Route => {
             let mark = n.mark;
-            let valid = u8::from(n.valid);
+            let valid = u8::from(!n.invalid);
             out.put_all(&[n.key, n.left, n.right, valid]);
             put_link(out, mark);
             put_zeros(out, 26);

@@ -134,7 +134,7 @@ impl States {
             all.push("refusal 2".into());
         }
         if index == 2 {
-            all.extend((1..=3).map(|count| format!("a count of {count}")));
+            all.extend((1..=4).map(|count| format!("a count of {count}")));
         }
         let ranges = if deep { &RANGE_PLACES[..] } else { &[] };
         let stops = if index == 2 { &STOP_PLACES[..] } else { &[] };

@@ -13,7 +13,7 @@ use Rattle.definitions.specs.Places.{to_base}
 use Rattle.definitions.specs.Versions.{width}
 use Rattle.definitions.specs.Run.{after}
 use Rattle.run.proofs.Rows.{finished_few}
-use Rattle.run.proofs.Reading.{least, wide_plain, wide_more, at_end}
+use Rattle.run.proofs.Reading.{wide_plain, wide_more, at_end}
 use Rattle.run.proofs.Threads.{all_kept, kept_deep, kept_on}
 use Rattle.run.proofs.Noting.{placed}
 use Rattle.run.proofs.Turn.{seen, count_few, count_some_lem}
