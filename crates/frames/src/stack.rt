@@ -1,4 +1,4 @@
-// A stack of node numbers, of at most 88. That it has room for a push is known of every run (answers, `reach_push`; queries, `query_fits`).
+// A stack of node numbers, of at most 88. That it has room for a push is known of every run (answers, `reach_entries`; queries, `query_fits`).
 ghost use Rattle.std.specs.Prelude.{◌≤◌};
 
 #[derive(Clone, Copy)]

@@ -1,20 +1,19 @@
 -- The loops of Merge, one record more at a time, each with the code's own facts as premises. Assumes nothing.
-use mathlib.Core.Path.{◌≡◌, refl, sym, ap, ap₂, ◌∙◌}
+use mathlib.Core.Path.{◌≡◌, refl, sym, ap, ◌∙◌}
 use mathlib.Core.Bool.{Bool, true, false, not, ◌||◌}
-use mathlib.Core.List.{List, [], ◌∷◌, ◌++◌}
+use mathlib.Core.List.{List, [], ◌∷◌}
 use Prim.Native.Nat.{ℕ, ◌+◌, ◌*◌, ◌/◌, ◌≤◌, ◌<◌}
 use native.Mathlib.Numerals.{add-one}
 use native.Mathlib.Omega.{arith}
 use lib.Dec.{eqb}
-use lib.ListN.{length, get_or, take, drop, length-append}
+use lib.ListN.{length, get_or}
 use Rattle.container.specs.Choice.{ite}
 use Rattle.buffer.specs.Page.{Page, page, put_all}
-use Rattle.buffer.proofs.Laws.{put_all_append, at_mid, joined}
+use Rattle.buffer.proofs.Laws.{at_mid, joined}
 use borrow.Rule.Slice.PartMut.{put_mid}
 use Rattle.std.specs.List.{enumerate_from, zip}
-use Rattle.std.proofs.lemmas.List.{take-append-drop, length-take-le, get_or_default}
+use Rattle.std.proofs.lemmas.List.{get_or_default}
 use Rattle.std.proofs.lemmas.List.FromFn.{length-enumerate_from, get_or-enumerate_from}
-use Rattle.std.proofs.lemmas.Slice.{take-put_mid, drop-put_mid}
 use Rattle.std.proofs.lemmas.Slice.Zip.{length-zip, get_or-zip}
 use Rattle.definitions.specs.Merge.{first_byte, second_byte, foreign, turns, needed}
 use Rattle.schedule.specs.Records.{Pairs}

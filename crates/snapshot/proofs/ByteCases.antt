@@ -1,11 +1,11 @@
 -- The bytes of module bytes, part by part. Assumes nothing.
 use mathlib.Core.Path.{◌≡◌, refl, sym, ap, ◌∙◌}
-use mathlib.Core.List.{List, [], ◌∷◌, ◌++◌, append_assoc}
-use Prim.Native.Nat.{ℕ, zero, suc, ◌+◌, ◌-◌, ◌/◌, ◌%◌, ◌≤◌, ◌<◌}
+use mathlib.Core.List.{List, [], ◌∷◌, ◌++◌}
+use Prim.Native.Nat.{ℕ, zero, suc, ◌+◌, ◌-◌, ◌/◌, ◌%◌, ◌≤◌}
 use native.Mathlib.Omega.{arith}
 use lib.ListN.{length, take, drop, length-append, length-drop, length-replicate, replicate-append-replicate}
-use Rattle.std.proofs.lemmas.List.{take-append-drop, drop-append-le, drop_all}
-use lib.Seq.{set-append_seam, length-take-le}
+use Rattle.std.proofs.lemmas.List.{drop-append-le, drop_all}
+use lib.Seq.{length-take-le}
 use Rattle.std.specs.Int.{to_be_bytes}
 use Rattle.std.proofs.Common.{w64}
 use Rattle.std.specs.List.{between}
@@ -13,32 +13,17 @@ use Rattle.std.proofs.lemmas.Slice.{between_to_end}
 use borrow.Rule.Slice.PartMut.{put_mid}
 use Rattle.buffer.specs.Page.{page, put_all}
 use Rattle.buffer.proofs.Writes.{word_bytes}
-use Rattle.buffer.proofs.Laws.{put_room}
+use Rattle.buffer.proofs.Laws.{at_mid}
 use Rattle.definitions.specs.Run.{bytes_of}
 use Rattle.snapshot.specs.Layout.{zeros}
 
 pub zeros_more : (k : ℕ) → zeros (k + 1) ≡ zeros k ++ 0 ∷ []
 zeros_more k = sym (replicate-append-replicate k 1 0)
 
--- xs after `front`, with room for all of them
-fits_after : (front xs rest : List ℕ) → length xs ≤ length rest → put_all (page (front ++ rest) (length front)) xs ≡ page (front ++ (xs ++ drop (length xs) rest)) (length front + length xs)
-unfolding put_all
-fits_after front [] rest h = ap (page (front ++ rest)) (omega arith)
-fits_after front (x ∷ xs) [] h = absurd (omega arith)
-fits_after front (x ∷ xs) (y ∷ ys) h =
-    let longer : length (front ++ x ∷ []) ≡ length front + 1 = length-append front (x ∷ []) in
-    let room : length front < length (front ++ y ∷ ys) = rw length-append (omega arith) in
-    rw (← put_room (front ++ y ∷ ys) (length front) x room, set-append_seam front y ys x, ← longer, ← append_assoc front (x ∷ []) ys)
-    (fits_after (front ++ x ∷ []) xs ys (omega arith) ∙ rw (append_assoc, longer) (ap (page _) (omega arith)))
-
 pub zeros_filled : (l : List ℕ) (at n : ℕ) {k : ℕ} {z : List ℕ} → at + n ≤ length l → k ≡ n → z ≡ zeros (length (take k (drop at l))) → page (put_mid at k l z) (at + n) ≡ put_all (page l at) (zeros n)
 zeros_filled l at n h f e =
-    let front : length (take at l) ≡ at = length-take-le at l (omega arith) in
-    let size : length (zeros n) ≡ n = length-replicate n 0 in
     let rest : n ≤ length (drop at l) = rw length-drop (omega arith) in
-    sym (ap (λ (x : List ℕ). put_all (page x at) (zeros n)) (sym (take-append-drop at l))
-    ∙ (ap (λ (i : ℕ). put_all (page (take at l ++ drop at l) i) (zeros n)) (sym front)
-    ∙ (fits_after (take at l) (zeros n) (drop at l) (omega (arith, rest, size)) ∙ rw (front, size, e, f, length-take-le n (drop at l) rest) refl)))
+    rw (e, f, length-take-le n (drop at l) rest) (at_mid l at n (zeros n) (length-replicate n 0) h)
 
 -- ---- the last bytes of a number
 

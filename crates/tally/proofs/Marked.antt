@@ -18,9 +18,9 @@ size_in m h = elim (dec_lt m 64) [
 ]
 
 -- n records from the k-th on
-block_lies : (w d k n p len : ℕ) → Width w → 3 + w * d ≤ len → k + n ≤ d → n ≤ 64 → p ≡ 3 + w * k → (3 + w * (k + n) ≤ len) × ((p + w * n ≡ 3 + w * (k + n)) × (w * n ≤ 256))
-block_lies w d k n p len (inl e) inside l m q = rw e (omega (arith, ap (λ (i : ℕ). i * k) e, ap (λ (i : ℕ). i * d) e))
-block_lies w d k n p len (inr e) inside l m q = rw e (omega (arith, ap (λ (i : ℕ). i * k) e, ap (λ (i : ℕ). i * d) e))
+block_lies : (w d k n p len : ℕ) → Width w → 3 + w * d ≤ len → k + n ≤ d → p ≡ 3 + w * k → (3 + w * (k + n) ≤ len) × (p + w * n ≡ 3 + w * (k + n))
+block_lies w d k n p len (inl e) inside l q = rw e (omega (arith, ap (λ (i : ℕ). i * k) e, ap (λ (i : ℕ). i * d) e))
+block_lies w d k n p len (inr e) inside l q = rw e (omega (arith, ap (λ (i : ℕ). i * k) e, ap (λ (i : ℕ). i * d) e))
 
 -- ---- what the loop holds: k records are walked, `ahead` has the marks of the next block, from byte p on
 pub record Walking (file : List ℕ) (w d k p ahead : ℕ) (l : List ℕ) (a b k₀ : ℕ) (l₀ : List ℕ) (a₀ b₀ : ℕ) : Type 0 where
@@ -46,8 +46,8 @@ module _ (file : List ℕ) (w d : ℕ) (wide : Width w) (long : 64 < d) (few : d
     together : k + n ≤ d
     together = omega (arith, size.1.1, more)
 
-    here : (3 + w * (k + n) ≤ length file) × ((p + w * n ≡ 3 + w * (k + n)) × (w * n ≤ 256))
-    here = block_lies w d k n p (length file) wide inside together size.1.0 h.at
+    here : (3 + w * (k + n) ≤ length file) × (p + w * n ≡ 3 + w * (k + n))
+    here = block_lies w d k n p (length file) wide inside together h.at
 
     left : d - (k + n) ≡ d - k - n
     left = omega arith
@@ -71,7 +71,7 @@ module _ (file : List ℕ) (w d : ℕ) (wide : Width w) (long : 64 < d) (few : d
       next = λ m a' b' l' em o. record {
         some = omega (arith, h.some);
         end = together;
-        at = here.1.0;
+        at = here.1;
         marks = em ∙ ap (λ (j : ℕ). bits (block_size j) (λ i. mark file w (p + w * n + w * i))) (sym left);
         held = λ first g. o.held first (h.held first g);
       };
