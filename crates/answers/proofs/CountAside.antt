@@ -23,9 +23,13 @@ use Rattle.definitions.specs.declared.Effect.{Effect}
 use Rattle.definitions.specs.declared.Effect.TheVariants.{Quiet, Mark, Settle, Invalid, Swing, Raise, Lower, Base, Fork, Commit, Ask, Fill}
 use Rattle.definitions.specs.Bench.{Store, Sight}
 use Rattle.definitions.specs.Nodes.{check}
-use Rattle.definitions.specs.Places.{own, found, united, opening, next, Place, nowhere, p1, p2, p3, p4, p5, p15, p16, p19, p20, p21, p22, p23, p24, p25, p30, p31, p32, p33, p34, p35, p36, p37, p38, p40, p45, p46, p47, p48, p49, p50, p51, p60, p61, p62, p70, p71, p72, p73, p74, p76, p81, p82, swap, number}
+use Rattle.definitions.specs.Places.{own, found, united, opening, next, Place, nowhere, p1, p2, p3, p4, p5, p15, p16, p19, p20}
+use Rattle.definitions.specs.Places.{p21, p22, p23, p24, p25, p30, p31, p32, p33, p34, p35, p36, p37, p38, p40, p45, p46, p47}
+use Rattle.definitions.specs.Places.{p48, p49, p50, p51, p60, p61, p62, p70, p71, p72, p73, p74, p76, p81, p82, swap, number}
 use Rattle.definitions.specs.Effects.{perform}
-use Rattle.definitions.specs.Steps.{lost_as, lost, join_under, cleared_as, cleared, probe, replaced_as, replaced, own_by, found_by, united_by, help_by, blocked_as, blocked, beside, grand_marking, back_out, unmark, invalid, cut_at, cut_on, cut_right, freeing, reached_first, reached_next, opened_by, extended_by, pop_on, met_by, filling, read_out, step}
+use Rattle.definitions.specs.Steps.{lost_as, lost, join_under, cleared_as, cleared, probe, replaced_as, replaced, own_by, found_by, united_by}
+use Rattle.definitions.specs.Steps.{help_by, blocked_as, blocked, beside, grand_marking, back_out, unmark, invalid, cut_at, cut_on, cut_right}
+use Rattle.definitions.specs.Steps.{freeing, reached_first, reached_next, opened_by, extended_by, pop_on, met_by, filling, read_out, step}
 use Rattle.definitions.specs.Frames.{tail_of, store_of, in_frame, next_from, adding, found_first, back_in, back}
 use Rattle.answers.proofs.Tools.{on, off, test}
 

@@ -97,7 +97,8 @@ module _ (s : Store) (th : Thread) where
       )) (λ _. leaf th.action x)
 
     -- a counted search goes on
-    passes : (e : Effect) (v : Bool) (c x : ℕ) → 7 < (reading v c th).read → crossed th.place i ≡ true → (sw ≡ false → ⊥) → (perform e s).stop ≡ stop s.stop.on (counted th.place s.stop.count) → Kept (onward e (sight_of s).nodes (reading v c th) x)
+    passes : (e : Effect) (v : Bool) (c x : ℕ) → 7 < (reading v c th).read → crossed th.place i ≡ true → (sw ≡ false → ⊥)
+        → (perform e s).stop ≡ stop s.stop.on (counted th.place s.stop.count) → Kept (onward e (sight_of s).nodes (reading v c th) x)
     unfolding onward
     passes e v c x l h f q = either _ _ _
         (λ _. (rw h (record { stands = λ _. rw (lt-ltb 7 (reading v c th).read l); ready = λ z. absurd (omega (arith, z)); off_out = λ z. absurd (f z); off_place = λ z. absurd (f z) }), q))
@@ -137,7 +138,8 @@ module _ (s : Store) (th : Thread) where
                   (record { stands = λ _. refl; ready = λ _. omega (arith, r); off_out = λ _. refl; off_place = λ q. absurd (on_sw q) }),
               rw (n4, n5),
             ))
-            (λ h9. let l = over count (ltb-false count 8 h) (eqb-false count 8 h9) in passes Quiet s.stop.on k' x (omega (arith, l)) (rw (n4, n5) (is_in_lem (omega (arith, l, same)))) on_sw (rw (n4, n5))))
+            (λ h9. let l = over count (ltb-false count 8 h) (eqb-false count 8 h9) in
+            passes Quiet s.stop.on k' x (omega (arith, l)) (rw (n4, n5) (is_in_lem (omega (arith, l, same)))) on_sw (rw (n4, n5))))
           where
             on_sw : sw ≡ false → ⊥
             on_sw q = true≢false (sym z ∙ e-on ∙ q)
@@ -209,8 +211,10 @@ module _ (s : Store) (th : Thread) where
                       elim (th.place ==? 5) [
                         | yes e ↦ by_place p5 (ap place_of e) (at_5 (ap place_of e))
                         | no n5 ↦
-                            (let h : Elsewhere th.place = (ne_eqb _ _ n2, ne_eqb _ _ n4, ne_eqb _ _ n5) in aside (step (place_of th.place) (sight_of s) th) h (aside_op (sight_of s) th (place_of th.place) (stands_apart h)
-                            (λ z. n1 (number_of th.place p1 z (omega arith))) (λ z. n2 (number_of th.place p2 z (omega arith))) (λ z. n4 (number_of th.place p4 z (omega arith))) (λ z. n5 (number_of th.place p5 z (omega arith)))))
+                            (let h : Elsewhere th.place = (ne_eqb _ _ n2, ne_eqb _ _ n4, ne_eqb _ _ n5) in
+                            aside (step (place_of th.place) (sight_of s) th) h (aside_op (sight_of s) th (place_of th.place) (stands_apart h)
+                            (λ z. n1 (number_of th.place p1 z (omega arith))) (λ z. n2 (number_of th.place p2 z (omega arith)))
+                            (λ z. n4 (number_of th.place p4 z (omega arith))) (λ z. n5 (number_of th.place p5 z (omega arith)))))
                       ]
                 ]
           ]

@@ -140,7 +140,8 @@ module _ (sw : Bool) {b : Bench} {i : ℕ → Bool} (z : Tally sw b i) (t : ℕ)
 
   asks_ok : (n y d : ℕ) → Ok (suc n) (asked b t y d)
   unfolding asked
-  asks_ok n y d = pick (suc n) _ _ _ (λ _. tt) (λ _. pick (suc n) _ _ _ (λ _. tt) (λ _. pick (suc n) _ _ _ (λ _. tt) (λ _. pick (suc n) _ _ _ (λ h. begins_with n (asking y d) h (aside_noted sw _ refl)) (λ _. tt))))
+  asks_ok n y d = pick (suc n) _ _ _ (λ _. tt)
+      (λ _. pick (suc n) _ _ _ (λ _. tt) (λ _. pick (suc n) _ _ _ (λ _. tt) (λ _. pick (suc n) _ _ _ (λ h. begins_with n (asking y d) h (aside_noted sw _ refl)) (λ _. tt))))
 
   acted_ok : (n y d : ℕ) → Ok n (acted n b t y d)
   acted_ok zero y d = steps_ok y d

@@ -113,14 +113,17 @@ module _ {b : Bench} {hist : Hist} {now : ℕ} {first : ℕ → Option ℕ} (inv
     unhelped = λ z _ _. rw (know_now inv t p3 (e ∙ z)).2 (omega arith);
     fits = λ z. push_fits inv counts.owned t small (e ∙ z);
     new = λ z. tops th.frames (know_now inv t p62 (e ∙ z)).0;
-    single = λ q z f fs E. alone f fs E (subst (λ v. TopOf v (λ f. Opening (seen b.store.nodes b.store (here inv t).ghost now) f × Replaceable (seen b.store.nodes b.store (here inv t).ghost now) f.base)) E (know_now inv t (swap opening q) (e ∙ z)).0).0 (subst (λ v. PileOf (seen b.store.nodes b.store (here inv t).ghost now) hist (moment (first t)) th v) E ((here inv t).piles t));
+    single =
+        λ q z f fs E. alone f fs E (subst (λ v. TopOf v (λ f. Opening (seen b.store.nodes b.store (here inv t).ghost now) f × Replaceable (seen b.store.nodes b.store (here inv t).ghost now) f.base)) E
+        (know_now inv t (swap opening q) (e ∙ z)).0).0 (subst (λ v. PileOf (seen b.store.nodes b.store (here inv t).ghost now) hist (moment (first t)) th v) E ((here inv t).piles t));
   }
     where
       tops : (fs : List Frame) → TopOf fs (λ f. Opening (seen b.store.nodes b.store (here inv t).ghost now) f) → TopOf fs (λ f. f.begun ≡ false)
       tops [] k = tt
       tops (f ∷ fs) k = k.begun
 
-      alone : (f : Frame) (fs : List Frame) → th.frames ≡ f ∷ fs → Opening (seen b.store.nodes b.store (here inv t).ghost now) f → PileOf (seen b.store.nodes b.store (here inv t).ghost now) hist (moment (first t)) th (f ∷ fs)
+      alone : (f : Frame) (fs : List Frame) → th.frames ≡ f ∷ fs → Opening (seen b.store.nodes b.store (here inv t).ghost now) f
+          → PileOf (seen b.store.nodes b.store (here inv t).ghost now) hist (moment (first t)) th (f ∷ fs)
           → (f.begun ≡ false) × (fs ≡ []) × (is_query th.action ≡ true)
       alone f (g ∷ fs) E o ((S, a), _, _) = absurd (clash (let v = a.store in let u = o.free in cc))
       alone f [] E o p = (o.begun, refl, go (is_query th.action) p)

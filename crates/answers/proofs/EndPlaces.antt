@@ -86,31 +86,38 @@ module _ {b : Bench} {hist : Hist} {now : ℕ} {first : ℕ → Option ℕ} (inv
       nl = (know_now inv t p81 e).1
 
       go : (f : Frame) (fs : List Frame) → th.frames ≡ f ∷ fs → (v : Option ℕ) → b.store.stores (store_of f.store) ≡ v → Good inv t (filling v f th)
-      go f fs E (Some c) q = go_frames inv t p81 _ e refl (λ z _. clash (cc)) refl (λ n g a m k pl₀. let pl = pile_f inv t f fs E (W' n g) pl₀ in let co = top_f inv t f fs E (λ f. Complete (W' n g) f) k.0 in
+      go f fs E (Some c) q = go_frames inv t p81 _ e refl (λ z _. clash (cc)) refl (λ n g a m k pl₀. let pl = pile_f inv t f fs E (W' n g) pl₀ in
+          let co = top_f inv t f fs E (λ f. Complete (W' n g) f) k.0 in
           let (S, as₀) = asks_begun (W' n g) hist (T' inv t) th f fs pl co.begun in (
             (f_top inv t f fs E (λ f. Ready (W' n g) f) (S, c, as₀.store, sym (ap (λ v. b.store.stores (store_of v)) as₀.store) ∙ q), nl),
             pile_alike (W' n g) hist (T' inv t) th (at p82 th) th.frames refl refl refl pl₀,
           ))
-      go f fs E None q = λ qu. build inv t (perform (Fill (store_of f.store) f.done) b.store) (at p82 th) (λ _. Unit {0}) (inv.stations t) (λ z _. clash (cc)) (away inv t (at p82 th) refl) (λ _ _ _. tt) (λ n a. (
-        n,
-        a,
-        λ g m k₀ pl₀.
-            let S = store_of f.store in let k = subst (λ v. Know v (W n g) (moment (first t)) th) e k₀ in
-            let pl = subst (λ v. PileOf (W n g) hist (moment (first t)) th v) E pl₀ in let co = subst (λ v. TopOf v (λ f. Complete (W n g) f)) E k.0 in
-            let (S₀, as₀) = asks_begun (W n g) hist (moment (first t)) th f fs pl co.begun in let z : S₀ ≡ S = sym (ap store_of as₀.store) in
-            let ask : Asks (W n g) hist f S = subst (λ v. Asks (W n g) hist f v) z as₀ in let d = ask.added co.begun in
-            let right : (s : ℕ) → (g.tale S).start ≤ s → s ≤ (g.tale S).upper → has f.done s ≡ is_in (hist now s) = λ s i j. d.agrees q s i (let v = co.passed S ask.store q in omega (arith, ask.upper)) in
-            let full : (reaches (n (prev_of f)).container.set (g.tale S).upper ≡ true) ⊎ (g.hi (prev_of f) ≡ 64) = subst (λ v. (reaches (n (prev_of f)).container.set v ≡ true) ⊎ (g.hi (prev_of f) ≡ 64)) ask.upper (co.full S ask.store q) in
-            let re = fill_rely m S f.done qu ask.low q right (prev_of f) d.of d.born full in
-            record {
-              ghost = record { lo = g.lo; hi = g.hi; up = g.up; life = g.life; tale = upd g.tale S (timed (suc now) (g.tale S)) };
-              mem = fill m S f.done qu ask.low q right;
-              rely = re;
-              linked = λ x i j. absurd (omega arith);
-              know = (subst (λ v. TopOf v (λ h. (Z c : ℕ) × (h.store ≡ Some Z) × (upd b.store.stores (store_of f.store) (Some f.done) Z ≡ Some c))) (sym E) (S, f.done, ask.store, rw (eq-eqb S S refl)), nl);
-              pile = kin_pile inv t _ _ (λ _. Unit {0}) (at p82 th) (alike refl refl refl refl) re refl pl₀;
-            },
-      ))
+      go f fs E None q =
+          λ qu. build inv t (perform (Fill (store_of f.store) f.done) b.store) (at p82 th) (λ _. Unit {0}) (inv.stations t) (λ z _. clash (cc)) (away inv t (at p82 th) refl) (λ _ _ _. tt) (λ n a. (
+            n,
+            a,
+            λ g m k₀ pl₀.
+                let S = store_of f.store in let k = subst (λ v. Know v (W n g) (moment (first t)) th) e k₀ in
+                let pl = subst (λ v. PileOf (W n g) hist (moment (first t)) th v) E pl₀ in let co = subst (λ v. TopOf v (λ f. Complete (W n g) f)) E k.0 in
+                let (S₀, as₀) = asks_begun (W n g) hist (moment (first t)) th f fs pl co.begun in let z : S₀ ≡ S = sym (ap store_of as₀.store) in
+                let ask : Asks (W n g) hist f S = subst (λ v. Asks (W n g) hist f v) z as₀ in let d = ask.added co.begun in
+                let right : (s : ℕ) → (g.tale S).start ≤ s → s ≤ (g.tale S).upper → has f.done s ≡ is_in (hist now s) =
+                λ s i j. d.agrees q s i (let v = co.passed S ask.store q in omega (arith, ask.upper)) in
+                let full : (reaches (n (prev_of f)).container.set (g.tale S).upper ≡ true) ⊎ (g.hi (prev_of f) ≡ 64) =
+                subst (λ v. (reaches (n (prev_of f)).container.set v ≡ true) ⊎ (g.hi (prev_of f) ≡ 64)) ask.upper (co.full S ask.store q) in
+                let re = fill_rely m S f.done qu ask.low q right (prev_of f) d.of d.born full in
+                record {
+                  ghost = record { lo = g.lo; hi = g.hi; up = g.up; life = g.life; tale = upd g.tale S (timed (suc now) (g.tale S)) };
+                  mem = fill m S f.done qu ask.low q right;
+                  rely = re;
+                  linked = λ x i j. absurd (omega arith);
+                  know = (
+                    subst (λ v. TopOf v (λ h. (Z c : ℕ) × (h.store ≡ Some Z) × (upd b.store.stores (store_of f.store) (Some f.done) Z ≡ Some c))) (sym E) (S, f.done, ask.store, rw (eq-eqb S S refl)),
+                    nl,
+                  );
+                  pile = kin_pile inv t _ _ (λ _. Unit {0}) (at p82 th) (alike refl refl refl refl) re refl pl₀;
+                },
+          ))
 
   -- ---- 82
   still_of : (a : Action) → a ≡ Query → (st d : ℕ) → ((z : ℕ) → hist (suc now) z ≡ settled a st d (hist now) z) → (z : ℕ) → hist (suc now) z ≡ hist now z
@@ -136,13 +143,15 @@ module _ {b : Bench} {hist : Hist} {now : ℕ} {first : ℕ → Option ℕ} (inv
 
       leave : (f : Frame) (fs : List Frame) → th.frames ≡ f ∷ fs → Good inv t (back_in fs Quiet th)
       leave f fs E = returns th Quiet (Good inv t) (either inv t) fs (λ th' rt. go_frames inv t p82 th' e rt.station (on_not_back inv t th' nl rt.action) rt.apart
-          (λ n g a m k pl₀. rt.knows (W' n g) hist (T' inv t) nl (under (W' n g) (T' inv t) f fs (pile_f inv t f fs E (W' n g) pl₀)) (waited (W' n g) (T' inv t) f fs (pile_f inv t f fs E (W' n g) pl₀))))
+          (λ n g a m k pl₀. rt.knows (W' n g) hist (T' inv t) nl (under (W' n g) (T' inv t) f fs (pile_f inv t f fs E (W' n g) pl₀))
+          (waited (W' n g) (T' inv t) f fs (pile_f inv t f fs E (W' n g) pl₀))))
 
       -- a query's row
       row : (f : Frame) → th.frames ≡ f ∷ [] → (c : ℕ) → b.store.stores (store_of f.store) ≡ Some c → is_query th.action ≡ true
           → FitsRange th.station th.extra hist (T' inv t) now (said (not (eqb (cut c (between th.station th.extra)) 0))) (cut c (between th.station th.extra))
       row f E c q iq = let h = here inv t in let w = W b.store.nodes h.ghost in
-          let pl : PileOf w hist (T' inv t) th (f ∷ []) = subst (λ v. PileOf w hist v th (f ∷ [])) (sym same_first) (pile_opened w hist (first t) now th (f ∷ []) (subst (λ v. PileOf w hist (moment (first t)) th v) E (h.piles t))) in
+          let pl : PileOf w hist (T' inv t) th (f ∷ []) =
+          subst (λ v. PileOf w hist v th (f ∷ [])) (sym same_first) (pile_opened w hist (first t) now th (f ∷ []) (subst (λ v. PileOf w hist (moment (first t)) th v) E (h.piles t))) in
           fin (subst (λ v. Own v w hist (T' inv t) th f) iq pl)
         where
           same_first : T' inv t ≡ moment (opened (first t) now)

@@ -107,7 +107,8 @@ module _ {b : Bench} {hist : Hist} {now : ℕ} {first : ℕ → Option ℕ} (inv
           let v = first_of m S x as₀.low q (base_at_lem n g a m bo h) (rw (← as₀.lower) ir) (fr S i q) in let z = a x (m.shape.low x bo) in
           absurd (true≢false (sym (is_of_lem S (shape (b.store.nodes x)) (sym (ap (λ v. v.kind) z) ∙ v.0) (sym (ap (λ v. v.store) z) ∙ v.1)) ∙ o))
 
-      to_add : (S : ℕ) → f.store ≡ Some S → is_route (b.store.nodes x).kind ≡ false → is_of S (shape (b.store.nodes x)) ≡ true → (th' : Thread) → Adds th (adds (b.store.nodes x).container.set (in_hand x s f)) fs (b.store.nodes x).container.set th'
+      to_add : (S : ℕ) → f.store ≡ Some S → is_route (b.store.nodes x).kind ≡ false → is_of S (shape (b.store.nodes x)) ≡ true → (th' : Thread)
+          → Adds th (adds (b.store.nodes x).container.set (in_hand x s f)) fs (b.store.nodes x).container.set th'
           → Good inv t (goes th')
       to_add S i h o th' ad = go_frames inv t p th' e ad.station (on_not_back th' nl ad.action) ad.apart (λ n g a m k pl₀.
           let pl : PileF (W' n g) = subst (λ v. PileOf (W' n g) hist (T' inv t) th v) E pl₀ in let (bg, bo, ir, cl, fr, rt, en, hu, ov) = R n g a m k pl in
@@ -120,14 +121,27 @@ module _ {b : Bench} {hist : Hist} {now : ℕ} {first : ℕ → Option ℕ} (inv
       at_base_lem : (l : Option ℕ) → f.store ≡ l → is_route (b.store.nodes x).kind ≡ false → Good inv t (found_first l (shape (b.store.nodes x)) (in_hand x s f) fs th)
       at_base_lem None i h = go_frames inv t p _ e refl (λ z _. clash (cc)) refl (λ n g a m k pl₀.
           let pl : PileF (W' n g) = subst (λ v. PileOf (W' n g) hist (T' inv t) th v) E pl₀ in let (bg, bo, ir, cl, fr, rt, en, hu, ov) = R n g a m k pl in let ib = base_at_lem n g a m bo h in (
-            (record { begun = bg; free = i; at = record { kind = ib; born = bo; range = ir }; climb = cl; alone = λ y. ap (λ v. (n v).parent) (rt y) ∙ root_parent m (λ v. ib (ap (λ u. (n u).kind) (rt y) ∙ v)); entries = en; hung = λ l. hu (inr l) }, nl),
+            (
+              record {
+                begun = bg;
+                free = i;
+                at = record { kind = ib; born = bo; range = ir };
+                climb = cl;
+                alone = λ y. ap (λ v. (n v).parent) (rt y) ∙ root_parent m (λ v. ib (ap (λ u. (n u).kind) (rt y) ∙ v));
+                entries = en;
+                hung = λ l. hu (inr l);
+              },
+              nl,
+            ),
             pile_alike (W' n g) hist (T' inv t) th _ (in_hand x s f ∷ fs) refl refl refl (pile_moved (W' n g) hist (T' inv t) th (x ∷ s) x f.popped f.key f fs pl),
           ))
       at_base_lem (Some S) i h = either inv t _ _ _
           (λ o. adding_by th Quiet (Good inv t) (either inv t) (b.store.nodes x).container.set (in_hand x s f) fs (to_add S i h o))
           (λ o. go_frames inv t p _ e refl (λ z _. clash (cc)) refl (λ n g a m k pl₀.
-          let pl : PileF (W' n g) = subst (λ v. PileOf (W' n g) hist (T' inv t) th v) E pl₀ in
-          ((is_ready S i h o n g a m k pl _ refl, nl), pile_alike (W' n g) hist (T' inv t) th _ (in_hand x s f ∷ fs) refl refl refl (pile_moved (W' n g) hist (T' inv t) th (x ∷ s) x f.popped f.key f fs pl))))
+          let pl : PileF (W' n g) = subst (λ v. PileOf (W' n g) hist (T' inv t) th v) E pl₀ in (
+            (is_ready S i h o n g a m k pl _ refl, nl),
+            pile_alike (W' n g) hist (T' inv t) th _ (in_hand x s f ∷ fs) refl refl refl (pile_moved (W' n g) hist (T' inv t) th (x ∷ s) x f.popped f.key f fs pl),
+          )))
 
       push_in : (w : World) (σ x : ℕ) (s : List ℕ) → In w σ x → ((z : ℕ) → Member z s → In w σ z) → (z : ℕ) → Member z (x ∷ s) → In w σ z
       push_in w σ x s i h z (inl q) = rw q i
@@ -217,7 +231,15 @@ module _ {b : Bench} {hist : Hist} {now : ℕ} {first : ℕ → Option ℕ} (inv
           let nm : (S < b.store.shown) × ((b.store.nodes x).lower ≡ (g.tale S).lower) × ((b.store.nodes x).upper ≡ (g.tale S).upper) = rw z at (m.tales.named x ox.0 o.at.born) in
           let ask = m.tales.asked S nm.0 in let hd = m.tales.holds S x ox o.at.born q in
           let f' = asks (b.store.nodes x).lower (b.store.nodes x).upper S f in
-          let as₁ : Asks (W' n g) hist f' S = record { store = refl; low = nm.0; lower = nm.1; upper = nm.2; small = rw nm.2 ask.1; added = λ v. absurd (true≢false (sym v ∙ o.begun)); empty = λ _. free_done (W' n g) (T' inv t) f fs o.free pl } in (
+          let as₁ : Asks (W' n g) hist f' S = record {
+            store = refl;
+            low = nm.0;
+            lower = nm.1;
+            upper = nm.2;
+            small = rw nm.2 ask.1;
+            added = λ v. absurd (true≢false (sym v ∙ o.begun));
+            empty = λ _. free_done (W' n g) (T' inv t) f fs o.free pl;
+          } in (
             (o.begun, k.1),
             pile_alike (W' n g) hist (T' inv t) th _ (f' ∷ fs) refl refl refl
                 (pile_takes (W' n g) (W' n g) hist (T' inv t) (T' inv t) th f f' fs S o.free pl as₁ (first_on) (λ y. let r = o.at.range in omega (arith, hd.1)) (λ y. let r = nm.2 in omega arith) q),

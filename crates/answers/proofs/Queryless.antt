@@ -102,11 +102,14 @@ module _ (b : Bench) (h : Queryless b) (t y d : ℕ) where
 
   started_keeps : (a : Action) → a ≢ Query → Keeps (started b t a y d)
   unfolding started
-  started_keeps a q = either _ _ _ (λ _. tt) (λ _. either _ _ _ (λ _. either _ _ _ (λ _. record { store = h.store; threads = put (begun a y d 1) (record { place = omega arith; frames = refl; action = q }) }) (λ _. tt)) (λ _. tt))
+  started_keeps a q = either _ _ _ (λ _. tt)
+      (λ _. either _ _ _ (λ _. either _ _ _ (λ _. record { store = h.store; threads = put (begun a y d 1) (record { place = omega arith; frames = refl; action = q }) }) (λ _. tt)) (λ _. tt))
 
   stepped_keeps : Keeps (stepped b t y d)
   unfolding stepped
-  stepped_keeps = either _ _ _ (λ _. either _ _ _ (λ _. either _ _ _ (λ _. tt) (λ _. taken_keeps _ (level_at (sight_of b.store) h.store.nodes (b.threads t) (h.threads t) (b.threads t).place (h.threads t).place))) (λ _. tt)) (λ _. tt)
+  stepped_keeps = either _ _ _
+      (λ _. either _ _ _ (λ _. either _ _ _ (λ _. tt) (λ _. taken_keeps _ (level_at (sight_of b.store) h.store.nodes (b.threads t) (h.threads t) (b.threads t).place (h.threads t).place))) (λ _. tt))
+      (λ _. tt)
 
   acted_keeps : (n : ℕ) → (n ≡ 6 → ⊥) → Keeps (acted n b t y d)
   acted_keeps zero o = stepped_keeps

@@ -28,8 +28,12 @@ use Rattle.definitions.specs.Threads.{Thread, Turn, Moves, Finishes, Finds, Full
 use Rattle.definitions.specs.Frames.{back_in, back}
 use Rattle.definitions.specs.Nodes.{Shapes, Stores, child_for, check_stage, check, check_as}
 use Rattle.definitions.specs.Bench.{Store, Sight, Bench}
-use Rattle.definitions.specs.Places.{own, found, united, opening, next, quarter_number, number, reading, Place, nowhere, p1, p2, p3, p4, p5, p15, p16, p19, p20, p21, p22, p23, p24, p25, p30, p31, p32, p33, p34, p35, p36, p37, p38, p40, p45, p46, p47, p48, p49, p50, p51, p60, p61, p62, p70, p71, p72, p73, p74, p76, p81, p82, swap, place_of}
-use Rattle.definitions.specs.Steps.{back_out, at_leaf, reached, onward, one_more, followed, released, help_by, blocked_as, blocked, lost_as, lost, join_under, cleared_as, cleared, probe, replaced_as, replaced, own_by, found_by, united_by, beside, grand_marking, unmark, invalid, cut_at, cut_on, cut_right, freeing, step}
+use Rattle.definitions.specs.Places.{own, found, united, opening, next, quarter_number, number, reading, Place, nowhere, p1, p2, p3, p4, p5}
+use Rattle.definitions.specs.Places.{p15, p16, p19, p20, p21, p22, p23, p24, p25, p30, p31, p32, p33, p34, p35, p36, p37, p38, p40, p45, p46}
+use Rattle.definitions.specs.Places.{p47, p48, p49, p50, p51, p60, p61, p62, p70, p71, p72, p73, p74, p76, p81, p82, swap, place_of}
+use Rattle.definitions.specs.Steps.{back_out, at_leaf, reached, onward, one_more, followed, released, help_by, blocked_as, blocked}
+use Rattle.definitions.specs.Steps.{lost_as, lost, join_under, cleared_as, cleared, probe, replaced_as, replaced, own_by, found_by}
+use Rattle.definitions.specs.Steps.{united_by, beside, grand_marking, unmark, invalid, cut_at, cut_on, cut_right, freeing, step}
 use Rattle.answers.proofs.Tools.{clash}
 use Rattle.answers.proofs.PlaceNumbers.{number_of}
 

@@ -98,7 +98,8 @@ module _ {b : Bench} {hist : Hist} {now : ℕ} {first : ℕ → Option ℕ} (inv
     open_at n g k = subst (λ v. TopOf v (λ f. Opening (W n g) f × Replaceable (W n g) f.base)) E k.0
 
     opens : (v : Spot) → At inv t v x → (th' : Thread) → Adds th f₁ fs c th' → Good inv t (Moves th' (Ask v u (b.store.nodes x).parent x f.lower f.upper sn true))
-    opens v i th' ad = λ q. hook_pile inv t (swap opening r) v u (upd b.store.nodes u node) (suc u) (suc sn) th' (λ _. Unit {0}) e (omega arith) (one inv t node) (rw ad.station (inv.stations t)) (on_not_back inv t th' nl ad.action)
+    opens v i th' ad = λ q. hook_pile inv t (swap opening r) v u (upd b.store.nodes u node) (suc u) (suc sn) th' (λ _. Unit {0}) e (omega arith) (one inv t node)
+        (rw ad.station (inv.stations t)) (on_not_back inv t th' nl ad.action)
         (away inv t th' ad.apart) (λ _ _ _. tt)
         (λ n g a m k pl. let (o, re) = open_at n g k in (hits inv t v x i n g a m o.at.kind o.at.born re).2)
         (λ n g a fr m k pl₀. made q n g a (top_one inv t n node fr) m (open_at n g k) (subst (λ v. PileOf (W n g) hist (moment (first t)) th v) E pl₀))
@@ -113,7 +114,8 @@ module _ {b : Bench} {hist : Hist} {now : ℕ} {first : ℕ → Option ℕ} (inv
             let ta = upd g.tale sn (showing f.lower f.upper (g.lo x) (g.hi x) (suc now)) in
             let fe = free_ends w hist (moment (first t)) th f fs o.free pl in
             let gr = any_graft v m x (g.lo x) (hist now (g.lo x)) hv o.at.kind rx lx lo by pz (λ s _. cz s) (cz _ ∙ m.bases.agrees x _ o.at.kind lx lo) (q _) (λ s _. q s) (suc sn) ta in
-            let tn = tales_new m gr f.lower f.upper (ap (λ v. v.kind) z) (ap (λ v. v.store) z) (ap (λ v. v.lower) z) (ap (λ v. v.upper) z) fe.0 fe.1 o.at.range refl (λ S h. rw (ne_eqb S sn h)) (rw (eq-eqb sn sn refl) (refl, refl, refl, refl, refl)) in
+            let tn = tales_new m gr f.lower f.upper (ap (λ v. v.kind) z) (ap (λ v. v.store) z) (ap (λ v. v.lower) z) (ap (λ v. v.upper) z) fe.0 fe.1 o.at.range refl
+            (λ S h. rw (ne_eqb S sn h)) (rw (eq-eqb sn sn refl) (refl, refl, refl, refl, refl)) in
             let kp = graft_kept m gr (omega arith) (λ S h. rw (ne_eqb S sn (omega arith)) (refl, refl, refl, refl, refl)) in
             let re = graft_rely m gr kp in
             let w' = shifted w (exchanging v w (suc u) x u (suc sn) ta) in
@@ -142,9 +144,18 @@ module _ {b : Bench} {hist : Hist} {now : ℕ} {first : ℕ → Option ℕ} (inv
               empty = λ y. absurd (true≢false y);
             } in
             let kn = ad.knows w' hist (T' inv t) nl
-            (pile_takes w w' hist (moment (first t)) (T' inv t) th f f₁ fs sn o.free pl as₁ (first_on inv t) (λ y. rw (eq-eqb sn sn refl) (let h = o.at.range in omega arith)) (λ y. rw (eq-eqb sn sn refl) (omega arith)) (m.tales.rest sn (omega arith)))
+            (pile_takes w w' hist (moment (first t)) (T' inv t) th f f₁ fs sn o.free pl as₁ (first_on inv t)
+            (λ y. rw (eq-eqb sn sn refl) (let h = o.at.range in omega arith)) (λ y. rw (eq-eqb sn sn refl) (omega arith)) (m.tales.rest sn (omega arith)))
             (λ S _ _ s h. rw gr.hi_y (in_c n g m o rx lx zx s h)) (sym (ap (λ v. v.container.set) z)) in
-            record { ghost = _; mem = to_range v m x (g.lo x) (hist now (g.lo x)) hv o.at.kind rx lx lo by pz (λ s _. cz s) (cz _ ∙ m.bases.agrees x _ o.at.kind lx lo) (q _) (λ s _. q s) (suc sn) ta (ap (λ v. v.kind) z) tn; rely = re; know = kn.0; pile = kn.1; linked = λ _ i j e. absurd (by (subst (λ v. (n v).kind ≡ Route) (only inv t i j) e)) }
+            record {
+              ghost = _;
+              mem = to_range v m x (g.lo x) (hist now (g.lo x)) hv o.at.kind rx lx lo by pz (λ s _. cz s) (cz _ ∙ m.bases.agrees x _ o.at.kind lx lo) (q _) (λ s _. q s)
+                  (suc sn) ta (ap (λ v. v.kind) z) tn;
+              rely = re;
+              know = kn.0;
+              pile = kn.1;
+              linked = λ _ i j e. absurd (by (subst (λ v. (n v).kind ≡ Route) (only inv t i j) e));
+            }
           where
             in_c : (n : Nodes) (g : Ghost) → Mem (W n g) hist → Opening (W n g) f → Replaceable (W n g) x → Live (W n g) x → n x ≡ b.store.nodes x → (s : ℕ) → has c s ≡ true → s < g.hi x
             in_c n g m o rx lx zx s h = (repl_within m x s o.at.kind rx lx (ap (λ v. has v.container.set s) zx ∙ h)).1
@@ -155,7 +166,8 @@ module _ {b : Bench} {hist : Hist} {now : ℕ} {first : ℕ → Option ℕ} (inv
 
   pub ok_opening : (r : Quarter) → Stands b t (swap opening r) → Good inv t (step (swap opening r) (sight_of b.store) th)
   unfolding step
-  ok_opening r e = framed_ok inv t th.frames refl _ (λ f fs E. let nl = (know_now inv t (swap opening r) e).1 in swap_ok inv t r f.base (λ o. opened_by o (shape (b.store.nodes f.base)) (sight_of b.store) f fs th) _ refl
+  ok_opening r e = framed_ok inv t th.frames refl _ (λ f fs E. let nl = (know_now inv t (swap opening r) e).1 in
+      swap_ok inv t r f.base (λ o. opened_by o (shape (b.store.nodes f.base)) (sight_of b.store) f fs th) _ refl
       (λ v i _. either inv t _ _ _ (λ _. either inv t _ _ _ (λ _. adding_by th _ (Good inv t) (either inv t) _ _ fs (λ th' ad. opens r e f fs E nl v i th' ad)) (λ _. tt)) (λ _. tt))
       (λ r'. go_on_at inv t (swap opening r) (swap opening r') (at (swap opening r') th) e (place_number (swap opening r')) (alike refl refl refl refl) (λ z _. clash (cc)) refl (λ n g a m k. k))
       (go_on inv t (swap opening r) (at p60 th) e (alike refl refl refl refl) (λ z _. clash (cc)) refl (λ n g a m k.
@@ -182,7 +194,8 @@ module _ {b : Bench} {hist : Hist} {now : ℕ} {first : ℕ → Option ℕ} (inv
     next_at n g k = subst (λ v. TopOf v (λ f. Nexts (W n g) f × Replaceable (W n g) f.base)) E k.0
 
     -- the base is where the store ends
-    edge_of : (w : World) → Mem w hist → (S y : ℕ) → S < w.shown → Waits w S → IsBase w y → Live w y → Replaceable w y → (z : ℕ) → Of w S z → Born w z → In w (w.hi z) y → ((w.tale S).end ≡ w.lo y) × (w.lo y ≡ w.hi z)
+    edge_of : (w : World) → Mem w hist → (S y : ℕ) → S < w.shown → Waits w S → IsBase w y → Live w y → Replaceable w y → (z : ℕ) → Of w S z → Born w z → In w (w.hi z) y
+        → ((w.tale S).end ≡ w.lo y) × (w.lo y ≡ w.hi z)
     edge_of w m S y h q b l re z o bz i = let hz = m.tales.holds S z o bz q in let rz = m.shape.range z bz in elim (m.tales.sole S y h q b l) [
       | inr v ↦ absurd (not_waiting re v.0 v.1 q)
       | inl (inl v) ↦ absurd (omega arith)
@@ -194,18 +207,21 @@ module _ {b : Bench} {hist : Hist} {now : ℕ} {first : ℕ → Option ℕ} (inv
         → reaches (w.nodes z).container.set (w.tale S).upper ≡ false → ⊥
     one_last w m S z v oz bz ov bv q e r s = elim (v ==? z) [
       | yes y ↦ true≢false (sym r ∙ ap (λ u. reaches (w.nodes u).container.set (w.tale S).upper) y ∙ s)
-      | no y ↦ (let a = m.shape.range v bv in let a' = m.shape.range z bz in elim (m.bases.apart v z (λ i. clash (cc ov.0)) (λ i. clash (cc oz.0)) (m.tales.holds S v ov bv q).0 (m.tales.holds S z oz bz q).0 y) [ inl c ↦ omega arith | inr c ↦ omega arith ])
+      | no y ↦ (let a = m.shape.range v bv in let a' = m.shape.range z bz in
+          elim (m.bases.apart v z (λ i. clash (cc ov.0)) (λ i. clash (cc oz.0)) (m.tales.holds S v ov bv q).0 (m.tales.holds S z oz bz q).0 y) [ inl c ↦ omega arith | inr c ↦ omega arith ])
     ]
 
     extends : (v : Spot) → At inv t v y → (th' : Thread) → Adds th f₂ fs d th' → Good inv t (Moves th' (Ask v u (b.store.nodes y).parent y f.lower f.upper S false))
-    extends v i th' ad = λ q. hook_pile inv t (swap next r) v u (upd b.store.nodes u node₂) (suc u) sn th' (λ _. Unit {0}) e (omega arith) (one inv t node₂) (rw ad.station (inv.stations t)) (on_not_back inv t th' nl ad.action)
+    extends v i th' ad = λ q. hook_pile inv t (swap next r) v u (upd b.store.nodes u node₂) (suc u) sn th' (λ _. Unit {0}) e (omega arith) (one inv t node₂)
+        (rw ad.station (inv.stations t)) (on_not_back inv t th' nl ad.action)
         (away inv t th' ad.apart) (λ _ _ _. tt)
         (λ n g a m k pl. let (o, re) = next_at n g k in (hits inv t v y i n g a m o.kind o.born re).2)
         (λ n g a fr m k pl₀. let pl = subst (λ v. PileOf (W n g) hist (moment (first t)) th v) E pl₀ in let (o, rx) = next_at n g k in
         let (S₀, as₀) = asks_begun (W n g) hist (moment (first t)) th f fs pl o.begun in let z : S₀ ≡ S = sym (ap store_of as₀.store) in
         made q n g a (top_one inv t n node₂ fr) m o rx pl (subst (λ v. Asks (W n g) hist f v) z as₀))
       where
-        made : Still inv t → (n : Nodes) (g : Ghost) → Agrees b.store n → n u ≡ node₂ → Mem (W n g) hist → Nexts (W n g) f → Replaceable (W n g) y → PileOf (W n g) hist (moment (first t)) th (f ∷ fs) → Asks (W n g) hist f S
+        made : Still inv t → (n : Nodes) (g : Ghost) → Agrees b.store n → n u ≡ node₂ → Mem (W n g) hist → Nexts (W n g) f → Replaceable (W n g) y
+            → PileOf (W n g) hist (moment (first t)) th (f ∷ fs) → Asks (W n g) hist f S
             → HookPile inv t v u (suc u) sn th' (λ _. Unit {0}) n g
         made q n g a z m o rx pl ask = let w = W n g in let (hv, lx, _) = hits inv t v y i n g a m o.kind o.born rx in let zx = a y (m.shape.low y o.born) in
             let pz : (n u).parent ≡ (n y).parent = ap (λ v. v.parent) z ∙ ap (λ v. v.parent) (sym zx) in
@@ -217,7 +233,9 @@ module _ {b : Bench} {hist : Hist} {now : ℕ} {first : ℕ → Option ℕ} (inv
             let ed : Waits w S → ((g.tale S).end ≡ g.lo y) × (g.lo y ≡ g.hi (prev_of f)) = λ qq. edge_of w m S y ask.low qq o.kind lx rx (prev_of f) de.of de.born (o.beyond S ask.store qq).0 in
             let gr = any_graft v m y (g.lo y) (hist now (g.lo y)) hv o.kind rx lx lo by pz (λ s _. cz s) (cz _ ∙ m.bases.agrees y _ o.kind lx lo) (q _) (λ s _. q s) sn ta in
             let eqS = eq-eqb S S refl in
-            let tn = tales_again m gr S (ap (λ v. v.kind) z) (ap (λ v. v.store) z) ask.low (ap (λ v. v.lower) z ∙ ask.lower) (ap (λ v. v.upper) z ∙ ask.upper) refl (λ Z h. rw (ne_eqb Z S h)) (rw eqS) (rw eqS) (rw eqS) (rw eqS) (rw eqS) (λ qq. (ed qq).0) (λ _. rw eqS) (λ qq v ov bv re. one_last w m S (prev_of f) v de.of de.born ov bv qq (m.tales.last S v ov bv qq re ∙ (ed qq).0 ∙ (ed qq).1) re (subst (λ c. reaches (n (prev_of f)).container.set c ≡ false) ask.upper o.short)) in
+            let tn = tales_again m gr S (ap (λ v. v.kind) z) (ap (λ v. v.store) z) ask.low (ap (λ v. v.lower) z ∙ ask.lower) (ap (λ v. v.upper) z ∙ ask.upper) refl
+            (λ Z h. rw (ne_eqb Z S h)) (rw eqS) (rw eqS) (rw eqS) (rw eqS) (rw eqS) (λ qq. (ed qq).0) (λ _. rw eqS) (λ qq v ov bv re. one_last w m S (prev_of f) v de.of de.born ov bv qq
+            (m.tales.last S v ov bv qq re ∙ (ed qq).0 ∙ (ed qq).1) re (subst (λ c. reaches (n (prev_of f)).container.set c ≡ false) ask.upper o.short)) in
             let kp = graft_kept m gr (omega arith) (λ Z h. elim (Z ==? S) [ yes p ↦ rw (eq-eqb Z S p, p) (refl, refl, refl, refl, refl) | no p ↦ rw (ne_eqb Z S p) (refl, refl, refl, refl, refl) ]) in
             let re = graft_rely m gr kp in
             let w' = shifted w (exchanging v w (suc u) y u sn ta) in
@@ -252,14 +270,23 @@ module _ {b : Bench} {hist : Hist} {now : ℕ} {first : ℕ → Option ℕ} (inv
             let kn = ad.knows w' hist (T' inv t) nl
             (pile_asks w' hist (T' inv t) th f f₂ fs S ask.store as₁ (pile_after inv t w w' (λ _. Unit {0}) th (f ∷ fs) re refl refl refl refl pl))
             (λ Z _ _ s h. rw gr.hi_y (in_d n g m o rx lx zx s h).1) (sym (ap (λ v. v.container.set) z)) in
-            record { ghost = _; mem = to_range v m y (g.lo y) (hist now (g.lo y)) hv o.kind rx lx lo by pz (λ s _. cz s) (cz _ ∙ m.bases.agrees y _ o.kind lx lo) (q _) (λ s _. q s) sn ta (ap (λ v. v.kind) z) tn; rely = re; know = kn.0; pile = kn.1; linked = λ _ i j e. absurd (by (subst (λ v. (n v).kind ≡ Route) (only inv t i j) e)) }
+            record {
+              ghost = _;
+              mem = to_range v m y (g.lo y) (hist now (g.lo y)) hv o.kind rx lx lo by pz (λ s _. cz s) (cz _ ∙ m.bases.agrees y _ o.kind lx lo) (q _) (λ s _. q s) sn ta (ap (λ v. v.kind) z) tn;
+              rely = re;
+              know = kn.0;
+              pile = kn.1;
+              linked = λ _ i j e. absurd (by (subst (λ v. (n v).kind ≡ Route) (only inv t i j) e));
+            }
           where
             in_d : (n : Nodes) (g : Ghost) → Mem (W n g) hist → Nexts (W n g) f → Replaceable (W n g) y → Live (W n g) y → n y ≡ b.store.nodes y → (s : ℕ) → has d s ≡ true → In (W n g) s y
             in_d n g m o rx lx zx s h = repl_within m y s o.kind rx lx (ap (λ v. has v.container.set s) zx ∙ h)
 
   pub ok_next : (r : Quarter) → Stands b t (swap next r) → Good inv t (step (swap next r) (sight_of b.store) th)
   unfolding step
-  ok_next r e = framed_ok inv t th.frames refl _ (λ f fs E. let nl = (know_now inv t (swap next r) e).1 in swap_ok inv t r f.base (λ o. extended_by o (shape (b.store.nodes f.base)) (sight_of b.store) f fs th) _ refl
+  ok_next r e = framed_ok inv t th.frames refl _ (λ f fs E. let nl = (know_now inv t (swap next r) e).1 in
+      swap_ok inv t r f.base (λ o. extended_by o (shape (b.store.nodes f.base)) (sight_of b.store) f fs th) _ refl
       (λ v i _. either inv t _ _ _ (λ _. adding_by th _ (Good inv t) (either inv t) _ _ fs (λ th' ad. extends r e f fs E nl v i th' ad)) (λ _. tt))
       (λ r'. go_on_at inv t (swap next r) (swap next r') (at (swap next r') th) e (place_number (swap next r')) (alike refl refl refl refl) (λ z _. clash (cc)) refl (λ n g a m k. k))
-      (back_quiet inv t (swap next r) e nl (λ n g k. subst (λ v. TopOf v (λ h. Short (seen n b.store g (suc now)) h)) (sym E) (λ _. (subst (λ v. TopOf v (λ h. Nexts (seen n b.store g (suc now)) h × Replaceable (seen n b.store g (suc now)) h.base)) E k.0).0.short))))
+      (back_quiet inv t (swap next r) e nl (λ n g k. subst (λ v. TopOf v (λ h. Short (seen n b.store g (suc now)) h)) (sym E)
+      (λ _. (subst (λ v. TopOf v (λ h. Nexts (seen n b.store g (suc now)) h × Replaceable (seen n b.store g (suc now)) h.base)) E k.0).0.short))))

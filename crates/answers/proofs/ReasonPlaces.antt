@@ -26,10 +26,14 @@ use Rattle.definitions.specs.declared.Answer.TheVariants.{Yes, Lacking}
 use Rattle.definitions.specs.Threads.{Thread, Turn}
 use Rattle.definitions.specs.Nodes.{child_for, check, is_preparing}
 use Rattle.definitions.specs.Bench.{Store, Sight, sight_of}
-use Rattle.definitions.specs.Places.{own, found, united, opening, next, reading, Place, nowhere, p1, p2, p3, p4, p5, p15, p16, p19, p20, p21, p22, p23, p24, p25, p30, p31, p32, p33, p34, p35, p36, p37, p38, p40, p45, p46, p47, p48, p49, p50, p51, p60, p61, p62, p70, p71, p72, p73, p74, p76, p81, p82, swap, place_of, number, at}
+use Rattle.definitions.specs.Places.{own, found, united, opening, next, reading, Place, nowhere, p1, p2, p3, p4, p5, p15, p16, p19, p20}
+use Rattle.definitions.specs.Places.{p21, p22, p23, p24, p25, p30, p31, p32, p33, p34, p35, p36, p37, p38, p40, p45, p46, p47, p48, p49}
+use Rattle.definitions.specs.Places.{p50, p51, p60, p61, p62, p70, p71, p72, p73, p74, p76, p81, p82, swap, place_of, number, at}
 use Rattle.definitions.specs.Effects.{perform}
 use Rattle.definitions.specs.Frames.{back}
-use Rattle.definitions.specs.Steps.{says, at_leaf, reached, onward, one_more, followed, released, help_by, blocked_as, blocked, lacks_as, lacks, join_under, cleared_as, cleared, probe, lost_as, lost, replaced_as, replaced, own_by, found_by, united_by, beside, grand_marking, back_out, ended, cut_at, cut_on, cut_right, freeing, step}
+use Rattle.definitions.specs.Steps.{says, at_leaf, reached, onward, one_more, followed, released, help_by, blocked_as, blocked, lacks_as}
+use Rattle.definitions.specs.Steps.{lacks, join_under, cleared_as, cleared, probe, lost_as, lost, replaced_as, replaced, own_by, found_by}
+use Rattle.definitions.specs.Steps.{united_by, beside, grand_marking, back_out, ended, cut_at, cut_on, cut_right, freeing, step}
 use Rattle.definitions.specs.Reasons.{changes, Reason}
 use Rattle.answers.proofs.PlaceNumbers.{place_number, number_of}
 use Rattle.answers.proofs.ReasonParts.{part_of, Stand, Stands, Told, same, either, one_shown, one_looked, or_off, apart, all_of, none}
@@ -283,7 +287,8 @@ module _ (s : Store) (th : Thread) where
   told nowhere d e h = rw e tt
   told p1 d e h = calmly p1 false d e refl h (reach 1 r.stop.on 0 r.root)
   told p2 d e h = calmly p2 false d e refl h (follow r.stop.on r.stop.on (one_more th.read) (child_for th.station (r.nodes th.route)))
-  told p3 d e h = calmly p3 false d e refl h (either th 3 _ _ _ _ (λ z. lacking th.action (r.nodes th.base) refl z) (λ _. split 3 _ _ _ (clear th.action (r.nodes th.base) refl) (block th.action (check r.nodes r.stores th.base) refl)))
+  told p3 d e h = calmly p3 false d e refl h
+      (either th 3 _ _ _ _ (λ z. lacking th.action (r.nodes th.base) refl z) (λ _. split 3 _ _ _ (clear th.action (r.nodes th.base) refl) (block th.action (check r.nodes r.stores th.base) refl)))
   told p4 d e h = calmly p4 false d e refl h (pass 4 Raise false 0 th.route)
   told p5 d e h = calmly p5 false d e refl h (release th.action refl)
   told (swap own q) d e h = placed (swap own q) d e (omega (arith, own_range q)) (rw h (by_own q (probe q (r.nodes th.base).parent r.nodes r.root th.base) (r.nodes th.base)))
@@ -296,7 +301,8 @@ module _ (s : Store) (th : Thread) where
   told p23 d e (i, h) = calmly p23 false d e refl h (split 23 _ _ _ (i, refl) (i, refl))
   told p24 d e (i, h) = calmly p24 false d e refl h (split 24 _ _ _ (i, refl) (rw i (refl, refl)))
   told p25 d e (i, h) = calmly p25 false d e refl h (split 25 _ _ _ (split 25 _ _ _ (i, refl, refl) tt) (rw i (refl, inr (inr refl))))
-  told (swap found q) d e (i, o, h) = calmly (swap found q) false d e (apart_found q) h (by_found i o (number (swap found q)) (probe q (r.nodes th.found).parent r.nodes r.root th.found) (r.nodes th.found))
+  told (swap found q) d e (i, o, h) =
+      calmly (swap found q) false d e (apart_found q) h (by_found i o (number (swap found q)) (probe q (r.nodes th.found).parent r.nodes r.root th.found) (r.nodes th.found))
   told p30 d e (i, o, h) = calmly p30 false d e refl h (split 30 _ _ _ (i, o, refl) (i, o, refl))
   told p31 d e (i, o, h) = calmly p31 false d e refl h (split 31 _ _ _ (i, o, refl) (split 31 _ _ _ (i, o, refl) (i, o, refl)))
   told p32 d e (i, o, h) = calmly p32 false d e refl h (split 32 _ _ _ (i, o, refl) (split 32 _ _ _ (i, o, refl) (i, o, refl)))
@@ -307,7 +313,8 @@ module _ (s : Store) (th : Thread) where
   told p37 d e (i, o, h) = calmly p37 false d e refl h (i, o, refl)
   told p38 d e (i, o, h) = calmly p38 false d e refl h (rw i (refl, refl))
   told p40 d e h = calmly p40 th.owner d e refl h (on_the_way 40 _ _ _ (ends 40 _) refl)
-  told (swap united q) d e h = calmly (swap united q) th.owner d e (apart_united q) h (by_united (number (swap united q)) (probe q (r.nodes (r.nodes th.main).neighbour).parent r.nodes r.root (r.nodes th.main).neighbour) (r.nodes th.main))
+  told (swap united q) d e h = calmly (swap united q) th.owner d e (apart_united q) h
+      (by_united (number (swap united q)) (probe q (r.nodes (r.nodes th.main).neighbour).parent r.nodes r.root (r.nodes th.main).neighbour) (r.nodes th.main))
   told p45 d e h = calmly p45 th.owner d e refl h refl
   told p46 d e h = calmly p46 th.owner d e refl h (at_46 (r.nodes th.main).grandparent (r.nodes th.main))
   told p47 d e h = calmly p47 th.owner d e refl h (at_47 47 true (r.nodes th.main).grandparent (r.nodes th.main))

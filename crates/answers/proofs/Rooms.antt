@@ -132,7 +132,8 @@ module _ (w : World) (hist : Hist) (m : Mem w hist) (g : FitsIn w.nodes w.used w
 pub reach_entries : (file : List ℕ) (k t : ℕ) → 60 < ((after file k).bench.threads t).place → ((after file k).bench.threads t).place < 81
     → Top ((after file k).bench.threads t) (λ f. length f.stack ≤ 86)
 reach_entries file k t a b = let o = run_ends file k in let h = o.inv.held (nodes file k) (λ _ _. refl) in
-    walk_short _ (moments (stop_of file) (records_of file k)) h.mem (reach_store file k) _ (walks ((after file k).bench.threads t).place a b) _ ((after file k).bench.threads t) (omega arith) (h.knows t)
+    walk_short _ (moments (stop_of file) (records_of file k)) h.mem (reach_store file k) _ (walks ((after file k).bench.threads t).place a b) _
+    ((after file k).bench.threads t) (omega arith) (h.knows t)
 
 -- where a node is pushed there is room for it
 pub reach_push : (file : List ℕ) (k t : ℕ) → Pushes (place_of ((after file k).bench.threads t).place) → Top ((after file k).bench.threads t) (λ f. length f.stack ≤ 85)

@@ -159,7 +159,10 @@ fresh_small sw = record { nodes = λ x s. omega arith; threads = λ t. omega ari
 
 advance_small : (file : List ℕ) (p : Progress) (r : Rec) → Small p.bench → Small (advance file p r).bench
 unfolding advance ite
-advance_small file p r h = elim (test (eqb p.refusal 0)) [ on e ↦ rw e (go (record_step p.bench r.last r.first r.second r.extra) (record_small p.bench r.last r.first r.second r.extra h)) | off e ↦ rw e h ]
+advance_small file p r h = elim (test (eqb p.refusal 0)) [
+  | on e ↦ rw e (go (record_step p.bench r.last r.first r.second r.extra) (record_small p.bench r.last r.first r.second r.extra h))
+  | off e ↦ rw e h
+]
   where
     go : (res : Result) → Then res → Small (advance_by file p (r.first / 16) res).bench
     go (refused k) _ = h

@@ -28,8 +28,12 @@ use Rattle.definitions.specs.Threads.{Turn}
 use Rattle.definitions.specs.Threads.{Moves, Finishes, Finds, Full, NoStore}
 use Rattle.definitions.specs.Nodes.{child_for, check_stage, check_store, check_as, check}
 use Rattle.definitions.specs.Bench.{Sight}
-use Rattle.definitions.specs.Places.{to_frames, own, found, united, opening, next, reading, Place, nowhere, p1, p2, p3, p4, p5, p15, p16, p19, p20, p21, p22, p23, p24, p25, p30, p31, p32, p33, p34, p35, p36, p37, p38, p40, p45, p46, p47, p48, p49, p50, p51, p60, p61, p62, p70, p71, p72, p73, p74, p76, p81, p82, swap}
-use Rattle.definitions.specs.Steps.{at_leaf, reached, onward, one_more, followed, released, lost_as, lost, join_under, cleared_as, cleared, probe, replaced_as, replaced, own_by, found_by, united_by, help_by, blocked_as, blocked, beside, grand_marking, cut_at, cut_on, cut_right, freeing, reached_first, reached_next, opened_by, extended_by, pop_on, met_by, filling, leaving, read_out, is_query, unmark, invalid, step}
+use Rattle.definitions.specs.Places.{to_frames, own, found, united, opening, next, reading, Place, nowhere, p1, p2, p3, p4, p5, p15}
+use Rattle.definitions.specs.Places.{p16, p19, p20, p21, p22, p23, p24, p25, p30, p31, p32, p33, p34, p35, p36, p37, p38, p40, p45}
+use Rattle.definitions.specs.Places.{p46, p47, p48, p49, p50, p51, p60, p61, p62, p70, p71, p72, p73, p74, p76, p81, p82, swap}
+use Rattle.definitions.specs.Steps.{at_leaf, reached, onward, one_more, followed, released, lost_as, lost, join_under, cleared_as, cleared, probe, replaced_as, replaced}
+use Rattle.definitions.specs.Steps.{own_by, found_by, united_by, help_by, blocked_as, blocked, beside, grand_marking, cut_at, cut_on, cut_right, freeing, reached_first}
+use Rattle.definitions.specs.Steps.{reached_next, opened_by, extended_by, pop_on, met_by, filling, leaving, read_out, is_query, unmark, invalid, step}
 use Rattle.definitions.specs.Threads.{Frame, new_frame}
 use Rattle.definitions.specs.Frames.{top_of, tail_of, store_of, pushed, in_hand, with_stack, popping, noting, asks, adds, in_frame, next_from, adding, found_first, back_in, back}
 use mathlib.Core.List.{List, [], ◌∷◌}
@@ -255,7 +259,8 @@ module _ (s : Sight) (th : Thread) where
 
     -- 82
     under : (gs : List Frame) → fs ≡ gs → (r : ℕ) → s.stores (store_of f.store) ≡ Some r → Stay s th (leaving gs r th)
-    under [] z r q = fork_eq s th _ _ _ (λ _ S v u. clash (let (i, _) : (f.store ≡ Some S) × (f.begun ≡ true) = subst (λ l. Bears (f ∷ l) S) z (subst (λ l. Bears l S) E v) in let y : s.stores S ≡ Some r = ap (λ v. s.stores (store_of v)) (sym i) ∙ q in cc))
+    under [] z r q = fork_eq s th _ _ _ (λ _ S v u. clash (let (i, _) : (f.store ≡ Some S) × (f.begun ≡ true) = subst (λ l. Bears (f ∷ l) S) z (subst (λ l. Bears l S) E v) in
+        let y : s.stores S ≡ Some r = ap (λ v. s.stores (store_of v)) (sym i) ∙ q in cc))
         (λ c. backed [] Quiet (λ k v. v) (λ S o. absurd (true≢false (sym o.0 ∙ c))) (λ h. omega arith))
     under (g ∷ gs) z r q = backed (g ∷ gs) Quiet (λ k v. v) (λ S o. subst (λ l. Bears (f ∷ l) S) z (mine S o)) (λ h. let k = subst (λ l. length (f ∷ l) ≤ 4) z (few h) in omega arith)
 
@@ -369,7 +374,8 @@ module _ (s : Sight) (th : Thread) where
   stay_op p51 sem = fork s th _ _ _ (λ k v. v) (goes_back _ (λ k v. v))
   stay_op p60 sem = in_frame_lem th.frames _ refl (λ f fs E. first_reached f fs E s.root [])
   stay_op p61 sem = in_frame_lem th.frames _ refl (λ f fs E. first_reached f fs E _ f.stack)
-  stay_op p62 sem = in_frame_lem th.frames _ refl (λ f fs E. fork s th _ _ _ (λ S o. o, λ h. h, λ k v. absurd v) (fork s th _ _ _ (ride f fs E (subst (λ v. TopOf v (λ f. f.begun ≡ false)) E (sem.new refl)) (s.nodes f.base).lower (s.nodes f.base).upper (s.nodes f.base).store 60) (λ S o. o, λ h. h, λ k v. absurd v)))
+  stay_op p62 sem = in_frame_lem th.frames _ refl (λ f fs E. fork s th _ _ _ (λ S o. o, λ h. h, λ k v. absurd v) (fork s th _ _ _
+      (ride f fs E (subst (λ v. TopOf v (λ f. f.begun ≡ false)) E (sem.new refl)) (s.nodes f.base).lower (s.nodes f.base).upper (s.nodes f.base).store 60) (λ S o. o, λ h. h, λ k v. absurd v)))
   stay_op (swap opening q) sem = in_frame_lem th.frames _ refl (λ f fs E. by_opening f fs E (sem.single q refl f fs E) (probe q (s.nodes f.base).parent s.nodes s.root f.base) (s.nodes f.base))
   stay_op p70 sem = in_frame_lem th.frames _ refl (λ f fs E. fork s th _ _ _ (λ S o. o, λ h. h, λ k v. absurd v) (moves f fs E (noting (s.nodes (top_of f.stack)).key f) refl (λ v. v) 72))
   stay_op p71 sem = in_frame_lem th.frames _ refl (λ f fs E. next_reached f fs E _)

@@ -13,9 +13,12 @@ use Rattle.definitions.specs.declared.Quarter.TheVariants.{ReadLeft, SwapLeft, R
 use Rattle.definitions.specs.Threads.{Frame, Thread}
 use Rattle.definitions.specs.Frames.{top_of, tail_of, reaches}
 use Rattle.definitions.specs.Steps.{is_query}
-use Rattle.definitions.specs.Places.{own, found, united, opening, next, Place, nowhere, p1, p2, p3, p4, p5, p15, p16, p19, p20, p21, p22, p23, p24, p25, p30, p31, p32, p33, p34, p35, p36, p37, p38, p40, p45, p46, p47, p48, p49, p50, p51, p60, p61, p62, p70, p71, p72, p73, p74, p76, p81, p82, swap}
+use Rattle.definitions.specs.Places.{own, found, united, opening, next, Place, nowhere, p1, p2, p3, p4, p5, p15, p16, p19, p20, p21, p22, p23, p24, p25, p30, p31, p32}
+use Rattle.definitions.specs.Places.{p33, p34, p35, p36, p37, p38, p40, p45, p46, p47, p48, p49, p50, p51, p60, p61, p62, p70, p71, p72, p73, p74, p76, p81, p82, swap}
 use Rattle.answers.proofs.Memory.{World, Live, Born, lives, died, alive, In, kind_of, Waits, Of, Hist}
-use Rattle.answers.proofs.FrameFacts.{Short, Waiting, own_free, blocked, Blocks, first_base, stands, Outside, Routed, Climb, prev_of, Added, Asks, Bottom, free, rides, Own, PileOf, Pile, Unless, Downward, Opening, Upward, Turns, Nearing, Nexts, Complete, Ready, TopOf, Hung, Member, Sight, Ahead, Beside, top_routed, member_routed}
+use Rattle.answers.proofs.FrameFacts.{Short, Waiting, own_free, blocked, Blocks, first_base, stands, Outside, Routed, Climb, prev_of, Added}
+use Rattle.answers.proofs.FrameFacts.{Asks, Bottom, free, rides, Own, PileOf, Pile, Unless, Downward, Opening, Upward, Turns, Nearing}
+use Rattle.answers.proofs.FrameFacts.{Nexts, Complete, Ready, TopOf, Hung, Member, Sight, Ahead, Beside, top_routed, member_routed}
 use Rattle.answers.proofs.Facts.{Fresh, AtBase, goal, InPlace, AtSide, AtFound, Grand, none, some}
 use Rattle.answers.proofs.Knows.{OnMain, Seeks, Holds, Neighed, Topped, Helps, PStale, PDead, KnowU, Know, owning, Rely, asks_of, on_top}
 
@@ -181,7 +184,15 @@ module _ (w w' : World) (hist : Hist) (Mine : ℕ → Type 0) (r : Rely w w' his
         top_born s c h = top_routed w s c h
 
     opening_stays : Opening w f → Opening w' f
-    opening_stays k = record { begun = k.begun; free = k.free; at = base _ _ k.at; climb = climbs (tail_of f.stack) k.climb; alone = λ e. r.parent _ ∙ k.alone e; entries = λ z m. r.range z _ (member_routed w z (tail_of f.stack) k.climb m).1 (k.entries z m); hung = r.stores.hang _ _ k.at.born k.climb k.hung }
+    opening_stays k = record {
+      begun = k.begun;
+      free = k.free;
+      at = base _ _ k.at;
+      climb = climbs (tail_of f.stack) k.climb;
+      alone = λ e. r.parent _ ∙ k.alone e;
+      entries = λ z m. r.range z _ (member_routed w z (tail_of f.stack) k.climb m).1 (k.entries z m);
+      hung = r.stores.hang _ _ k.at.born k.climb k.hung;
+    }
 
     upward : Upward w f → Upward w' f
     upward k = record { begun = k.begun; climb = climbs f.stack k.climb; some = k.some; short = ap (λ c. reaches c.set f.upper) (r.container (prev_of f)) ∙ k.short }
@@ -211,7 +222,11 @@ module _ (w w' : World) (hist : Hist) (Mine : ℕ → Type 0) (r : Rely w w' his
       top = k.top;
       climb = climbs (tail_of f.stack) k.climb;
       some = k.some;
-      beyond = unless f _ _ (λ S e q v. let z = hi_still S e k.begun q in (rw z (r.range _ _ k.born v.0), rw z (r.range _ _ (top_routed w (tail_of f.stack) k.climb k.some).1 v.1), entries_stay (tail_of f.stack) _ _ k.climb z v.2)) k.beyond;
+      beyond = unless f _ _ (λ S e q v. let z = hi_still S e k.begun q in (
+        rw z (r.range _ _ k.born v.0),
+        rw z (r.range _ _ (top_routed w (tail_of f.stack) k.climb k.some).1 v.1),
+        entries_stay (tail_of f.stack) _ _ k.climb z v.2,
+      )) k.beyond;
       hung = r.stores.hang _ _ k.born k.climb k.hung;
       short = ap (λ c. reaches c.set f.upper) (r.container (prev_of f)) ∙ k.short;
     }

@@ -13,9 +13,13 @@ use Rattle.container.specs.Container.{split_key}
 use Rattle.definitions.specs.Nodes.{check}
 use Rattle.definitions.specs.Bench.{Store, Sight, sight_of}
 use Rattle.definitions.specs.Threads.{Frame, Thread, Turn, Moves, Finishes, Finds, Full, NoStore}
-use Rattle.definitions.specs.Places.{Place, nowhere, p1, p2, p3, p4, p5, p15, p16, p19, p20, p21, p22, p23, p24, p25, p30, p31, p32, p33, p34, p35, p36, p37, p38, p40, p45, p46, p47, p48, p49, p50, p51, p60, p61, p62, p70, p71, p72, p73, p74, p76, p81, p82, swap, own, found, united, opening, next}
+use Rattle.definitions.specs.Places.{Place, nowhere, p1, p2, p3, p4, p5, p15, p16, p19, p20, p21, p22, p23, p24, p25, p30, p31, p32, p33, p34, p35, p36, p37, p38, p40}
+use Rattle.definitions.specs.Places.{p45, p46, p47, p48, p49, p50, p51, p60, p61, p62, p70, p71, p72, p73, p74, p76, p81, p82, swap, own, found, united, opening, next}
 use Rattle.definitions.specs.Frames.{tail_of, in_frame, next_from, adding, found_first, back_in, back, store_of}
-use Rattle.definitions.specs.Steps.{room, store_room, at_leaf, reached, onward, followed, released, lost_as, lost, join_under, cleared_as, cleared, probe, replaced_as, replaced, own_by, found_by, united_by, help_by, blocked_as, blocked, beside, grand_marking, unmark, invalid, replacement, cut_at, cut_on, cut_right, freeing, ended, reached_first, reached_next, pop_on, opened_by, extended_by, met_by, filling, leaving, read_out, step}
+use Rattle.definitions.specs.Steps.{room, store_room, at_leaf, reached, onward, followed, released, lost_as, lost, join_under, cleared_as}
+use Rattle.definitions.specs.Steps.{cleared, probe, replaced_as, replaced, own_by, found_by, united_by, help_by, blocked_as, blocked, beside}
+use Rattle.definitions.specs.Steps.{grand_marking, unmark, invalid, replacement, cut_at, cut_on, cut_right, freeing, ended, reached_first}
+use Rattle.definitions.specs.Steps.{reached_next, pop_on, opened_by, extended_by, met_by, filling, leaving, read_out, step}
 use Rattle.definitions.specs.declared.Action.{Action}
 use Rattle.definitions.specs.declared.Action.TheVariants.{Lookup, Insert, Remove, Split, Join, Query}
 use Rattle.definitions.specs.declared.Kind.{Kind}

@@ -81,7 +81,10 @@ abbrev deep_file : List ℕ
 deep_file = schedule 2 (deep_run ++ op 1 Lookup 9 2 ++ op 1 Lookup 4 2)
 
 by_computing : (map quick table ≡ map promised table) × (quick_printed deep_file ≡ lines deep_text)
-unfolding bytes_of record_at between reaches adding back reached_first reached_next asked put take_out merge within lower upper depth_text row_line decimal stations_to stations_text route_line base_line set_line list_refusal check replaceable action_word first_line last_line taken stepped started record_step run_refusal count_of file_refusal reached onward followed blocked lacks cleared lost probe replaced beside step ite has insert remove union cut below from size least drop_least upper_half lower_half split_key ones_in count_trailing_zeros
+unfolding bytes_of record_at between reaches adding back reached_first reached_next asked put take_out merge within lower upper depth_text
+    row_line decimal stations_to stations_text route_line base_line set_line list_refusal check replaceable action_word first_line last_line
+    taken stepped started record_step run_refusal count_of file_refusal reached onward followed blocked lacks cleared lost probe replaced beside
+    step ite has insert remove union cut below from size least drop_least upper_half lower_half split_key ones_in count_trailing_zeros
 by_computing = (refl, refl)
 
 pub depth_runs : (map outcome table ≡ map promised table) × (printed deep_file ≡ lines deep_text)

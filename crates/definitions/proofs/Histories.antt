@@ -125,5 +125,7 @@ outcomes f [] = []
 outcomes f (c ∷ cs) = f c ∷ outcomes f cs
 
 pub written_so : outcomes outcome cases ≡ outcomes expected cases
-unfolding ite count_of record_at file_refusal fault put take_out merge within lower upper records_of advance after written written_refusal written_report written_buffer back check replaceable reached blocked lacks cleared lost probe replaced beside step taken stepped started record_step has insert remove union cut below from size least drop_least upper_half lower_half split_key ones_in count_trailing_zeros
+unfolding ite count_of record_at file_refusal fault put take_out merge within lower upper records_of advance after written written_refusal
+    written_report written_buffer back check replaceable reached blocked lacks cleared lost probe replaced beside step taken stepped started
+    record_step has insert remove union cut below from size least drop_least upper_half lower_half split_key ones_in count_trailing_zeros
 written_so = refl

@@ -3,7 +3,7 @@
 use Prim.Native.Nat.{ℕ}
 use mathlib.Core.Bool.{false}
 use mathlib.Core.Path.{◌≡◌, refl}
-use mathlib.Core.List.{List, [], ◌∷◌}
+use mathlib.Core.List.{List, [], ◌∷◌, map}
 use Rattle.container.specs.Choice.{ite}
 use Rattle.definitions.specs.Bench.{Bench, fresh, bench}
 use Rattle.definitions.specs.Threads.{begun}
@@ -57,13 +57,9 @@ cases =
     ∷ one start 0x10 0 12 ∷ one start 0x10 1 10 ∷ one busy 0x10 0 0 ∷ two busy 0x10 0 1 10
     ∷ []
 
-abbrev All : List Case → Type 0
-All [] = Unit {0}
-All (c ∷ cs) = (refusal_of (profile_step c.on c.given) ≡ c.answer) × All cs
-
-refusals : All cases
+refusals : map (λ (c : Case). refusal_of (profile_step c.on c.given)) cases ≡ map (λ (c : Case). c.answer) cases
 unfolding cases profile_step record_step stepped started asked taken step reached ite
-refusals = (refl, (refl, (refl, (refl, (refl, (refl, (refl, (refl, (refl, (refl, (refl, (refl, (refl, (refl, (refl, (refl, (refl, (refl, (refl, (refl, (refl, (refl, (refl, (refl, (refl, (refl, (refl, (refl, (refl, (refl, (refl, (refl, (refl, (refl, (refl, (refl, (refl, (refl, (refl, (refl, (refl, (refl, (refl, (refl, (refl, (refl, (refl, tt)))))))))))))))))))))))))))))))))))))))))))))))
+refusals = refl
 
 -- whole files: version 3 is 2, before 3, 4 and 5; a short one is 1 before it; versions 1 and 2 run; a short buffer is 5 though a record is barred
 versions : (profile_refusal (3 ∷ 0 ∷ []) 0 ≡ 1) × (profile_refusal (3 ∷ 0 ∷ 0 ∷ []) 0 ≡ 2) × (profile_refusal (4 ∷ 0 ∷ 0 ∷ []) 0 ≡ 2)

@@ -105,7 +105,10 @@ run1 =
     []
 
 abbrev end1 : Outcome
-end1 = ends 0 (says 0 1 0 ∷ says 0 1 0 ∷ says 0 1 0 ∷ says 0 1 0 ∷ says 2 1 1664 ∷ says 2 1 0 ∷ says 1 1 0 ∷ says 1 0 0 ∷ says 1 1 0 ∷ says 2 1 0 ∷ says 0 1 0 ∷ says 0 1 0 ∷ says 2 1 1696 ∷ says 1 6 0 ∷ says 2 1 0 ∷ says 2 0 0 ∷ says 2 2 0 ∷ says 2 0 0 ∷ says 2 1 0 ∷ says 2 1 512 ∷ says 0 1 0 ∷ says 1 2 0 ∷ says 2 4 0 ∷ says 2 3 0 ∷ says 2 1 1536 ∷ says 2 3 0 ∷ says 2 5 0 ∷ says 2 1 0 ∷ says 1 1 1664 ∷ says 2 1 0 ∷ says 2 1 0 ∷ []) ("0 route 9" ∷ "1 route 5" ∷ "2 normal 2" ∷ "2 normal 5 7" ∷ "1 route 10" ∷ "2 range 9" ∷ "2 range 10" ∷ "set 2 5 7 9 10" ∷ []) 44 8 (1 ∷ 0 ∷ 10 ∷ 0 ∷ [])
+end1 = ends 0 (says 0 1 0 ∷ says 0 1 0 ∷ says 0 1 0 ∷ says 0 1 0 ∷ says 2 1 1664 ∷ says 2 1 0 ∷ says 1 1 0 ∷ says 1 0 0 ∷ says 1 1 0 ∷ says 2 1 0
+    ∷ says 0 1 0 ∷ says 0 1 0 ∷ says 2 1 1696 ∷ says 1 6 0 ∷ says 2 1 0 ∷ says 2 0 0 ∷ says 2 2 0 ∷ says 2 0 0 ∷ says 2 1 0 ∷ says 2 1 512 ∷ says 0 1 0
+    ∷ says 1 2 0 ∷ says 2 4 0 ∷ says 2 3 0 ∷ says 2 1 1536 ∷ says 2 3 0 ∷ says 2 5 0 ∷ says 2 1 0 ∷ says 1 1 1664 ∷ says 2 1 0 ∷ says 2 1 0 ∷ [])
+    ("0 route 9" ∷ "1 route 5" ∷ "2 normal 2" ∷ "2 normal 5 7" ∷ "1 route 10" ∷ "2 range 9" ∷ "2 range 10" ∷ "set 2 5 7 9 10" ∷ []) 44 8 (1 ∷ 0 ∷ 10 ∷ 0 ∷ [])
 
 abbrev run2 : List Rec
 run2 =
@@ -137,7 +140,9 @@ run2 =
     []
 
 abbrev end2 : Outcome
-end2 = ends 0 (says 0 1 0 ∷ says 0 1 0 ∷ says 0 1 0 ∷ says 0 0 0 ∷ says 1 1 0 ∷ says 2 1 0 ∷ says 1 4 0 ∷ says 1 1 0 ∷ says 1 1 0 ∷ says 1 5 0 ∷ says 1 2 0 ∷ says 2 1 0 ∷ says 0 2 0 ∷ says 0 1 2048 ∷ says 0 2 0 ∷ says 1 1 0 ∷ says 0 6 0 ∷ says 0 1 0 ∷ says 1 2 0 ∷ says 1 3 0 ∷ says 2 1 2720 ∷ says 2 2 0 ∷ says 0 1 0 ∷ says 0 1 0 ∷ []) ("0 route 5" ∷ "1 normal 0 4" ∷ "1 route 7" ∷ "2 normal -" ∷ "2 route 9" ∷ "3 range 7" ∷ "3 range 9 11" ∷ "set 0 4 7 9 11" ∷ []) 32 3 (24 ∷ 81 ∷ 21 ∷ 0 ∷ [])
+end2 = ends 0 (says 0 1 0 ∷ says 0 1 0 ∷ says 0 1 0 ∷ says 0 0 0 ∷ says 1 1 0 ∷ says 2 1 0 ∷ says 1 4 0 ∷ says 1 1 0 ∷ says 1 1 0 ∷ says 1 5 0 ∷ says 1 2 0 ∷ says 2 1 0
+    ∷ says 0 2 0 ∷ says 0 1 2048 ∷ says 0 2 0 ∷ says 1 1 0 ∷ says 0 6 0 ∷ says 0 1 0 ∷ says 1 2 0 ∷ says 1 3 0 ∷ says 2 1 2720 ∷ says 2 2 0 ∷ says 0 1 0 ∷ says 0 1 0 ∷ [])
+    ("0 route 5" ∷ "1 normal 0 4" ∷ "1 route 7" ∷ "2 normal -" ∷ "2 route 9" ∷ "3 range 7" ∷ "3 range 9 11" ∷ "set 0 4 7 9 11" ∷ []) 32 3 (24 ∷ 81 ∷ 21 ∷ 0 ∷ [])
 
 abbrev run3 : List Rec
 run3 =
@@ -169,16 +174,24 @@ run3 =
     []
 
 abbrev end3 : Outcome
-end3 = ends 0 (says 0 1 0 ∷ says 0 1 0 ∷ says 0 1 0 ∷ says 0 1 0 ∷ says 2 0 0 ∷ says 2 0 0 ∷ says 2 1 0 ∷ says 2 1 0 ∷ says 0 3 0 ∷ says 2 6 0 ∷ says 0 1 256 ∷ says 1 0 0 ∷ says 1 0 0 ∷ says 0 6 0 ∷ says 0 1 0 ∷ says 1 1 296 ∷ says 1 2 0 ∷ says 1 0 0 ∷ says 1 0 0 ∷ says 0 0 0 ∷ says 1 1 0 ∷ says 2 1 0 ∷ says 1 1 0 ∷ says 1 1 32 ∷ says 2 4 0 ∷ says 1 1 0 ∷ says 1 0 0 ∷ says 0 1 0 ∷ []) ("0 normal 1 2 3 5 8 12" ∷ "set 1 2 3 5 8 12" ∷ []) 39 7 (10 ∷ 10 ∷ 15 ∷ 0 ∷ [])
+end3 = ends 0 (says 0 1 0 ∷ says 0 1 0 ∷ says 0 1 0 ∷ says 0 1 0 ∷ says 2 0 0 ∷ says 2 0 0 ∷ says 2 1 0 ∷ says 2 1 0 ∷ says 0 3 0 ∷ says 2 6 0 ∷ says 0 1 256 ∷ says 1 0 0 ∷ says 1 0 0 ∷ says 0 6 0
+    ∷ says 0 1 0 ∷ says 1 1 296 ∷ says 1 2 0 ∷ says 1 0 0 ∷ says 1 0 0 ∷ says 0 0 0 ∷ says 1 1 0 ∷ says 2 1 0 ∷ says 1 1 0 ∷ says 1 1 32 ∷ says 2 4 0 ∷ says 1 1 0 ∷ says 1 0 0 ∷ says 0 1 0 ∷ [])
+    ("0 normal 1 2 3 5 8 12" ∷ "set 1 2 3 5 8 12" ∷ []) 39 7 (10 ∷ 10 ∷ 15 ∷ 0 ∷ [])
 
 pub random1 : play run1 (fresh false) [] ≡ end1
-unfolding put take_out merge within lower upper between reaches adding back reached_first reached_next asked decimal stations_to stations_text route_line base_line set_line check replaceable taken stepped started record_step reached onward followed blocked lacks cleared lost probe replaced beside step ite has insert remove union cut below from size least drop_least upper_half lower_half split_key ones_in count_trailing_zeros
+unfolding put take_out merge within lower upper between reaches adding back reached_first reached_next asked decimal stations_to stations_text
+    route_line base_line set_line check replaceable taken stepped started record_step reached onward followed blocked lacks cleared lost probe
+    replaced beside step ite has insert remove union cut below from size least drop_least upper_half lower_half split_key ones_in count_trailing_zeros
 random1 = refl
 
 pub random2 : play run2 (fresh false) [] ≡ end2
-unfolding put take_out merge within lower upper between reaches adding back reached_first reached_next asked decimal stations_to stations_text route_line base_line set_line check replaceable taken stepped started record_step reached onward followed blocked lacks cleared lost probe replaced beside step ite has insert remove union cut below from size least drop_least upper_half lower_half split_key ones_in count_trailing_zeros
+unfolding put take_out merge within lower upper between reaches adding back reached_first reached_next asked decimal stations_to stations_text
+    route_line base_line set_line check replaceable taken stepped started record_step reached onward followed blocked lacks cleared lost probe
+    replaced beside step ite has insert remove union cut below from size least drop_least upper_half lower_half split_key ones_in count_trailing_zeros
 random2 = refl
 
 pub random3 : play run3 (fresh false) [] ≡ end3
-unfolding put take_out merge within lower upper between reaches adding back reached_first reached_next asked decimal stations_to stations_text route_line base_line set_line check replaceable taken stepped started record_step reached onward followed blocked lacks cleared lost probe replaced beside step ite has insert remove union cut below from size least drop_least upper_half lower_half split_key ones_in count_trailing_zeros
+unfolding put take_out merge within lower upper between reaches adding back reached_first reached_next asked decimal stations_to stations_text
+    route_line base_line set_line check replaceable taken stepped started record_step reached onward followed blocked lacks cleared lost probe
+    replaced beside step ite has insert remove union cut below from size least drop_least upper_half lower_half split_key ones_in count_trailing_zeros
 random3 = refl

@@ -90,7 +90,8 @@ table =
     ∷ after (start 1 Range 0 3 5 ++ start 2 Range 0 3 3 ++ steps 1 2 ++ op 3 3 3 5 ++ steps 2 3) (found 1 0 (3 ∷ []) ++ says 3 3 3 1 ++ found 2 0 (3 ∷ [])) (9 ∷ []) 1 8
     ("1 normal -" ∷ "1 normal 9=9999" ∷ "set 9=9999" ∷ [])
     -- four frames: t1 helps t2's query, on its way t3's, on its way t0's, which t0 finishes itself; t0's next is in t1's way, and takes the fourth frame again
-    ∷ run 2 (five_run ++ start 1 Range 0 63 6 ++ start 2 Range 4 63 7 ++ start 3 Range 6 63 6 ++ start 0 Range 8 63 7 ++ steps 1 31 ++ steps 0 13 ++ start 0 Range 10 63 8 ++ steps 1 102 ++ steps 0 6 ++ steps 2 7 ++ steps 3 5)
+    ∷ run 2 (five_run ++ start 1 Range 0 63 6 ++ start 2 Range 4 63 7 ++ start 3 Range 6 63 6 ++ start 0 Range 8 63 7 ++ steps 1 31 ++ steps 0 13 ++ start 0 Range 10 63 8
+    ++ steps 1 102 ++ steps 0 6 ++ steps 2 7 ++ steps 3 5)
     (five_rows ++ found 0 8 (8 ∷ 10 ∷ []) ++ found 1 0 (2 ∷ 4 ∷ 6 ∷ 8 ∷ 10 ∷ []) ++ found 0 10 (10 ∷ []) ++ found 2 4 (4 ∷ 6 ∷ 8 ∷ 10 ∷ []) ++ found 3 6 (6 ∷ 8 ∷ 10 ∷ []))
     (2 ∷ 4 ∷ 6 ∷ 8 ∷ 10 ∷ []) 5 33
     ("0 route 6" ∷ "1 route 4" ∷ "2 range 2=0" ∷ "2 range 4=0" ∷ "1 route 8" ∷ "2 range 6=0" ∷ "2 route 10" ∷ "3 range 8=0" ∷ "3 range 10=0" ∷ "set 2=0 4=0 6=0 8=0 10=0" ∷ [])
@@ -153,7 +154,10 @@ abbrev range_file : List ℕ
 range_file = schedule 2 (deep_run ++ start 1 Range 0 63 16)
 
 by_computing : (map quick table ≡ map promised table) × (quick_printed range_file ≡ lines range_text)
-unfolding bytes_of record_at between reaches adding back reached_first reached_next asked put take_out merge within lower upper depth_text row_line decimal stations_to stations_text route_line base_line set_line list_refusal check replaceable action_word first_line last_line taken stepped started record_step run_refusal count_of file_refusal reached onward followed blocked lacks cleared lost probe replaced beside step ite has insert remove union cut below from size least drop_least upper_half lower_half split_key ones_in count_trailing_zeros
+unfolding bytes_of record_at between reaches adding back reached_first reached_next asked put take_out merge within lower upper depth_text
+    row_line decimal stations_to stations_text route_line base_line set_line list_refusal check replaceable action_word first_line last_line
+    taken stepped started record_step run_refusal count_of file_refusal reached onward followed blocked lacks cleared lost probe replaced beside
+    step ite has insert remove union cut below from size least drop_least upper_half lower_half split_key ones_in count_trailing_zeros
 by_computing = (refl, refl)
 
 pub range_runs : (map outcome table ≡ map promised table) × (printed range_file ≡ lines range_text)

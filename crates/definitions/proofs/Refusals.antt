@@ -4,7 +4,9 @@ use Rattle.std.specs.Prelude.{Result, Ok, Err, IsErrAnd, OnOk, is_ok}
 use Rattle.std.proofs.lemmas.Result.{err_from_is_err_and}
 use Rattle.definitions.specs.Refusal.{refusal_number, code_of}
 use Rattle.definitions.specs.declared.Refusal.{Refusal}
-use Rattle.definitions.specs.declared.Refusal.TheVariants.{ShortFile, Version, Count, Length, RowBuffer, TextBuffer, Thread, Action, Station, UnusedBytes, Busy, Idle, Numbers, Depth, UpperEnd, Stores, OtherThread, OutputBuffer, Tally, Event, Operations, Unfinished, Barred, StateBuffer}
+use Rattle.definitions.specs.declared.Refusal.TheVariants.{ShortFile, Version, Count, Length, RowBuffer, TextBuffer, Thread, Action}
+use Rattle.definitions.specs.declared.Refusal.TheVariants.{Station, UnusedBytes, Busy, Idle, Numbers, Depth, UpperEnd, Stores, OtherThread}
+use Rattle.definitions.specs.declared.Refusal.TheVariants.{OutputBuffer, Tally, Event, Operations, Unfinished, Barred, StateBuffer}
 
 pub numbered : (r : Refusal) → 1 ≤ refusal_number r
 numbered ShortFile = lit≤ tt

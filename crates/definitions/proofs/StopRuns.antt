@@ -106,7 +106,9 @@ table =
     ∷ []
 
 by_computing : map quick table ≡ map promised table
-unfolding bytes_of record_at between reaches adding back reached_first reached_next asked put take_out merge within lower upper decimal stations_to stations_text route_line base_line set_line list_refusal check replaceable taken stepped started record_step run_refusal count_of file_refusal reached onward followed blocked lacks cleared lost probe replaced beside step ite has insert remove union cut below from size least drop_least upper_half lower_half split_key ones_in count_trailing_zeros
+unfolding bytes_of record_at between reaches adding back reached_first reached_next asked put take_out merge within lower upper decimal stations_to stations_text
+    route_line base_line set_line list_refusal check replaceable taken stepped started record_step run_refusal count_of file_refusal reached onward followed blocked lacks
+    cleared lost probe replaced beside step ite has insert remove union cut below from size least drop_least upper_half lower_half split_key ones_in count_trailing_zeros
 by_computing = refl
 
 pub stop_runs : map outcome table ≡ map promised table

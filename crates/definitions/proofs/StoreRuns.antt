@@ -43,7 +43,8 @@ abbrev table : List Case
 table =
     -- 63 stores are shown, the 64th by t1. An insert that helps t1's query and a query that rides on it need none; a query of t0 whose comparison fails
     -- is not refused, and is where it succeeds: "a store needed beyond the 64 with 16"
-    ending 2 16 412 (one ++ again 63 asks ++ start 1 Range 0 9 3 ++ start 2 Insert 4 7 2 ++ start 3 Range 0 5 2 ++ steps 2 6 ++ steps 3 2 ++ steps 1 2 ++ start 0 Range 0 3 2 ++ start 1 Insert 5 9 3 ++ steps 0 4)
+    ending 2 16 412 (one ++ again 63 asks ++ start 1 Range 0 9 3 ++ start 2 Insert 4 7 2 ++ start 3 Range 0 5 2 ++ steps 2 6 ++ steps 3 2 ++ steps 1 2
+    ++ start 0 Range 0 3 2 ++ start 1 Insert 5 9 3 ++ steps 0 4)
     (says 0 Insert 3 1 ++ again 63 finds ++ says 2 Insert 4 1 ++ found 3 0 (3 ∷ []) ++ found 1 0 (3 ∷ []) ++ says 1 Insert 5 1)
     (3 ∷ 4 ∷ 5 ∷ []) 3 68 ("0 normal 3=640 4=7 5=9" ∷ "set 3=640 4=7 5=9" ∷ [])
     ∷ []
@@ -70,7 +71,10 @@ abbrev orders : List ℕ
 orders = step_of (standing 0 255 63) ∷ step_of (standing 0 255 64) ∷ step_of (standing 0 256 63) ∷ step_of (standing 0 256 64) ∷ step_of (standing 1 256 64) ∷ []
 
 by_computing : (map quick table ≡ map promised table) × (orders ≡ 0 ∷ 16 ∷ 13 ∷ 13 ∷ 0 ∷ [])
-unfolding bytes_of record_at between reaches adding back reached_first reached_next asked put take_out merge within lower upper depth_text row_line decimal stations_to stations_text route_line base_line set_line list_refusal check replaceable action_word first_line last_line taken stepped started record_step run_refusal count_of file_refusal reached onward followed blocked lacks cleared lost probe replaced beside step ite has insert remove union cut below from size least drop_least upper_half lower_half split_key ones_in count_trailing_zeros
+unfolding bytes_of record_at between reaches adding back reached_first reached_next asked put take_out merge within lower upper depth_text
+    row_line decimal stations_to stations_text route_line base_line set_line list_refusal check replaceable action_word first_line last_line
+    taken stepped started record_step run_refusal count_of file_refusal reached onward followed blocked lacks cleared lost probe replaced beside
+    step ite has insert remove union cut below from size least drop_least upper_half lower_half split_key ones_in count_trailing_zeros
 by_computing = (refl, refl)
 
 pub store_runs : (map outcome table ≡ map promised table) × (orders ≡ 0 ∷ 16 ∷ 13 ∷ 13 ∷ 0 ∷ [])

@@ -9,12 +9,12 @@ use borrow.Author.Tests.{eq-eqb, ne_eqb}
 use Rattle.container.specs.Choice.{upd}
 use Rattle.container.specs.Container.{insert, remove, union, upper_half, lower_half}
 use Rattle.container.specs.Depths.{container, put, take_out, merge, lower, upper}
-use Rattle.depths.specs.Rows.{Rows, changed, selected, full}
+use Rattle.depths.specs.Rows.{Rows, Holds, changed, selected, full}
 use Rattle.definitions.specs.Nodes.{Shapes, Stores, entry, over, new_base, new_route, new_range, with_kid, with_mark, with_valid, with_stage, committed}
 use Rattle.definitions.specs.Bench.{store}
 use Rattle.definitions.specs.Effects.{hang, content_of, forked}
 use Rattle.effects.specs.Writes.{effect_of}
-use Rattle.effects.specs.Used.{used_after, base_shape, range_shape, set_of, fork_shapes, Hung, depths_of, deepened, Applied}
+use Rattle.effects.specs.Used.{used_after, base_shape, range_shape, set_of, fork_shapes, Hung, depths_of, within, deepened, Applied}
 use Rattle.effects.specs.declared.Write.{Write}
 use Rattle.effects.specs.declared.Write.TheVariants.{Quiet, Mark, Settle, Invalid, Swing, Base, Fork, Commit}
 use Rattle.definitions.specs.declared.Node.{Node}
@@ -84,16 +84,19 @@ fork_made t d x l r k y =
     let t₂ : Shapes = upd t₁ l (base_shape Normal (Some x) (lower_half (t y).container) 0) in
     let d₁ : Rows = upd d x (d y) in
     let d₂ : Rows = upd d₁ l (d y) in
-    full_new t₂ d₂ r (base_shape Normal (Some x) (upper_half (t y).container) 0) (d y) ∙ rw (full_new t₁ d₁ l (base_shape Normal (Some x) (lower_half (t y).container) 0) (d y), full_new t d x (new_route k l r) (d y))
+    full_new t₂ d₂ r (base_shape Normal (Some x) (upper_half (t y).container) 0) (d y)
+    ∙ rw (full_new t₁ d₁ l (base_shape Normal (Some x) (lower_half (t y).container) 0) (d y), full_new t d x (new_route k l r) (d y))
 
 -- ---- the union of the containers of a and b
 union_made : (t : Shapes) (d : Rows) (x : ℕ) (p : Option ℕ) (a b : ℕ)
-    → full (upd t x (base_shape Neighbour p (union (t a).container (t b).container) a)) (upd d x (selected (t a).container (d a) (d b))) ≡ upd (full t d) x (new_base Neighbour p (merge (full t d a).container (full t d b).container) a)
+    → full (upd t x (base_shape Neighbour p (union (t a).container (t b).container) a)) (upd d x (selected (t a).container (d a) (d b))) ≡ upd (full t d) x
+    (new_base Neighbour p (merge (full t d a).container (full t d b).container) a)
 unfolding merge
 union_made t d x p a b = full_new t d x _ _
 
 -- ---- a range base with the container of node y
-range_made : (t : Shapes) (d : Rows) (x : ℕ) (p : Option ℕ) (y l h k : ℕ) → full (upd t x (range_shape p (t y).container l h k)) (upd d x (d y)) ≡ upd (full t d) x (new_range p (full t d y).container l h k)
+range_made : (t : Shapes) (d : Rows) (x : ℕ) (p : Option ℕ) (y l h k : ℕ)
+    → full (upd t x (range_shape p (t y).container l h k)) (upd d x (d y)) ≡ upd (full t d) x (new_range p (full t d y).container l h k)
 range_made t d x p y l h k = full_new t d x _ _
 
 -- ---- the numbers used after a write that makes nodes
@@ -124,7 +127,8 @@ module _ (t : Shapes) (o u : ℕ) (k : Stores) (j : ℕ) {e : Write} where
   pub apply_swing : {t' : Shapes} {y : ℕ} (v : Spot) (x : ℕ) → e ≡ Swing v x → Hung t o v x t' y → Applied t o u k j (effect_of e) t' y k
   apply_swing v x q h = record { stored = λ d z'. rw q (h d u k j z') }
 
-  pub apply_base : {t₁ t' : Shapes} {y w : ℕ} (v : Spot) (x : ℕ) (i : Kind) (p : Option ℕ) (c : Content) (m : ℕ) → e ≡ Base v x i p c m → w ≡ set_of c t → t₁ ≡ upd t x (base_shape i p w m) → Hung t₁ o v x t' y → Applied t o u k j (effect_of e) t' y k
+  pub apply_base : {t₁ t' : Shapes} {y w : ℕ} (v : Spot) (x : ℕ) (i : Kind) (p : Option ℕ) (c : Content) (m : ℕ) → e ≡ Base v x i p c m → w ≡ set_of c t
+      → t₁ ≡ upd t x (base_shape i p w m) → Hung t₁ o v x t' y → Applied t o u k j (effect_of e) t' y k
   apply_base {t₁} {t'} {y} {w} v x i p c m q f h g = record {
     stored = λ d z'. rw q (
         g (upd d x (depths_of c d)) (x + 1) k j z'
@@ -132,7 +136,8 @@ module _ (t : Shapes) (o u : ℕ) (k : Stores) (j : ℕ) {e : Write} where
         );
   }
 
-  pub apply_fork : {t₁ t' : Shapes} {y : ℕ} {n : Node} (v : Spot) (x l r i z : ℕ) → e ≡ Fork v x l r i z → n ≡ t z → t₁ ≡ fork_shapes x l r i n.container t → Hung t₁ o v x t' y → Applied t o u k j (effect_of e) t' y k
+  pub apply_fork : {t₁ t' : Shapes} {y : ℕ} {n : Node} (v : Spot) (x l r i z : ℕ) → e ≡ Fork v x l r i z → n ≡ t z → t₁ ≡ fork_shapes x l r i n.container t → Hung t₁ o v x t' y
+      → Applied t o u k j (effect_of e) t' y k
   apply_fork {t₁} {t'} {y} {n} v x l r i z q f h g = record {
     stored = λ d z'. rw q (
         g (upd (upd (upd d x (d z)) l (d z)) r (d z)) (x + 3) k j z'
@@ -155,7 +160,8 @@ module _ (t : Shapes) (o u : ℕ) (k : Stores) (j : ℕ) {e : Write} where
 
 -- ---- a new range base, with the container c of node z
 module _ (t : Shapes) (o u : ℕ) (k : Stores) (j : ℕ) where
-  pub apply_ask : {t₁ t' : Shapes} {y c : ℕ} (v : Spot) (x : ℕ) (p : Option ℕ) (z l h i : ℕ) (new : Bool) → c ≡ (t z).container → t₁ ≡ upd t x (range_shape p c l h i) → Hung t₁ o v x t' y → Applied t o u k j (Ask v x p z l h i new) t' y k
+  pub apply_ask : {t₁ t' : Shapes} {y c : ℕ} (v : Spot) (x : ℕ) (p : Option ℕ) (z l h i : ℕ) (new : Bool) → c ≡ (t z).container → t₁ ≡ upd t x (range_shape p c l h i)
+      → Hung t₁ o v x t' y → Applied t o u k j (Ask v x p z l h i new) t' y k
   apply_ask {t₁} {t'} {y} {c} v x p z l h i new f g r = record {
     stored = λ d z'.
         r (upd d x (d z)) (x + 1) k (cond new (i + 1) j) z'
@@ -166,18 +172,19 @@ module _ (t : Shapes) (o u : ℕ) (k : Stores) (j : ℕ) where
 pub shown_fresh : (new : Bool) (k j : ℕ) → new ≡ true → k + 1 ≡ cond new (k + 1) j
 shown_fresh new k j n = rw n
 
--- ---- the depths of a new base: d₁ are those between
-module _ (d : Rows) (x : ℕ) {c : Content} {d' : Rows} where
-  pub lay_same : (y : ℕ) → c ≡ Of y → d' ≡ upd d x (d y) → d' ≡ upd d x (depths_of c d)
-  lay_same y q f = rw q f
+-- ---- the depths of a new base, where n numbers hold them: d₁ are those between
+module _ (d : Rows) (x n : ℕ) {c : Content} {d' : Rows} where
+  pub lay_same : (y : ℕ) → c ≡ Of y → (Holds n (x + 1) → d' ≡ upd d x (d y)) → Holds n (x + 1) → d' ≡ upd d x (depths_of c d)
+  lay_same y q f h = rw q (f h)
 
-  pub lay_with : {d₁ : Rows} (y s v : ℕ) → c ≡ With y s v → d₁ ≡ upd d x (d y) → d' ≡ upd d₁ x (changed (d₁ x) s v) → d' ≡ upd d x (depths_of c d)
-  lay_with y s v q f g = rw q (g ∙ rw (f, upd_at d x (d y)) (upd_again d x (d y) (changed (d y) s v)))
+  pub lay_with : {d₁ : Rows} {m : ℕ} (y s v : ℕ) → c ≡ With y s v → m ≡ n → (Holds n (x + 1) → d₁ ≡ upd d x (d y))
+      → (Holds m (x + 1) → d' ≡ upd d₁ x (changed (d₁ x) s v)) → Holds n (x + 1) → d' ≡ upd d x (depths_of c d)
+  lay_with y s v q e f g h = rw q (g (rw e h) ∙ rw (f h, upd_at d x (d y)) (upd_again d x (d y) (changed (d y) s v)))
 
-  pub lay_without : (y s : ℕ) → c ≡ Without y s → d' ≡ upd d x (d y) → d' ≡ upd d x (depths_of c d)
-  lay_without y s q f = rw q f
+  pub lay_without : (y s : ℕ) → c ≡ Without y s → (Holds n (x + 1) → d' ≡ upd d x (d y)) → Holds n (x + 1) → d' ≡ upd d x (depths_of c d)
+  lay_without y s q f h = rw q (f h)
 
--- ---- on the depths: d₁ and d₂ are those between, d' those after it
+-- ---- on the depths, where n numbers hold those of the new nodes: d₁ and d₂ are those between, d' those after it
 module _ (t : Shapes) (d : Rows) {e : Write} where
   pub deepen_quiet : e ≡ Quiet → d ≡ deepened (effect_of e) t d
   deepen_quiet q = rw q
@@ -194,17 +201,25 @@ module _ (t : Shapes) (d : Rows) {e : Write} where
   pub deepen_swing : (v : Spot) (x : ℕ) → e ≡ Swing v x → d ≡ deepened (effect_of e) t d
   deepen_swing v x q = rw q
 
-  pub deepen_base : {d' : Rows} (v : Spot) (x : ℕ) (k : Kind) (p : Option ℕ) (c : Content) (m : ℕ) → e ≡ Base v x k p c m → d' ≡ upd d x (depths_of c d) → d' ≡ deepened (effect_of e) t d
-  deepen_base v x k p c m q f = rw q f
+  module _ (n : ℕ) where
+    pub deepen_base : {d' : Rows} (v : Spot) (x : ℕ) (k : Kind) (p : Option ℕ) (c : Content) (m : ℕ) → e ≡ Base v x k p c m → (Holds n (x + 1) → d' ≡ upd d x (depths_of c d))
+        → within (effect_of e) n → d' ≡ deepened (effect_of e) t d
+    deepen_base v x k p c m q f h = rw q (f (rw q at h))
 
-  pub deepen_fork : {d₁ d₂ d' : Rows} (v : Spot) (x l r k y : ℕ) → e ≡ Fork v x l r k y → d₁ ≡ upd d x (d y) → d₂ ≡ upd d₁ l (d₁ y) → d' ≡ upd d₂ r (d₂ y) → d' ≡ deepened (effect_of e) t d
-  deepen_fork {d₁} {d₂} {d'} v x l r k y q f₁ f₂ f₃ =
-      let h₁ : d₁ y ≡ d y = rw f₁ (upd_own d x y) in
-      let h₂ : d₂ y ≡ d y = rw f₂ (upd_own d₁ l y ∙ h₁) in
-      rw q (f₃ ∙ rw (h₂, f₂, h₁, f₁))
+    pub deepen_fork : {d₁ d₂ d' : Rows} {n₁ n₂ : ℕ} (v : Spot) (x l r k y : ℕ) → e ≡ Fork v x l r k y → n₁ ≡ n → n₂ ≡ n
+        → (Holds n (x + 1) → d₁ ≡ upd d x (d y)) → (Holds n₁ (l + 1) → d₂ ≡ upd d₁ l (d₁ y)) → (Holds n₂ (r + 1) → d' ≡ upd d₂ r (d₂ y)) → within (effect_of e) n → d' ≡ deepened (effect_of e) t d
+    deepen_fork {d₁} {d₂} {d'} {n₁} {n₂} v x l r k y q e₁ e₂ g₁ g₂ g₃ h =
+        let i : Holds n (x + 1) × (Holds n (l + 1) × Holds n (r + 1)) = rw q at h in
+        let f₁ : d₁ ≡ upd d x (d y) = g₁ i.0 in
+        let f₂ : d₂ ≡ upd d₁ l (d₁ y) = g₂ (rw e₁ i.1.0) in
+        let f₃ : d' ≡ upd d₂ r (d₂ y) = g₃ (rw e₂ i.1.1) in
+        let h₁ : d₁ y ≡ d y = rw f₁ (upd_own d x y) in
+        let h₂ : d₂ y ≡ d y = rw f₂ (upd_own d₁ l y ∙ h₁) in
+        rw q (f₃ ∙ rw (h₂, f₂, h₁, f₁))
 
-  pub deepen_commit : {d' : Rows} {a : Node} (m x : ℕ) (p : Option ℕ) (b : ℕ) (g : Option ℕ) (w : ℕ) → e ≡ Commit m x p b g w → a ≡ t m → d' ≡ upd d x (selected a.container (d m) (d b)) → d' ≡ deepened (effect_of e) t d
-  deepen_commit m x p b g w q i f = rw q (f ∙ rw i)
+    pub deepen_commit : {d' : Rows} {a : Node} (m x : ℕ) (p : Option ℕ) (b : ℕ) (g : Option ℕ) (w : ℕ) → e ≡ Commit m x p b g w → a ≡ t m
+        → (Holds n (x + 1) → d' ≡ upd d x (selected a.container (d m) (d b))) → within (effect_of e) n → d' ≡ deepened (effect_of e) t d
+    deepen_commit m x p b g w q i f h = rw q (f (rw q at h) ∙ rw i)
 
 pub ruleset hang_cases = (hang_root, hang_under)
 

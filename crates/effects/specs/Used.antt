@@ -4,7 +4,7 @@ use Rattle.std.specs.Prelude.{ℕ, ◌+◌, ◌≡◌, Bool, cond, Option, Some}
 use Rattle.container.specs.Choice.{upd}
 use Rattle.container.specs.Container.{insert, remove, upper_half, lower_half}
 use Rattle.container.specs.Depths.{container}
-use Rattle.depths.specs.Rows.{Rows, full, changed, selected}
+use Rattle.depths.specs.Rows.{Rows, Holds, full, changed, selected}
 use Rattle.definitions.specs.Nodes.{Shapes, Stores, shape, new_base, new_route, new_range}
 use Rattle.definitions.specs.Bench.{store}
 use Rattle.definitions.specs.Effects.{hang, perform}
@@ -79,6 +79,21 @@ abbrev pub depths_of : Content → Rows → ℕ → ℕ
 depths_of (Of y) d = d y
 depths_of (With y s v) d = changed (d y) s v
 depths_of (Without y s) d = d y
+
+-- n numbers hold the depths of the nodes that an effect makes
+abbrev pub within : Effect → ℕ → Type 0
+within Quiet n = Unit {0}
+within (Mark r l) n = Unit {0}
+within (Settle m v) n = Unit {0}
+within (Invalid r) n = Unit {0}
+within (Swing v x) n = Unit {0}
+within Raise n = Unit {0}
+within Lower n = Unit {0}
+within (Base v x k p c m) n = Holds n (x + 1)
+within (Fork v x l r k y) n = Holds n (x + 1) × (Holds n (l + 1) × Holds n (r + 1))
+within (Commit m x p b g o) n = Holds n (x + 1)
+within (Ask v x p y l h k new) n = Holds n (x + 1)
+within (Fill k c) n = Unit {0}
 
 -- after an effect: t is the table before it
 abbrev pub deepened : Effect → Shapes → Rows → Rows

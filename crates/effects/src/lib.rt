@@ -2,16 +2,15 @@
 // writes is apart, in functions of its own, so that the other steps do not pay for it.
 #![tactic(auto)]
 
-ghost use Rattle.std.specs.Prelude.{◌≡◌, cond, ◌+◌};
+ghost use Rattle.std.specs.Prelude.{◌≡◌, cond, ◌+◌, length};
 ghost use Rattle.container.specs.Choice.{upd};
 ghost use Rattle.nodes.specs.Table.{table};
-ghost use Rattle.depths.specs.Rows.{rows};
+ghost use Rattle.depths.specs.Rows.{rows, Holds};
 ghost use Rattle.definitions.specs.Nodes.{new_route};
 ghost use Rattle.effects.specs.Writes.{effect_of};
-ghost use Rattle.effects.specs.Used.{used_after, base_shape, range_shape, set_of, fork_shapes, Hung, depths_of, deepened, Applies, Asks};
+ghost use Rattle.effects.specs.Used.{used_after, base_shape, range_shape, set_of, fork_shapes, Hung, depths_of, within, deepened, Applies, Asks};
 
 use definitions::{Content, Kind, Node, Nodes, Spot, Stage};
-use depths::Depths;
 
 // What a step at a place below 60 writes: an effect that makes no range base and sets no result. It stands beside definitions' `Effect`
 // because that holds a result, a word, and is wider in every decision: an `Effect` in place of this was measured to cost 27
@@ -224,10 +223,10 @@ pub fn apply(nodes: &mut Nodes, root: u8, used: u16, w: Write) -> u8
     }
 }
 
-// The depths of a new base.
+// The depths of a new base, where they are lent.
 #[tactic(auto, using(crate::proofs::Laws::lay_cases))]
-fn lay(depths: &mut Depths, at: u8, content: Content)
-    ensures { rows depths.new ≡ upd (rows depths.old) at (depths_of content (rows depths.old)) }
+fn lay(depths: &mut [u16], at: u8, content: Content)
+    ensures { Holds (length depths.old) (at + 1) → rows depths.new ≡ upd (rows depths.old) at (depths_of content (rows depths.old)) }
 {
     match content {
         Content::Of(y) | Content::Without(y, _) => depths::copy(depths, y, at),
@@ -238,10 +237,10 @@ fn lay(depths: &mut Depths, at: u8, content: Content)
     }
 }
 
-// It is carried out on the depths; the nodes are those before it.
+// It is carried out on the depths, where those of the new nodes are lent; the nodes are those before it.
 #[tactic(auto, using(crate::proofs::Laws::deepen_cases))]
-pub fn deepen(nodes: &Nodes, depths: &mut Depths, w: Write)
-    ensures { rows depths.new ≡ deepened (effect_of w) (table nodes.now) (rows depths.old) }
+pub fn deepen(nodes: &Nodes, depths: &mut [u16], w: Write)
+    ensures { within (effect_of w) (length depths.old) → rows depths.new ≡ deepened (effect_of w) (table nodes.now) (rows depths.old) }
 {
     match w {
         Write::Base { at, content, .. } => lay(depths, at, content),
@@ -300,9 +299,9 @@ pub fn shown_after(shown: u16, store: u8, fresh: bool) -> u16
     if fresh { store as u16 + 1 } else { shown }
 }
 
-// Its depths are those of the base that it is put for: `depths::copy` in a range base's words, the new node first, as in `ask`.
-pub fn deepen_range(depths: &mut Depths, at: u8, old: u8)
-    ensures { rows depths.new ≡ upd (rows depths.old) at (rows depths.old old) }
+// Its depths, where they are lent, are those of the base that it is put for: `depths::copy` in a range base's words, the new node first, as in `ask`.
+pub fn deepen_range(depths: &mut [u16], at: u8, old: u8)
+    ensures { Holds (length depths.old) (at + 1) → rows depths.new ≡ upd (rows depths.old) at (rows depths.old old) }
 {
     depths::copy(depths, old, at);
 }

@@ -25,7 +25,8 @@ unfolding between
 within_all l h {c} m e z = lower_past c (suc h) m (omega arith) ∙ ap (below (suc h)) e
 
 -- a frame waits below it: d frames, of which all but the top one, e of thread v, are left; c is the result
-pub end_back : (h h' : ℕ → Frame) (t d v e : ℕ) (a : Action) (l u c : ℕ) (k : Option ℕ) {p : ℕ} → k ≡ Some c → (d ≡ 0 → ⊥) → (d ≡ 1 → ⊥) → v ≡ t → e ≡ d - 1 → Backs h h' v e p → Takes h h' t d (Ok (Back p)) (Stands 82 a l u) (end_turn k)
+pub end_back : (h h' : ℕ → Frame) (t d v e : ℕ) (a : Action) (l u c : ℕ) (k : Option ℕ) {p : ℕ} → k ≡ Some c → (d ≡ 0 → ⊥) → (d ≡ 1 → ⊥) → v ≡ t → e ≡ d - 1 → Backs h h' v e p
+    → Takes h h' t d (Ok (Back p)) (Stands 82 a l u) (end_turn k)
 unfolding end_turn
 end_back h h' t zero v e a l u c k q y z o i b = absurd (y refl)
 end_back h h' t (suc zero) v e a l u c k q y z o i b = absurd (z refl)

@@ -75,7 +75,8 @@ pub top_some : (t i : ℕ) {r : Option ℕ} → r ≡ top_row t 0 → r ≡ Some
 top_some t i e z = absurd (cc)
 
 -- ---- back: k is the frame on top before it, k' after it
-back_top : (l : List Kept) (t d : ℕ) (k k' : Kept) {p : ℕ} → length l ≡ 16 → t < 4 → d < 4 → Leads (held_frame (get_or l (t * 4 + d) k)) (held_frame k') p (λ e f fs th. back_in (f ∷ fs) e th) → Backs (held l) (held (set l (t * 4 + d) k')) t (suc d) p
+back_top : (l : List Kept) (t d : ℕ) (k k' : Kept) {p : ℕ} → length l ≡ 16 → t < 4 → d < 4
+    → Leads (held_frame (get_or l (t * 4 + d) k)) (held_frame k') p (λ e f fs th. back_in (f ∷ fs) e th) → Backs (held l) (held (set l (t * 4 + d) k')) t (suc d) p
 back_top l t d k k' {p} n i m q = record {
   turn = λ e th. ap (λ (fs : List Frame). Moves (to_frames p fs th) e) (frames_top (held l) _ t d (held_frame k') w)
       ∙ (q.turn e (frames_of (held l) t d) th ∙ ap (λ (f : Frame). back_in (f ∷ frames_of (held l) t d) e th) (read_frame l (t * 4 + d) k (omega arith)));
@@ -105,7 +106,8 @@ module _ (p : ℕ) (s : Sight) (a : Action) (b u : ℕ) {r : Ending} where
       → Takes (held l) (held (set l (t * 4 + d) k')) t (suc d) r (Stands p a b u) (step (place_of p) s)
   unfolding step_at
   top_acts l t d k k' n i m q = record {
-    turn = λ th o w. ap₂ (λ (x y : List Frame). told_in r x y th) (frames_top (held l) _ t d (held_frame k') v) (ap (frames_of (held (set l (t * 4 + d) k')) t) e ∙ frames_below (held l) _ t d (held_frame k') v)
+    turn = λ th o w. ap₂ (λ (x y : List Frame). told_in r x y th) (frames_top (held l) _ t d (held_frame k') v)
+        (ap (frames_of (held (set l (t * 4 + d) k')) t) e ∙ frames_below (held l) _ t d (held_frame k') v)
         ∙ (q.turn (frames_of (held l) t d) th ∙ (ap (λ (f : Frame). step (place_of p) s (to_frames p (f ∷ frames_of (held l) t d) th)) g ∙ ap (step (place_of p) s) (own (held l) t d th o w)));
     others = frames_beside (held l) _ t d (held_frame k') v m;
     same = λ z. v ∙ (ap (upd (held l) (t * 4 + d)) (q.same z ∙ g) ∙ upd_same (held l) (t * 4 + d));
@@ -120,13 +122,15 @@ module _ (p : ℕ) (s : Sight) (a : Action) (b u : ℕ) {r : Ending} where
       e : suc d - 1 ≡ d
       e = omega arith
 
-  pub takes_top : (l : List Kept) (t d i : ℕ) (k k' : Kept) {v : Option ℕ} → length l ≡ 16 → t < 4 → d ≤ 4 → v ≡ top_row t d → v ≡ Some i → Acts (held_frame (get_or l i k)) (held_frame k') r (step_at p s)
+  pub takes_top : (l : List Kept) (t d i : ℕ) (k k' : Kept) {v : Option ℕ} → length l ≡ 16 → t < 4 → d ≤ 4 → v ≡ top_row t d → v ≡ Some i
+      → Acts (held_frame (get_or l i k)) (held_frame k') r (step_at p s)
       → Takes (held l) (held (set l i k')) t d r (Stands p a b u) (step (place_of p) s)
   takes_top l t zero i k k' n m o e z q = absurd (top_some t i e z)
   takes_top l t (suc d) i k k' n m o e z q = let y : i ≡ t * 4 + d = top_at t d i e z in rw y (top_acts l t d k k' n m (omega arith) (rw y at q))
 
 -- ---- room on the stack of the frame on top
-pub top_room : (l : List Kept) (t d i p : ℕ) (k : Kept) {v : Option ℕ} → length l ≡ 16 → t < 4 → d ≤ 4 → v ≡ top_row t d → v ≡ Some i → Room p (frames_of (held l) t d) → (p ≡ 60 → ⊥) → p < 81 → HasRoom (held_frame (get_or l i k))
+pub top_room : (l : List Kept) (t d i p : ℕ) (k : Kept) {v : Option ℕ} → length l ≡ 16 → t < 4 → d ≤ 4 → v ≡ top_row t d → v ≡ Some i → Room p (frames_of (held l) t d)
+    → (p ≡ 60 → ⊥) → p < 81 → HasRoom (held_frame (get_or l i k))
 top_room l t zero i p k n m o e z r f h = absurd (top_some t i e z)
 top_room l t (suc d) i p k n m o e z r f h =
     let y : i ≡ t * 4 + d = top_at t d i e z in

@@ -50,7 +50,8 @@ module _ (f : Frame) where
     next_more z i y = record { turn = λ e fs th. rw k (next_two f e fs th f.stack (sym q ∙ z) (λ w. some_left i y (k ∙ w))) }
 
   -- ---- back, where there is a backup
-  pub back_next : {g : Frame} {p : ℕ} {b : Bool} → f.begun ≡ true → (IsTrue b ↔ (f.backup ≡ [])) → b ≡ false → Leads (with_stack f.backup f) g p (λ e f fs th. next_from f.stack e f fs th) → Leads f g p (λ e f fs th. back_in (f ∷ fs) e th)
+  pub back_next : {g : Frame} {p : ℕ} {b : Bool} → f.begun ≡ true → (IsTrue b ↔ (f.backup ≡ [])) → b ≡ false
+      → Leads (with_stack f.backup f) g p (λ e f fs th. next_from f.stack e f fs th) → Leads f g p (λ e f fs th. back_in (f ∷ fs) e th)
   unfolding ite
   back_next y i z l = record { turn = λ e fs th. l.turn e fs th ∙ (next_any f e fs th f.backup f.backup (some_left i z) ∙ rw y refl) }
 

@@ -31,7 +31,8 @@ starts_among : {file : List ℕ} {records rows : List (List ℕ)} (t : Told file
 unfolding starts_to start_number ite
 starts_among t zero h = refl
 starts_among {file} {records} t (suc k) h =
-    let more : sum_by start_of (take (suc k) records) ≡ sum_by start_of (take k records ++ get_or records k [] ∷ []) = ap (λ n. sum_by start_of (take n records)) (sym (add-one k)) ∙ ap (sum_by start_of) (take_more records k [] h) in
+    let more : sum_by start_of (take (suc k) records) ≡ sum_by start_of (take k records ++ get_or records k [] ∷ []) =
+    ap (λ n. sum_by start_of (take n records)) (sym (add-one k)) ∙ ap (sum_by start_of) (take_more records k [] h) in
     let one : start_of (get_or records k []) ≡ start_number (first_byte file k) = ap (λ x. cond (not (eqb (x % 16) 0)) 1 0) (t.first k h) ∙ by (eqb (first_byte file k % 16) 0) in
     omega (arith, more, sum_by-append start_of (take k records) (get_or records k [] ∷ []), one, starts_among t k (omega arith))
   where
@@ -56,8 +57,10 @@ starts_few file (suc k) = by (eqb (first_byte file k % 16) 0) (starts_to file k)
 ahead_past : (file : List ℕ) (t j i k : ℕ) → ((n : ℕ) → n < j → first_byte file (k + n) / 16 ≡ t → ⊥) → ahead file k (j + i) t ≡ ahead file (k + j) i t
 ahead_past file t zero i k h = ap₂ (λ m n. ahead file n m t) (let z : 0 + i ≡ i = omega arith in z) (let z : k ≡ k + 0 = omega arith in z)
 ahead_past file t (suc j) i k h =
-    ap (λ m. ahead file k m t) (let z : suc j + i ≡ suc (j + i) = omega arith in z) ∙ ahead_other file k (j + i) t (λ e. h 0 (omega arith) (ap (λ n. first_byte file n / 16) (let z : k + 0 ≡ k = omega arith in z) ∙ e))
-    ∙ ahead_past file t j i (suc k) (λ n l e. h (suc n) (omega arith) (ap (λ m. first_byte file m / 16) (let z : k + suc n ≡ suc k + n = omega arith in z) ∙ e)) ∙ ap (λ n. ahead file n i t) (let z : suc k + j ≡ k + suc j = omega arith in z)
+    ap (λ m. ahead file k m t) (let z : suc j + i ≡ suc (j + i) = omega arith in z)
+    ∙ ahead_other file k (j + i) t (λ e. h 0 (omega arith) (ap (λ n. first_byte file n / 16) (let z : k + 0 ≡ k = omega arith in z) ∙ e))
+    ∙ ahead_past file t j i (suc k) (λ n l e. h (suc n) (omega arith) (ap (λ m. first_byte file m / 16) (let z : k + suc n ≡ suc k + n = omega arith in z) ∙ e))
+    ∙ ap (λ n. ahead file n i t) (let z : suc k + j ≡ k + suc j = omega arith in z)
 
 -- where the first of thread t's is sought among the records from `first` on, and then asked whether it is a step
 module _ {file : List ℕ} {records rows : List (List ℕ)} (told : Told file records rows) (t : ℕ) {first : ℕ} (h : first ≤ length records) where
@@ -68,16 +71,19 @@ module _ {file : List ℕ} {records rows : List (List ℕ)} (told : Told file re
   later_length = omega (arith, length-take (length records - first) (drop first records), length-drop first records)
 
   byte : (i : ℕ) → i < length later → get_or (get_or later i []) 0 0 ≡ first_byte file (first + i)
-  byte i l = ap (λ r. get_or r 0 0) (get_or-take (length records - first) (drop first records) i [] (omega (arith, later_length)) ∙ get_or-drop first records i []) ∙ told.first (first + i) (omega (arith, later_length))
+  byte i l = ap (λ r. get_or r 0 0) (get_or-take (length records - first) (drop first records) i [] (omega (arith, later_length)) ∙ get_or-drop first records i [])
+      ∙ told.first (first + i) (omega (arith, later_length))
 
   before : (n : ℕ) → n ≤ length later → AllWithin (λ x. get_or x 0 0 / 16 ≡ t → ⊥) later 0 n → (i : ℕ) → i < n → first_byte file (first + i) / 16 ≡ t → ⊥
   before n l a i j e = a i [] (omega arith) j (ap (λ v. v / 16) (byte i (omega arith)) ∙ e)
 
   pub ahead_found : (found : Option (Bor (List ℕ))) {v : Bool}
-      → MatchOption found (AllWithin (λ x. get_or x 0 0 / 16 ≡ t → ⊥) later 0 (length later)) (λ x. (get_or x.now 0 0 / 16 ≡ t) × (i : ℕ) × (i < length later) × HoldsAt (λ y. y ≡ x.now) later i × AllWithin (λ x. get_or x 0 0 / 16 ≡ t → ⊥) later 0 i)
+      → MatchOption found (AllWithin (λ x. get_or x 0 0 / 16 ≡ t → ⊥) later 0 (length later))
+      (λ x. (get_or x.now 0 0 / 16 ≡ t) × (i : ℕ) × (i < length later) × HoldsAt (λ y. y ≡ x.now) later i × AllWithin (λ x. get_or x 0 0 / 16 ≡ t → ⊥) later 0 i)
       → MatchOption found (v ≡ false) (λ x. v ≡ eqb (get_or x.now 0 0 % 16) 0) → v ≡ ahead file first (length records - first) t
   ahead_found None {v} a e =
-      e ∙ sym (ap (λ n. ahead file first n t) (let z : length records - first ≡ length later + 0 = omega (arith, later_length) in z) ∙ ahead_past file t (length later) 0 first (before (length later) (omega arith) a) ∙ ahead_none file (first + length later) t)
+      e ∙ sym (ap (λ n. ahead file first n t) (let z : length records - first ≡ length later + 0 = omega (arith, later_length) in z)
+      ∙ ahead_past file t (length later) 0 first (before (length later) (omega arith) a) ∙ ahead_none file (first + length later) t)
   ahead_found (Some x) {v} a e =
       let i : ℕ = a.1 in
       let at : get_or later i [] ≡ x.now = a.3 [] in
@@ -85,7 +91,8 @@ module _ {file : List ℕ} {records rows : List (List ℕ)} (told : Told file re
       let split : length records - first ≡ i + suc (length later - suc i) = omega (arith, later_length, a.2) in
       e
       ∙ sym
-      (ap (λ n. ahead file first n t) split ∙ ahead_past file t i (suc (length later - suc i)) first (before i (omega (arith, a.2)) a.4) ∙ ahead_own file (first + i) (length later - suc i) t (ap (λ v. v / 16) (sym own) ∙ a.0)
+      (ap (λ n. ahead file first n t) split ∙ ahead_past file t i (suc (length later - suc i)) first (before i (omega (arith, a.2)) a.4)
+      ∙ ahead_own file (first + i) (length later - suc i) t (ap (λ v. v / 16) (sym own) ∙ a.0)
       ∙ ap (λ v. eqb (v % 16) 0) (sym own))
 
 -- ---- the refusal of a file and a buffer

@@ -86,7 +86,8 @@ module _ (file : List ℕ) (records rows : List (List ℕ)) (told : Told file re
   next_row : (a : Answer) (i c : ℕ) → z.added ≡ row a i c → after file (suc k) ≡ advance_by file (after file k) t (carried z.bench (row a i c))
   next_row a i c e = z.next ∙ ap (λ w. advance_by file (after file k) t (carried z.bench w)) e
 
-  row_here : (a : Answer) (i c : ℕ) → z.added ≡ row a i c → RowAt (after file n).rows (after file k).finished t (action_number ((after file k).bench.threads t).action) ((after file k).bench.threads t).station (answer_number a)
+  row_here : (a : Answer) (i c : ℕ) → z.added ≡ row a i c
+      → RowAt (after file n).rows (after file k).finished t (action_number ((after file k).bench.threads t).action) ((after file k).bench.threads t).station (answer_number a)
   row_here a i c e = row_at file told.version k n z.bench a i c inside (next_row a i c e)
 
   row_counts : (a : Answer) (i c : ℕ) → z.added ≡ row a i c → (after file k).finished < f
@@ -110,7 +111,8 @@ module _ (file : List ℕ) (records rows : List (List ℕ)) (told : Told file re
   -- a step that goes on
   module _ (step : first_byte file k % 16 ≡ 0) where
     quiet_events : z.added ≡ no_row → events_to file (suc k) ≡ events_to file k
-    quiet_events e = events_on file told.version k z ∙ ap (λ l. events_to file k ++ l) (ap (λ v. event_of v (after file k).bench (rec file k) z.added) step ∙ ap (λ w. event_of 0 (after file k).bench (rec file k) w) e) ∙ append-nil (events_to file k)
+    quiet_events e = events_on file told.version k z ∙ ap (λ l. events_to file k ++ l)
+        (ap (λ v. event_of v (after file k).bench (rec file k) z.added) step ∙ ap (λ w. event_of 0 (after file k).bench (rec file k) w) e) ∙ append-nil (events_to file k)
 
     pub record Quiet : Type 0 where
       pub events : events_to file (suc k) ≡ events_to file k
@@ -191,14 +193,17 @@ pub page_none : (file : List ℕ) (p : Page) → p ≡ put_all p (bytes_of (even
 unfolding put_all
 page_none file p = ap (λ l. put_all p (bytes_of l)) (sym (events_none file))
 
-pub page_same : (file : List ℕ) (k : ℕ) (p : Page) {q : Page} → events_to file (suc k) ≡ events_to file k → q ≡ put_all p (bytes_of (events_to file k)) → q ≡ put_all p (bytes_of (events_to file (k + 1)))
+pub page_same : (file : List ℕ) (k : ℕ) (p : Page) {q : Page} → events_to file (suc k) ≡ events_to file k → q ≡ put_all p (bytes_of (events_to file k))
+    → q ≡ put_all p (bytes_of (events_to file (k + 1)))
 page_same file k p e h = rw (add-one, e) h
 
-pub page_more : (file : List ℕ) (k : ℕ) (p : Page) {q r : Page} (e : Event) → events_to file (suc k) ≡ events_to file k ++ e ∷ [] → q ≡ put_all p (bytes_of (events_to file k)) → r ≡ put_all q (e.thread ∷ e.action ∷ e.station ∷ e.mark ∷ [])
+pub page_more : (file : List ℕ) (k : ℕ) (p : Page) {q r : Page} (e : Event) → events_to file (suc k) ≡ events_to file k ++ e ∷ [] → q ≡ put_all p (bytes_of (events_to file k))
+    → r ≡ put_all q (e.thread ∷ e.action ∷ e.station ∷ e.mark ∷ [])
     → r ≡ put_all p (bytes_of (events_to file (k + 1)))
 page_more file k p e i h f = rw (add-one, i, bytes_append (events_to file k) (e ∷ [])) (joined p (bytes_of (events_to file k)) (e.thread ∷ e.action ∷ e.station ∷ e.mark ∷ []) h f)
 
-pub page_all : (file : List ℕ) → version file ≡ 1 → (done k : ℕ) (p : Page) {q : Page} → done ≡ (after file (count_of file)).done → k ≡ done → q ≡ put_all p (bytes_of (events_to file k)) → q ≡ put_all p (bytes_of (run_events file))
+pub page_all : (file : List ℕ) → version file ≡ 1 → (done k : ℕ) (p : Page) {q : Page} → done ≡ (after file (count_of file)).done → k ≡ done
+    → q ≡ put_all p (bytes_of (events_to file k)) → q ≡ put_all p (bytes_of (run_events file))
 page_all file one done k p d e h = h ∙ ap (λ l. put_all p (bytes_of l)) (ap (events_to file) (e ∙ d) ∙ events_then file one (count_of file))
 
 -- ---- the file has the records done, and there are few rows
@@ -235,7 +240,10 @@ not_off false e = absurd (true≢false e)
 
 module _ (file : List ℕ) (records rows : List (List ℕ)) (told : Told file records rows) (k : ℕ) (in-run : k < length records) {m : ℕ} {p q : Page} (h : Holds file k m p q) where
   pub on_start : {r : Page} → (first_byte file k % 16 ≡ 0 → ⊥) → r ≡ put_all q (first_byte file k / 16 ∷ first_byte file k % 16 ∷ second_byte file k ∷ 0 ∷ []) → Holds file (k + 1) m p r
-  on_start s e = record { rows = h.rows ∙ sym (start_finished file records rows told k in-run s) ∙ rw (add-one k); page = page_more file k p _ (start_events file records rows told k in-run s) h.page e }
+  on_start s e = record {
+    rows = h.rows ∙ sym (start_finished file records rows told k in-run s) ∙ rw (add-one k);
+    page = page_more file k p _ (start_events file records rows told k in-run s) h.page e;
+  }
 
   module _ (step : first_byte file k % 16 ≡ 0) where
     still : Quiet file records rows told k in-run step → Holds file (k + 1) m p q
@@ -261,7 +269,8 @@ module _ (file : List ℕ) (records rows : List (List ℕ)) (told : Told file re
         pub end_low : get_or (get_or rows m []) 3 0 < 255
         end_low = omega (arith, here.low, ap (λ i. get_or (get_or rows i []) 3 0) h.rows)
 
-        pub on_end : {r : Page} → r ≡ put_all q (get_or (get_or rows m []) 0 0 ∷ get_or (get_or rows m []) 1 0 ∷ get_or (get_or rows m []) 2 0 ∷ (get_or (get_or rows m []) 3 0 + 1) ∷ []) → Holds file (k + 1) (m + 1) p r
+        pub on_end : {r : Page} → r ≡ put_all q (get_or (get_or rows m []) 0 0 ∷ get_or (get_or rows m []) 1 0 ∷ get_or (get_or rows m []) 2 0 ∷ (get_or (get_or rows m []) 3 0 + 1) ∷ [])
+            → Holds file (k + 1) (m + 1) p r
         on_end g = record {
           rows = ap (λ i. i + 1) h.rows ∙ sym here.finished ∙ rw (add-one k);
           page = page_more file k p _ here.events h.page (rw h.rows at g);
@@ -299,7 +308,8 @@ module _ (file : List ℕ) (records rows : List (List ℕ)) (told : Told file re
         pub at_low : get_or (get_or rows m []) 3 0 < 255
         at_low = end_low file records rows told k in-run h stepped seen l (t ∙ ap (λ b. b / 16) same) (ap not e)
 
-        pub at_end : {r : Page} → r ≡ put_all q (get_or (get_or rows m []) 0 0 ∷ get_or (get_or rows m []) 1 0 ∷ get_or (get_or rows m []) 2 0 ∷ (get_or (get_or rows m []) 3 0 + 1) ∷ []) → Holds file (k + 1) (m + 1) p r
+        pub at_end : {r : Page} → r ≡ put_all q (get_or (get_or rows m []) 0 0 ∷ get_or (get_or rows m []) 1 0 ∷ get_or (get_or rows m []) 2 0 ∷ (get_or (get_or rows m []) 3 0 + 1) ∷ [])
+            → Holds file (k + 1) (m + 1) p r
         at_end = on_end file records rows told k in-run h stepped seen l (t ∙ ap (λ b. b / 16) same) (ap not e)
 
 -- ---- how many events
@@ -312,13 +322,15 @@ starts_start : (file : List ℕ) (k : ℕ) → first_byte file k % 16 ≢ 0 → 
 unfolding starts_to start_number ite
 starts_start file k e = rw (ne_eqb (first_byte file k % 16) 0 e) (omega arith)
 
-one_event : (file : List ℕ) (k : ℕ) (z : Turned file k) → length (event_of (first_byte file k % 16) (after file k).bench (rec file k) z.added) + (starts_to file k + (after file k).finished) ≡ starts_to file (suc k) + (after file (suc k)).finished
+one_event : (file : List ℕ) (k : ℕ) (z : Turned file k)
+    → length (event_of (first_byte file k % 16) (after file k).bench (rec file k) z.added) + (starts_to file k + (after file k).finished) ≡ starts_to file (suc k) + (after file (suc k)).finished
 one_event file k z = by (done_at file k z).deed
   where
     fin : (after file (suc k)).finished ≡ row_count z.added + (after file k).finished
     fin = ap (λ (p : Progress). p.finished) z.next
 
-    by : Deed file k z.added → length (event_of (first_byte file k % 16) (after file k).bench (rec file k) z.added) + (starts_to file k + (after file k).finished) ≡ starts_to file (suc k) + (after file (suc k)).finished
+    by : Deed file k z.added
+        → length (event_of (first_byte file k % 16) (after file k).bench (rec file k) z.added) + (starts_to file k + (after file k).finished) ≡ starts_to file (suc k) + (after file (suc k)).finished
     by (starts e s _) = rw (fin, e, starts_start file k s, start_event_lem (first_byte file k % 16) (after file k).bench (rec file k) no_row s) (omega arith)
     by (goes e s _ _) = rw (fin, e, starts_step file k s, s) (omega arith)
     by (ends a i c e s _ _) = rw (fin, e, starts_step file k s, s) (omega arith)
@@ -328,7 +340,13 @@ unfolding starts_to after
 count_to file one n zero h = ap length (events_none file)
 count_to file one n (suc k) h =
     let z = turned_at file one n k (omega arith) in
-    omega (arith, ap length (events_on file one k z), length-append (events_to file k) (event_of (first_byte file k % 16) (after file k).bench (rec file k) z.added), one_event file k z, count_to file one n k (omega arith))
+    omega (
+      arith,
+      ap length (events_on file one k z),
+      length-append (events_to file k) (event_of (first_byte file k % 16) (after file k).bench (rec file k) z.added),
+      one_event file k z,
+      count_to file one n k (omega arith),
+    )
 
 pub count_all : (file : List ℕ) → version file ≡ 1 → (n : ℕ) → length (events_to file n) ≡ starts_to file (after file n).done + (after file n).finished
 count_all file one n = ap length (sym (events_then file one n)) ∙ count_to file one n (after file n).done (omega arith) ∙ ap (λ v. starts_to file (after file n).done + v) (finished_then file one n)

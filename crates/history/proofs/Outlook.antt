@@ -69,7 +69,8 @@ pub record Done (file : List ℕ) (k : ℕ) (w : Row) : Type 0 where
   pub others : (t : ℕ) → first_byte file k / 16 ≢ t → is_idle ((after file (suc k)).bench.threads t) ≡ is_idle ((after file k).bench.threads t)
 
 pub done_at : (file : List ℕ) (k : ℕ) (z : Turned file k) → Done file k z.added
-done_at file k z = by z.added (subst (λ r. Did (after file k).bench (first_byte file k / 16) (second_byte file k) (first_byte file k % 16) r) z.step (did (after file k).bench 5 (first_byte file k) (second_byte file k) 0))
+done_at file k z = by z.added
+    (subst (λ r. Did (after file k).bench (first_byte file k / 16) (second_byte file k) (first_byte file k % 16) r) z.step (did (after file k).bench 5 (first_byte file k) (second_byte file k) 0))
   where
     u : ℕ
     u = first_byte file k / 16
@@ -127,7 +128,8 @@ module _ (file : List ℕ) (one : version file ≡ 1) (n t j k : ℕ) (before : 
   inside = omega (arith, before, done_most file one n)
 
   -- the row that another thread's record adds is not thread t's
-  past : first_byte file k / 16 ≢ t → (w : Row) → after file (suc k) ≡ advance_by file (after file k) (first_byte file k / 16) (carried z.bench w) → (m : ℕ) → (after file k).finished ≤ m → m < (after file n).finished
+  past : first_byte file k / 16 ≢ t → (w : Row) → after file (suc k) ≡ advance_by file (after file k) (first_byte file k / 16) (carried z.bench w) → (m : ℕ)
+      → (after file k).finished ≤ m → m < (after file n).finished
       → ((after file (suc k)).finished ≤ m → m < (after file n).finished → get_or (after file n).rows (4 * m) 0 ≢ t) → get_or (after file n).rows (4 * m) 0 ≢ t
   past q no_row x m lo hi ih = ih (omega (arith, ap (λ (p : Progress). p.finished) x)) hi
   past q (row a e c) x m lo hi ih = elim (ℕ_discrete m (after file k).finished) [
@@ -147,6 +149,7 @@ module _ (file : List ℕ) (one : version file ≡ 1) (n t j k : ℕ) (before : 
 pub outlook : (file : List ℕ) → version file ≡ 1 → (n t j k : ℕ) → k + j ≡ (after file n).done → Outlook file n k j t
 outlook file one n t zero k e = record {
   on = λ q. absurd (true≢false (sym q ∙ ahead_none file k t));
-  off = λ _ _ m lo hi. let same : (after file k).finished ≡ (after file n).finished = ap (λ i. (after file i).finished) (let q : k ≡ (after file n).done = omega arith in q) ∙ finished_then file one n in absurd (omega (arith, same));
+  off = λ _ _ m lo hi. let same : (after file k).finished ≡ (after file n).finished =
+      ap (λ i. (after file i).finished) (let q : k ≡ (after file n).done = omega arith in q) ∙ finished_then file one n in absurd (omega (arith, same));
 }
 outlook file one n t (suc j) k e = one_back file one n t j k (omega arith) (outlook file one n t j (suc k) (omega arith))

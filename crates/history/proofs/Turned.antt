@@ -100,7 +100,8 @@ led : (file : List ℕ) → version file ≡ 1 → (n : ℕ) → Led file n
 unfolding after
 led file one zero = record { whole = λ _. refl; few = omega arith; turned = λ k l. absurd (omega arith); rows = refl; finished = refl; events = refl }
 led file one (suc n) = elim (ℕ_discrete (after file n).refusal 0) [
-  | yes z ↦ led_on file one n (led file one n) z (record_step (after file n).bench 5 (first_byte file n) (second_byte file n) 0) refl (did (after file n).bench 5 (first_byte file n) (second_byte file n) 0) (one_more_lem file one n ∙ advance_on file (after file n) (rec file n) z)
+  | yes z ↦ led_on file one n (led file one n) z (record_step (after file n).bench 5 (first_byte file n) (second_byte file n) 0) refl
+      (did (after file n).bench 5 (first_byte file n) (second_byte file n) 0) (one_more_lem file one n ∙ advance_on file (after file n) (rec file n) z)
   | no z ↦ led_off file one n (led file one n) z (one_more_lem file one n ∙ advance_off file (after file n) (rec file n) z)
 ]
 
@@ -120,8 +121,10 @@ pub events_then : (file : List ℕ) → version file ≡ 1 → (n : ℕ) → eve
 events_then file one n = (led file one n).events
 
 -- the events that record k adds
-pub events_on : (file : List ℕ) → version file ≡ 1 → (k : ℕ) (z : Turned file k) → events_to file (suc k) ≡ events_to file k ++ event_of (first_byte file k % 16) (after file k).bench (rec file k) z.added
-events_on file one k z = events_more file one k ∙ ap (λ l. events_to file k ++ l) (added_by (after file k) (rec file k) z.fine z.step ∙ append-nil (event_of (first_byte file k % 16) (after file k).bench (rec file k) z.added))
+pub events_on : (file : List ℕ) → version file ≡ 1 → (k : ℕ) (z : Turned file k)
+    → events_to file (suc k) ≡ events_to file k ++ event_of (first_byte file k % 16) (after file k).bench (rec file k) z.added
+events_on file one k z = events_more file one k
+    ∙ ap (λ l. events_to file k ++ l) (added_by (after file k) (rec file k) z.fine z.step ∙ append-nil (event_of (first_byte file k % 16) (after file k).bench (rec file k) z.added))
 
 -- ---- rows stay
 
@@ -156,7 +159,8 @@ unfolding ite
 rows_four file one k = rw (eq-eqb _ _ one) at (rows_length file k)
 
 pub finished_grows : (file : List ℕ) → version file ≡ 1 → (k n : ℕ) → k ≤ n → (after file k).finished ≤ (after file n).finished
-finished_grows file one k n h = subst (λ i. (after file k).finished ≤ (after file i).finished) sum (omega (arith, rows_four file one k, rows_four file one (k + (n - k)), ap length g.is, length-append (after file k).rows g.rest))
+finished_grows file one k n h = subst (λ i. (after file k).finished ≤ (after file i).finished) sum
+    (omega (arith, rows_four file one k, rows_four file one (k + (n - k)), ap length g.is, length-append (after file k).rows g.rest))
   where
     g : Grown (after file k).rows (after file (k + (n - k))).rows
     g = grown file one k (n - k)
@@ -186,10 +190,13 @@ row_bytes_lem : (file : List ℕ) → version file ≡ 1 → (t : ℕ) (th : Thr
 unfolding ite
 row_bytes_lem file one t th a d c = rw (eq-eqb _ _ one)
 
-pub row_at : (file : List ℕ) → version file ≡ 1 → (k n : ℕ) (b : Bench) (a : Answer) (d c : ℕ) → k < n → after file (suc k) ≡ advance_by file (after file k) (first_byte file k / 16) (carried b (row a d c))
-    → RowAt (after file n).rows (after file k).finished (first_byte file k / 16) (action_number ((after file k).bench.threads (first_byte file k / 16)).action) ((after file k).bench.threads (first_byte file k / 16)).station (answer_number a)
+pub row_at : (file : List ℕ) → version file ≡ 1 → (k n : ℕ) (b : Bench) (a : Answer) (d c : ℕ) → k < n
+    → after file (suc k) ≡ advance_by file (after file k) (first_byte file k / 16) (carried b (row a d c))
+    → RowAt (after file n).rows (after file k).finished (first_byte file k / 16) (action_number ((after file k).bench.threads (first_byte file k / 16)).action)
+    ((after file k).bench.threads (first_byte file k / 16)).station (answer_number a)
 row_at file one k n b a d c h e =
-    subst (λ l. RowAt l (after file k).finished t (action_number th.action) th.station (answer_number a)) (sym all) (row_in (after file k).rows g.rest (after file k).finished t (action_number th.action) th.station (answer_number a) (rows_four file one k))
+    subst (λ l. RowAt l (after file k).finished t (action_number th.action) th.station (answer_number a)) (sym all)
+    (row_in (after file k).rows g.rest (after file k).finished t (action_number th.action) th.station (answer_number a) (rows_four file one k))
   where
     t : ℕ
     t = first_byte file k / 16
@@ -204,4 +211,5 @@ row_at file one k n b a d c h e =
     sum = omega arith
 
     all : (after file n).rows ≡ (after file k).rows ++ t ∷ action_number th.action ∷ th.station ∷ answer_number a ∷ g.rest
-    all = ap (λ i. (after file i).rows) sum ∙ g.is ∙ ap (λ (p : Progress). p.rows ++ g.rest) e ∙ ap (λ l. ((after file k).rows ++ l) ++ g.rest) (row_bytes_lem file one t th a d c) ∙ append_assoc (after file k).rows (t ∷ action_number th.action ∷ th.station ∷ answer_number a ∷ []) g.rest
+    all = ap (λ i. (after file i).rows) sum ∙ g.is ∙ ap (λ (p : Progress). p.rows ++ g.rest) e ∙ ap (λ l. ((after file k).rows ++ l) ++ g.rest) (row_bytes_lem file one t th a d c)
+        ∙ append_assoc (after file k).rows (t ∷ action_number th.action ∷ th.station ∷ answer_number a ∷ []) g.rest

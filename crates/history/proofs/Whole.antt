@@ -81,7 +81,8 @@ module _ (file blank : List ℕ) (room : ℕ) {bad : ℕ} (e : bad ≡ written_r
   rows_few : {r : Report} {buffer : List ℕ} {n : ℕ} → r ≡ run_report file (length blank) → buffer ≡ run_buffer file blank → n ≡ length buffer / 4 → r.rows ≤ n
   rows_few p q e = omega (arith, ap (λ (x : Report). x.rows) (p ∙ report_is file blank fine), rows_room q, e)
 
-  pub rows_fit : {r : Report} {buffer : List ℕ} (fours : List (List ℕ)) → r ≡ run_report file (length blank) → buffer ≡ run_buffer file blank → length fours ≡ length buffer / 4 → r.rows ≡ length (take r.rows fours)
+  pub rows_fit : {r : Report} {buffer : List ℕ} (fours : List (List ℕ)) → r ≡ run_report file (length blank) → buffer ≡ run_buffer file blank → length fours ≡ length buffer / 4
+      → r.rows ≡ length (take r.rows fours)
   rows_fit {r} {buffer} fours p q e = sym (length-take-le r.rows fours (rows_few p q e))
 
   -- the records done and the rows, each cut out of what has more of them

@@ -14,7 +14,8 @@ use borrow.Author.Tests.{eq-eqb, ltb-true, ltb-false}
 use Rattle.container.specs.Choice.{ite}
 use Rattle.container.specs.Container.{has, insert}
 use Rattle.definitions.specs.Schedule.{count_of}
-use Rattle.definitions.specs.History.{Event, Events, events_of, Operations, Reading, begun, ended_by, noted, in_range, in_place, reading, all_in_place, unfinished, reading_of, form_refusal, events_refusal, history_refusal}
+use Rattle.definitions.specs.History.{Event, Events, events_of, Operations, Reading, begun, ended_by, noted, in_range, in_place}
+use Rattle.definitions.specs.History.{reading, all_in_place, unfinished, reading_of, form_refusal, events_refusal, history_refusal}
 use Rattle.definitions.specs.Judgement.{action_of, reply, padded, accepts, rejects, Decided, JudgementBy, Judgement}
 use Rattle.judge.specs.Search.{state, Fitting, Before, Sound, Entry, dead, alive}
 use Rattle.judge.specs.Standing.{Proper}
@@ -121,14 +122,18 @@ verdict_of R sound = go (entry_all R sound (2 ^ R.count) 0 (pow_pos R.count) (om
   where
     go : (v : Next) × Entry R 0 v → (r : Judged) × Decided R r
     go (v, dead h _) = (record { refusal = 0; accepted = false; operations = R.count; order = padded [] }, record { number = refl; operations = refl; verdict = rejects (no_order R h) refl refl })
-    go (v, alive l b _) = (record { refusal = 0; accepted = true; operations = R.count; order = padded l }, record { number = refl; operations = refl; verdict = accepts l (first_order R l b) refl refl })
+    go (v, alive l b _) = (
+      record { refusal = 0; accepted = true; operations = R.count; order = padded l },
+      record { number = refl; operations = refl; verdict = accepts l (first_order R l b) refl refl },
+    )
 
 -- a file that is not refused
 right_events : (E : Events) (n : ℕ) → events_refusal E n ≡ 0 → (all_in_place E n ≡ true) × ((reading E n).all.count ≤ 12)
 unfolding events_refusal ite
 right_events E n z = by (all_in_place E n) refl (ltb 12 (reading E n).all.count) refl z
   where
-    by : (a : Bool) → all_in_place E n ≡ a → (c : Bool) → ltb 12 (reading E n).all.count ≡ c → ◌≡◌ {A = ℕ} (ite a (ite c 22 (ite (unfinished (reading E n)) 23 0)) 21) 0 → (all_in_place E n ≡ true) × ((reading E n).all.count ≤ 12)
+    by : (a : Bool) → all_in_place E n ≡ a → (c : Bool) → ltb 12 (reading E n).all.count ≡ c → ◌≡◌ {A = ℕ} (ite a (ite c 22 (ite (unfinished (reading E n)) 23 0)) 21) 0
+        → (all_in_place E n ≡ true) × ((reading E n).all.count ≤ 12)
     by false a c q z = absurd (omega (arith, z))
     by true a true q z = absurd (omega (arith, z))
     by true a false q z = (a, omega (arith, ltb-false 12 (reading E n).all.count q))
@@ -145,5 +150,6 @@ pub report_exists : (file : List ℕ) → (r : Judged) × Judgement file r
 report_exists file = by (history_refusal file) refl
   where
     by : (k : ℕ) → history_refusal file ≡ k → (r : Judged) × JudgementBy k file r
-    by zero z = let q = right_events (events_of file) (count_of file) (right_file file z) in verdict_of (reading_of file).all (sound_of (reading_of file) (proper_all (events_of file) (count_of file) q.0) q.1)
+    by zero z = let q = right_events (events_of file) (count_of file) (right_file file z) in
+        verdict_of (reading_of file).all (sound_of (reading_of file) (proper_all (events_of file) (count_of file) q.0) q.1)
     by (suc k) z = (record { refusal = suc k; accepted = false; operations = 0; order = padded [] }, record { number = refl; nothing = (refl, refl, refl) })

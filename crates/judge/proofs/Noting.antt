@@ -83,7 +83,10 @@ proper_begun R e h p = record {
   begun = λ j q. omega (arith, p.begun j q);
   lower = λ i j. elim (i ==? R.all.count) [ yes q ↦ rw (q, eq-eqb R.all.count R.all.count refl) (p.begun j) | no q ↦ rw (ne_eqb i R.all.count q) (p.lower i j) ];
   stations = λ i. elim (i ==? R.all.count) [ yes q ↦ rw (q, eq-eqb R.all.count R.all.count refl) h | no q ↦ rw (ne_eqb i R.all.count q) (p.stations i) ];
-  busy = λ t k. elim (t ==? e.thread) [ yes q ↦ rw (q, eq-eqb e.thread e.thread refl) (λ z. let w : R.all.count ≡ k = cc in omega arith) | no q ↦ rw (ne_eqb t e.thread q) (λ z. omega (arith, p.busy t k z)) ];
+  busy = λ t k. elim (t ==? e.thread) [
+    | yes q ↦ rw (q, eq-eqb e.thread e.thread refl) (λ z. let w : R.all.count ≡ k = cc in omega arith)
+    | no q ↦ rw (ne_eqb t e.thread q) (λ z. omega (arith, p.busy t k z))
+  ];
 }
 
 pub proper_ended : (R : Reading) (e : Event) (k : ℕ) → k < R.all.count → Proper R → Proper (ended_by (Some k) e R)
@@ -100,7 +103,8 @@ slot_none : (f : ℕ → Operation) (k : Option ℕ) (o : Option Open) → o ≡
 slot_none f None o e h = refl
 slot_none f (Some k) o e h = absurd (rw e at h)
 
-slot_some : (f : ℕ → Operation) (k : Option ℕ) (o : Option Open) (p : Open) → o ≡ Some p → SlotOf f k o → (k ≡ Some p.number) × (number_of p.asked ≡ (f p.number).action) × (p.station ≡ (f p.number).station)
+slot_some : (f : ℕ → Operation) (k : Option ℕ) (o : Option Open) (p : Open) → o ≡ Some p → SlotOf f k o
+    → (k ≡ Some p.number) × (number_of p.asked ≡ (f p.number).action) × (p.station ≡ (f p.number).station)
 slot_some f None o p e h = absurd (rw e at h)
 slot_some f (Some k) o p e h = let w : SlotOf f (Some k) (Some p) = subst (SlotOf f (Some k)) e h in (ap Some (sym w.1.1), rw (w.1.1) w.0, rw (w.1.1) w.1.0)
 
@@ -143,13 +147,15 @@ module _ (n : Noted) (e : code.Event.Event) (R : Reading) (st : Stands n R) wher
   all_finished : R.all.count < 12 → has n.done ≡ R.finished
   all_finished h = fun_ext (λ j. st.done j ∙ elim (cases_Bool (R.finished j)) [ inl q ↦ rw (q, lt-ltb j 12 (omega (arith, st.proper.begun j q))) | inr q ↦ rw (q, and-false) ])
 
-  start_held : (ops : List Op) → (n.count < 12 → get_or ops n.count blank ≡ started) → ((i : ℕ) → i ≢ n.count → get_or ops i blank ≡ get_or n.ops i blank) → (i : ℕ) → i < 12 → held_op (n.count + 1) ops i ≡ (begun (event_of e) R).all.operation i
+  start_held : (ops : List Op) → (n.count < 12 → get_or ops n.count blank ≡ started) → ((i : ℕ) → i ≢ n.count → get_or ops i blank ≡ get_or n.ops i blank) → (i : ℕ) → i < 12
+      → held_op (n.count + 1) ops i ≡ (begun (event_of e) R).all.operation i
   start_held ops here others i l = elim (i ==? n.count) [
     | yes q ↦ rw (eq-eqb i R.all.count (q ∙ st.count), lt-ltb i (n.count + 1) (omega arith), ap (λ x. get_or ops x blank) q ∙ here (omega arith), all_finished (omega (arith, st.count)))
     | no q ↦ rw (ne_eqb i R.all.count (λ z. q (z ∙ sym st.count)), step_ltb i n.count q, others i q) (st.held i l)
   ]
 
-  start_stands : (ops : List Op) → length ops ≡ 12 → ((i : ℕ) → i < 12 → held_op (n.count + 1) ops i ≡ (begun (event_of e) R).all.operation i) → Stands (record { slots = set n.slots e.thread (Some opened); done = n.done; count = n.count + 1; ops = ops }) (begun (event_of e) R)
+  start_stands : (ops : List Op) → length ops ≡ 12 → ((i : ℕ) → i < 12 → held_op (n.count + 1) ops i ≡ (begun (event_of e) R).all.operation i)
+      → Stands (record { slots = set n.slots e.thread (Some opened); done = n.done; count = n.count + 1; ops = ops }) (begun (event_of e) R)
   start_stands ops t h = record {
     proper = proper_begun R (event_of e) e.a_station st.proper;
     four = length-set n.slots e.thread (Some opened) ∙ st.four;
@@ -161,7 +167,8 @@ module _ (n : Noted) (e : code.Event.Event) (R : Reading) (st : Stands n R) wher
   }
 
   pub start_in : n.count < 12 → Stands (record { slots = set n.slots e.thread (Some opened); done = n.done; count = n.count + 1; ops = set n.ops n.count started }) (begun (event_of e) R)
-  start_in h = start_stands (set n.ops n.count started) (length-set n.ops n.count started ∙ st.twelve) (start_held (set n.ops n.count started) (λ _. get_or-set_same n.ops n.count started blank (omega (arith, st.twelve))) (λ i q. get_or-set_other n.ops n.count i started blank q))
+  start_in h = start_stands (set n.ops n.count started) (length-set n.ops n.count started ∙ st.twelve)
+      (start_held (set n.ops n.count started) (λ _. get_or-set_same n.ops n.count started blank (omega (arith, st.twelve))) (λ i q. get_or-set_other n.ops n.count i started blank q))
 
   pub start_past : 12 ≤ n.count → Stands (record { slots = set n.slots e.thread (Some opened); done = n.done; count = n.count + 1; ops = n.ops }) (begun (event_of e) R)
   start_past h = start_stands n.ops st.twelve (start_held n.ops (λ l. absurd (omega arith)) (λ i q. refl))
@@ -178,16 +185,21 @@ module _ (n : Noted) (e : code.Event.Event) (R : Reading) (st : Stands n R) wher
         by true = refl
         by false = refl
 
-    keeps_asked : (j : ℕ) → ((R.all.operation j).action ≡ ((ended_by (Some k) (event_of e) R).all.operation j).action) × ((R.all.operation j).station ≡ ((ended_by (Some k) (event_of e) R).all.operation j).station)
+    keeps_asked : (j : ℕ) → ((R.all.operation j).action ≡ ((ended_by (Some k) (event_of e) R).all.operation j).action)
+        × ((R.all.operation j).station ≡ ((ended_by (Some k) (event_of e) R).all.operation j).station)
     keeps_asked j = elim (j ==? k) [ yes q ↦ rw (q, eq-eqb k k refl) (refl, refl) | no q ↦ rw (ne_eqb j k q) (refl, refl) ]
 
     finish_slots : SlotsOf (set n.slots e.thread None) (ended_by (Some k) (event_of e) R)
     finish_slots v l = elim (v ==? e.thread) [
       | yes q ↦ rw (q, eq-eqb e.thread e.thread refl, get_or-set_same n.slots e.thread None None (omega (arith, st.four))) tt
-      | no q ↦ rw (ne_eqb v e.thread q, get_or-set_other n.slots e.thread v None None q) (slot_frame R.all.operation (ended_by (Some k) (event_of e) R).all.operation (R.busy v) _ (λ j z. keeps_asked j) (st.slots v l))
+      | no q ↦ rw (
+        ne_eqb v e.thread q,
+        get_or-set_other n.slots e.thread v None None q,
+      ) (slot_frame R.all.operation (ended_by (Some k) (event_of e) R).all.operation (R.busy v) _ (λ j z. keeps_asked j) (st.slots v l))
     ]
 
-    finish_held : (ops : List Op) → (k < 12 → get_or ops k blank ≡ ended) → ((i : ℕ) → i ≢ k → get_or ops i blank ≡ get_or n.ops i blank) → (i : ℕ) → i < 12 → held_op n.count ops i ≡ (ended_by (Some k) (event_of e) R).all.operation i
+    finish_held : (ops : List Op) → (k < 12 → get_or ops k blank ≡ ended) → ((i : ℕ) → i ≢ k → get_or ops i blank ≡ get_or n.ops i blank) → (i : ℕ) → i < 12
+        → held_op n.count ops i ≡ (ended_by (Some k) (event_of e) R).all.operation i
     finish_held ops here others i l = elim (i ==? k) [
       | yes q ↦
           let low : k < n.count = omega (arith, st.count, st.proper.busy e.thread k doing) in
@@ -196,7 +208,9 @@ module _ (n : Noted) (e : code.Event.Event) (R : Reading) (st : Stands n R) wher
       | no q ↦ rw (ne_eqb i k q, others i q) (st.held i l)
     ]
 
-    finish_stands : (ops : List Op) (done : ℕ) → length ops ≡ 12 → ((i : ℕ) → i < 12 → held_op n.count ops i ≡ (ended_by (Some k) (event_of e) R).all.operation i) → ((j : ℕ) → has done j ≡ ltb j 12 && upd R.finished k true j) → Stands (record { slots = set n.slots e.thread None; done = done; count = n.count; ops = ops }) (ended_by (Some k) (event_of e) R)
+    finish_stands : (ops : List Op) (done : ℕ) → length ops ≡ 12 → ((i : ℕ) → i < 12 → held_op n.count ops i ≡ (ended_by (Some k) (event_of e) R).all.operation i)
+        → ((j : ℕ) → has done j ≡ ltb j 12 && upd R.finished k true j)
+        → Stands (record { slots = set n.slots e.thread None; done = done; count = n.count; ops = ops }) (ended_by (Some k) (event_of e) R)
     finish_stands ops done t h d = record {
       proper = proper_ended R (event_of e) k (st.proper.busy e.thread k doing) st.proper;
       four = length-set n.slots e.thread None ∙ st.four;
@@ -207,8 +221,11 @@ module _ (n : Noted) (e : code.Event.Event) (R : Reading) (st : Stands n R) wher
       done = d;
     }
 
-    pub finish_in : (done : ℕ) → k < 12 → done ≡ insert n.done k → Stands (record { slots = set n.slots e.thread None; done = done; count = n.count; ops = set n.ops k ended }) (ended_by (Some k) (event_of e) R)
-    finish_in done h d = finish_stands (set n.ops k ended) done (length-set n.ops k ended ∙ st.twelve) (finish_held (set n.ops k ended) (λ _. get_or-set_same n.ops k ended blank (omega (arith, st.twelve))) (λ i q. get_or-set_other n.ops k i ended blank q)) (λ j. mark_in n.done k R.finished st.done j h d)
+    pub finish_in : (done : ℕ) → k < 12 → done ≡ insert n.done k
+        → Stands (record { slots = set n.slots e.thread None; done = done; count = n.count; ops = set n.ops k ended }) (ended_by (Some k) (event_of e) R)
+    finish_in done h d = finish_stands (set n.ops k ended) done (length-set n.ops k ended ∙ st.twelve)
+        (finish_held (set n.ops k ended) (λ _. get_or-set_same n.ops k ended blank (omega (arith, st.twelve))) (λ i q. get_or-set_other n.ops k i ended blank q))
+        (λ j. mark_in n.done k R.finished st.done j h d)
 
     pub finish_past : 12 ≤ k → Stands (record { slots = set n.slots e.thread None; done = n.done; count = n.count; ops = n.ops }) (ended_by (Some k) (event_of e) R)
     finish_past h = finish_stands n.ops n.done st.twelve (finish_held n.ops (λ l. absurd (omega arith)) (λ i q. refl)) (λ j. mark_past n.done k R.finished st.done j h)

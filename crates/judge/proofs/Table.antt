@@ -29,7 +29,8 @@ use Rattle.judge.proofs.Rest.{rest_nil, head_undone, head_fits, head_before, tai
 -- ---- a mask with one operation more
 
 pub insert_plus : (M i : ℕ) → i < 64 → has M i ≡ false → insert M i ≡ M + 2 ^ i
-insert_plus M i h e = let q = insert_same M i h in let le = bit_le i (insert M i) (sym (has_is (insert M i) i) ∙ q) in let p = sym (remove_on (insert M i) i q) ∙ ext_all (remove (insert M i) i) M back in omega arith
+insert_plus M i h e = let q = insert_same M i h in let le = bit_le i (insert M i) (sym (has_is (insert M i) i) ∙ q) in
+    let p = sym (remove_on (insert M i) i q) ∙ ext_all (remove (insert M i) i) M back in omega arith
   where
     back : (s : ℕ) → has (remove (insert M i) i) s ≡ has M s
     back s = elim (s ==? i) [ yes p ↦ rw p (remove_same (insert M i) i ∙ sym e) | no p ↦ remove_other (insert M i) i s p ∙ insert_other M i s p ]
@@ -65,7 +66,8 @@ or_under false b h = refl
 abbrev pub Goes : Operations → ℕ → ℕ → Bool → Type 0
 Goes R M i r = (r ≡ true → Fitting R M i × (Before R M i × ((l : List ℕ) × Best R (insert M i) l))) × (r ≡ false → (l : List ℕ) → Rest R M (i ∷ l) → ⊥)
 
-module _ (R : Operations) (M i b : ℕ) (table : List Next) (sound : Sound R) (here : i < R.count) (out : has M i ≡ false) (low : M < 2 ^ R.count) (down : Down R M) (filled : Filled R table (suc M)) (is : (j : ℕ) → (R.operation i).finished_before j ≡ has b j) {u : ℕ} (e : u ≡ union b M) where
+module _ (R : Operations) (M i b : ℕ) (table : List Next) (sound : Sound R) (here : i < R.count) (out : has M i ≡ false) (low : M < 2 ^ R.count) (down : Down R M)
+    (filled : Filled R table (suc M)) (is : (j : ℕ) → (R.operation i).finished_before j ≡ has b j) {u : ℕ} (e : u ≡ union b M) where
   pub goes_late : (u ≡ M → ⊥) → Goes R M i false
   goes_late h = (λ q. absurd (true≢false (sym q)), λ _ l r. h (e ∙ ext_all (union b M) M (λ s. has_union b M s ∙ or_under (has b s) (has M s) (λ q. head_before R sound M i l r s (is s ∙ q)))))
 
@@ -73,7 +75,8 @@ module _ (R : Operations) (M i b : ℕ) (table : List Next) (sound : Sound R) (h
   before_of q j p = sym (ap (λ x. has x j) (sym e ∙ q)) ∙ has_union b M j ∙ or_left (has b j) (has M j) (sym (is j) ∙ p)
 
   entry_of : u ≡ M → (t : ℕ) → t ≡ insert M i → Entry R (insert M i) (get_or table t Dead)
-  entry_of p t q = rw q (filled (insert M i) (insert_above M i (omega (arith, sound.few, here)) out) (insert_below M i R.count here sound.few low) (down_more R M i (omega (arith, sound.few, here)) down (before_of p)))
+  entry_of p t q = rw q
+      (filled (insert M i) (insert_above M i (omega (arith, sound.few, here)) out) (insert_below M i R.count here sound.few low) (down_more R M i (omega (arith, sound.few, here)) down (before_of p)))
 
   pub goes_dead : (t : ℕ) → u ≡ M → t ≡ insert M i → get_or table t Dead ≡ Dead → Goes R M i false
   goes_dead t b' q z = (λ p. absurd (true≢false (sym p)), λ _ l r. go (entry_of b' t q) (tail_rest R sound M i l r))

@@ -22,7 +22,8 @@ use borrow.Author.Tests.{eq-eqb, ne_eqb, lt-ltb, le-ltb}
 use Rattle.container.specs.Choice.{ite}
 use Rattle.container.proofs.Laws.{has_none}
 use Rattle.definitions.specs.Schedule.{count_of}
-use Rattle.definitions.specs.History.{Event, Events, events_of, Operation, Operations, operations, Reading, unread, noted, is_open, in_range, in_place, reading, reading_of, all_in_place, unfinished, form_refusal, events_refusal, history_refusal}
+use Rattle.definitions.specs.History.{Event, Events, events_of, Operation, Operations, operations, Reading, unread, noted, is_open, in_range}
+use Rattle.definitions.specs.History.{in_place, reading, reading_of, all_in_place, unfinished, form_refusal, events_refusal, history_refusal}
 use Rattle.definitions.specs.Judgement.{Order, FirstOrder, padded, Verdict, accepts, rejects, Refused, Decided, JudgementBy, Judgement}
 use Rattle.judge.specs.Search.{held_op, held_of, blank, Rest, Best, Entry, dead, alive, Filled}
 use Rattle.judge.specs.Standing.{event, SlotOf, Proper, Stands}
@@ -100,14 +101,16 @@ chunk_at zero k xs d j h l = absurd (omega arith)
 chunk_at (suc n) zero xs d j h l = get_or-take 4 xs j 0 l ∙ ap (λ i. get_or xs i 0) (omega arith)
 chunk_at (suc n) (suc k) xs d j h l = chunk_at n k (drop 4 xs) d j (omega arith) l ∙ get_or-drop 4 xs (4 * k + j) 0 ∙ ap (λ i. get_or xs i 0) (omega arith)
 
-pub event_at : (file d : List ℕ) (es : List (List ℕ)) (n k : ℕ) → es ≡ first_chunks 4 n (drop 3 file) → k < n → let b = get_or es k d in event (get_or b 0 0) (get_or b 1 0) (get_or b 2 0) (get_or b 3 0) ≡ events_of file k
+pub event_at : (file d : List ℕ) (es : List (List ℕ)) (n k : ℕ) → es ≡ first_chunks 4 n (drop 3 file) → k < n → let b = get_or es k d in
+    event (get_or b 0 0) (get_or b 1 0) (get_or b 2 0) (get_or b 3 0) ≡ events_of file k
 event_at file d es n k e h = rw e (rw (byte 0 (omega arith), byte 1 (omega arith), byte 2 (omega arith), byte 3 (omega arith)) refl)
   where
     byte : (j : ℕ) → j < 4 → get_or (get_or (first_chunks 4 n (drop 3 file)) k d) j 0 ≡ get_or file (3 + j + 4 * k) 0
     byte j l = chunk_at n k (drop 3 file) d j h l ∙ get_or-drop 3 file (4 * k + j) 0 ∙ ap (λ i. get_or file i 0) (omega arith)
 
 -- the chunks of what stands after the header
-pub chunks_of : (file rest : List ℕ) (es : List (List ℕ)) (n : ℕ) → rest ≡ take (length file - 3) (drop 3 file) → length rest ≡ 4 * n → es ≡ first_chunks 4 (length rest / 4) rest → length es ≡ length rest / 4 → (length es ≡ n) × (es ≡ first_chunks 4 n (drop 3 file))
+pub chunks_of : (file rest : List ℕ) (es : List (List ℕ)) (n : ℕ) → rest ≡ take (length file - 3) (drop 3 file) → length rest ≡ 4 * n
+    → es ≡ first_chunks 4 (length rest / 4) rest → length es ≡ length rest / 4 → (length es ≡ n) × (es ≡ first_chunks 4 n (drop 3 file))
 chunks_of file rest es n r l e k = let m : length rest / 4 ≡ n = omega arith in (k ∙ m, e ∙ rw (m, r ∙ take_all (length file - 3) (drop 3 file) (omega (arith, length-drop 3 file))) refl)
 
 -- ---- is_open
@@ -210,7 +213,8 @@ module _ (R : Operations) (table : List Next) (filled : Filled R table 0) where
       go (alive l b _) = (l, b)
 
 -- the report on the first order, or on the lack of one
-pub decided : (R : Operations) (first : Option (List ℕ)) (r : Judged) → IfSome first (λ order. (l : List ℕ) × FirstOrder R l × (order ≡ padded l)) → (IsNone first → (l : List ℕ) → Order R l → ⊥) → r.accepted ≡ is_some first → r.order ≡ unwrap_or first (padded []) → Verdict R r
+pub decided : (R : Operations) (first : Option (List ℕ)) (r : Judged) → IfSome first (λ order. (l : List ℕ) × FirstOrder R l × (order ≡ padded l))
+    → (IsNone first → (l : List ℕ) → Order R l → ⊥) → r.accepted ≡ is_some first → r.order ≡ unwrap_or first (padded []) → Verdict R r
 decided R None r some none a o = rejects (none refl) a o
 decided R (Some order) r (l, first, is) none a o = accepts l first a (o ∙ is)
 

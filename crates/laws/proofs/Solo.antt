@@ -90,7 +90,8 @@ module _ (s : Store) (calm : Calm s) (th : Thread) (upd : Updating th.action) (f
 
   leaf : (n k d x lo hi : ℕ) → Reached s.nodes s.root d x lo hi → (s.nodes x).kind ≢ Route → 4 ≤ n
       → SoloTurn s n (at_leaf th.action (sight_of s).nodes (reading s.stop.on k th) x)
-  leaf n k d x lo hi c h l = updating (λ a. SoloTurn s n (at_leaf a (sight_of s).nodes (reading s.stop.on k th) x)) (s.stop.count, refl, upd, at3 d lo hi refl c h l) (s.stop.count, refl, upd, at3 d lo hi refl c h l) th.action upd
+  leaf n k d x lo hi c h l = updating (λ a. SoloTurn s n (at_leaf a (sight_of s).nodes (reading s.stop.on k th) x)) (s.stop.count, refl, upd, at3 d lo hi refl c h l)
+      (s.stop.count, refl, upd, at3 d lo hi refl c h l) th.action upd
 
   -- with k routes read since 1, not counted
   arrives : (n k d x lo hi : ℕ) → Reached s.nodes s.root d x lo hi → (s.stop.on ≡ true → k < 8) → ((s.nodes x).kind ≡ Route → 67 + more s ≤ n + d) → 4 ≤ n
@@ -181,7 +182,8 @@ module _ (s : Store) (calm : Calm s) (th : Thread) (upd : Updating th.action) (f
   down : (n d lo hi : ℕ) → Reached s.nodes s.root d th.route lo hi → (s.nodes th.route).kind ≡ Route → (s.stop.on ≡ true → th.read < 8) → 67 + more s ≤ suc n + d
       → (v : Bool) → s.stop.on ≡ v → SoloTurn s n (followed v (sight_of s).nodes th' child)
   unfolding followed
-  down n d lo hi c k f l false e = let (a, h, z) = deeper d lo hi c k in arrives n reads (suc d) child a h z (λ o. absurd (false≢true (sym e ∙ o))) (λ _. omega arith) (omega (arith, calm.depth _ _ _ _ z))
+  down n d lo hi c k f l false e = let (a, h, z) = deeper d lo hi c k in
+      arrives n reads (suc d) child a h z (λ o. absurd (false≢true (sym e ∙ o))) (λ _. omega arith) (omega (arith, calm.depth _ _ _ _ z))
   down n d lo hi c k f l true e = let (a, h, z) = deeper d lo hi c k in let l' : 69 ≤ suc n + d = rw e at l in let r = reads_is e in
       either n _ _ _ (λ i. arrives n reads (suc d) child a h z (λ _. omega (arith, r, ltb-true th'.read 8 i)) (λ _. omega arith) (omega (arith, calm.depth _ _ _ _ z)))
       (λ i. either n _ _ _ (λ j. (s.stop.count, refl, upd, at4 (suc d) a h refl e z (omega (arith, eqb-true th'.read 8 j)) (omega arith)))

@@ -26,8 +26,13 @@ use Rattle.definitions.specs.declared.Effect.TheVariants.{Raise, Quiet, Settle, 
 use Rattle.definitions.specs.Nodes.{child_for, check, is_done}
 use Rattle.definitions.specs.Bench.{Store, sight_of}
 use Rattle.definitions.specs.Effects.{perform}
-use Rattle.definitions.specs.Places.{own, found, united, opening, next, reading, Place, nowhere, p1, p2, p3, p4, p5, p15, p16, p19, p20, p21, p22, p23, p24, p25, p30, p31, p32, p33, p34, p35, p36, p37, p38, p40, p45, p46, p47, p48, p49, p50, p51, p60, p61, p62, p70, p71, p72, p73, p74, p76, p81, p82, swap, place_of, number, at}
-use Rattle.definitions.specs.Steps.{goes, says, hooked, marking, at_leaf, reached, onward, one_more, followed, released, lost_as, lost, join_under, cleared_as, cleared, probe, replaced_as, replaced, own_by, found_by, united_by, help_by, blocked_as, blocked, beside, grand_marking, back_out, cut_at, cut_on, cut_right, freeing, ended, unmark, invalid, reached_first, reached_next, opened_by, extended_by, pop_on, met_by, filling, read_out, step}
+use Rattle.definitions.specs.Places.{own, found, united, opening, next, reading, Place, nowhere, p1, p2, p3, p4, p5, p15, p16, p19, p20}
+use Rattle.definitions.specs.Places.{p21, p22, p23, p24, p25, p30, p31, p32, p33, p34, p35, p36, p37, p38, p40, p45, p46, p47, p48, p49}
+use Rattle.definitions.specs.Places.{p50, p51, p60, p61, p62, p70, p71, p72, p73, p74, p76, p81, p82, swap, place_of, number, at}
+use Rattle.definitions.specs.Steps.{goes, says, hooked, marking, at_leaf, reached, onward, one_more, followed, released, lost_as, lost}
+use Rattle.definitions.specs.Steps.{join_under, cleared_as, cleared, probe, replaced_as, replaced, own_by, found_by, united_by, help_by}
+use Rattle.definitions.specs.Steps.{blocked_as, blocked, beside, grand_marking, back_out, cut_at, cut_on, cut_right, freeing, ended, unmark}
+use Rattle.definitions.specs.Steps.{invalid, reached_first, reached_next, opened_by, extended_by, pop_on, met_by, filling, read_out, step}
 use Rattle.laws.proofs.Tending.{is_over, tending, Tends, Apt, NewMain, Turned, normal_main, neighbour_main}
 
 done_over : (v : Stage) → is_done v ≡ true → is_over v ≡ true

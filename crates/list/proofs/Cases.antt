@@ -12,7 +12,7 @@ use Rattle.container.specs.Container.{all}
 use Rattle.buffer.specs.Page.{Page, page, put_all}
 use Rattle.buffer.proofs.Laws.{put_fits}
 use Rattle.answers.proofs.Reach.{reach_fits}
-use Rattle.depths.specs.Rows.{rows, full}
+use Rattle.depths.specs.Rows.{rows, Holds, full}
 use Rattle.definitions.specs.Nodes.{Shapes, Stores}
 use Rattle.definitions.specs.Bench.{Bench}
 use Rattle.definitions.specs.Tree.{held_below}
@@ -24,8 +24,9 @@ use Rattle.definitions.specs.Listing.{subtree_text, set_line, listing, listed_at
 use Rattle.definitions.specs.declared.Listed.{Listed}
 use Rattle.listing.specs.Texts.{headed}
 use Rattle.listing.proofs.Texts.{written}
-use Rattle.run.specs.Standing.{Carried}
+use Rattle.run.specs.Standing.{numbers_for, Carried}
 use Rattle.run.specs.declared.Standing.{Standing}
+use Rattle.run.proofs.Ended.{held_all}
 use Rattle.run.proofs.Room.{by_file, by_room, by_none, has_room}
 
 -- ---- the refusal of a file and a text buffer
@@ -54,13 +55,13 @@ has_text_room file room e z = least (eqb (version file) 1) (has_room (file_refus
 
 -- ---- all records carried out over the depths l, and the text of version v written
 module _ (file text : List ℕ) {t : Shapes} {l : List ℕ} {k : Stores} {s : Standing} {first buffer : List ℕ} {v at : ℕ} {text' : List ℕ} (i : v ≡ version file)
-    (whole : (version file ≡ 1 → ⊥) → length l ≡ 16384) (room : 4096 ≤ length text) (h : Carried file (count_of file) t l k s first buffer)
+    (whole : (version file ≡ 1 → ⊥) → Holds (length l) (numbers_for file)) (room : 4096 ≤ length text) (h : Carried file (count_of file) t l k s first buffer)
     (w : page text' at ≡ put_all (page text 0) (subtree_text (headed v) 63 (full t (rows l)) s.root ++ set_line (headed v) (held_below 63 (full t (rows l)) s.root all))) where
   text_at : page text' at ≡ page (overlay (listing file (ended file).bench) text) (length (listing file (ended file).bench))
   text_at =
       let nodes = ap (λ (b : Bench). b.store.nodes) h.bench in
       let root = ap (λ (b : Bench). b.store.root) h.bench in
-      w ∙ rw (written file v t (rows l) h.deep s.root (ended file).bench i (λ n. h.depths (whole n)) nodes root) (put_fits _ text (omega (arith, reach_fits file (count_of file))))
+      w ∙ rw (written file v t (rows l) h.deep s.root (ended file).bench i (λ n. h.depths (held_all file h (whole n))) nodes root) (put_fits _ text (omega (arith, reach_fits file (count_of file))))
 
   pub ended_report : {r : ℕ} → r ≡ code_of s.refusal → record { refusal = r; length = at } ≡ listed_at file (ended file)
   ended_report e = rw (e, h.refusal, ap (λ (p : Page). p.at) text_at)

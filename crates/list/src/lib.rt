@@ -58,6 +58,7 @@ fn report<const DEPTHS: usize, const RESULTS: usize, const FRAMES: usize>(
         &mut depths,
         &mut results,
         &mut lent,
+        &mut [],
         schedule,
         &mut [],
     );
@@ -68,7 +69,7 @@ fn report<const DEPTHS: usize, const RESULTS: usize, const FRAMES: usize>(
     }
 }
 
-// List: the report, and the text in the buffer. Version 1 has no use for depths.
+// List: the report, and the text in the buffer. Version 1 has no use for depths; 64 records use at most 65 nodes, with 64 depths each.
 pub fn list(schedule: &[u8], text: &mut [u8]) -> Listed
     ensures { (result ≡ list_report schedule.now (length text.old)) × (text.new ≡ list_buffer schedule.now text.old) }
 {
@@ -80,6 +81,6 @@ pub fn list(schedule: &[u8], text: &mut [u8]) -> Listed
     } else if run::may_ask(schedule) {
         report::<16384, 256, 16>(schedule, text)
     } else {
-        report::<16384, 0, 0>(schedule, text)
+        report::<4160, 0, 0>(schedule, text)
     }
 }

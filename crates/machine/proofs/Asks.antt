@@ -49,7 +49,8 @@ module _ (b : Bench) (t y d : ℕ) where
   steps_so false e f = refl
 
   unused_so : (c : Action) → thread_started c y d ≡ begun c y d 1 → (o s u i : Bool)
-      → ite o (refused 8) (ite s (refused 9) (ite (eqb (ite u 0 10) 0) (ite i (carried (bench b.store (upd b.threads t (begun c y d 1))) no_row) (refused 11)) (refused (ite u 0 10)))) ≡ answered (starts o s (unused u) i c) b t y d
+      → ite o (refused 8) (ite s (refused 9) (ite (eqb (ite u 0 10) 0) (ite i (carried (bench b.store (upd b.threads t (begun c y d 1))) no_row) (refused 11)) (refused (ite u 0 10))))
+      ≡ answered (starts o s (unused u) i c) b t y d
   unfolding ite
   unused_so c e true s u i = refl
   unused_so c e false true u i = refl
@@ -58,7 +59,8 @@ module _ (b : Bench) (t y d : ℕ) where
   unused_so c e false false false i = refl
 
   deep_so : (o s u i : Bool)
-      → ite o (refused 8) (ite s (refused 9) (ite (eqb (ite u 14 0) 0) (ite i (carried (bench b.store (upd b.threads t (begun Insert y d 1))) no_row) (refused 11)) (refused (ite u 14 0)))) ≡ answered (starts o s (deep u) i Insert) b t y d
+      → ite o (refused 8) (ite s (refused 9) (ite (eqb (ite u 14 0) 0) (ite i (carried (bench b.store (upd b.threads t (begun Insert y d 1))) no_row) (refused 11)) (refused (ite u 14 0))))
+      ≡ answered (starts o s (deep u) i Insert) b t y d
   unfolding ite
   deep_so true s u i = refl
   deep_so false true u i = refl
@@ -67,7 +69,8 @@ module _ (b : Bench) (t y d : ℕ) where
   deep_so false false false false = refl
 
   ends_so : (o s u w i : Bool)
-      → ite o (refused 8) (ite s (refused 9) (ite u (refused 15) (ite w (refused 15) (ite i (carried (bench b.store (upd b.threads t (asking y d))) no_row) (refused 11))))) ≡ answered (starts o s (ends u w) i Query) b t y d
+      → ite o (refused 8) (ite s (refused 9) (ite u (refused 15) (ite w (refused 15) (ite i (carried (bench b.store (upd b.threads t (asking y d))) no_row) (refused 11)))))
+      ≡ answered (starts o s (ends u w) i Query) b t y d
   unfolding ite
   ends_so true s u w i = refl
   ends_so false true u w i = refl
@@ -85,21 +88,24 @@ module _ (b : Bench) (t y d : ℕ) where
   acts_so l (suc (suc (suc (suc zero)))) h = unused_so Split refl (ltb l 4) (ltb 63 y) (eqb d 0) (eqb (b.threads t).place 0)
   acts_so l (suc (suc (suc (suc (suc zero))))) h = unused_so Join refl (ltb l 5) (ltb 63 y) (eqb d 0) (eqb (b.threads t).place 0)
   acts_so l (suc (suc (suc (suc (suc (suc zero)))))) h = ends_so (ltb l 6) (ltb 63 y) (ltb 63 d) (ltb d y) (eqb (b.threads t).place 0)
-  acts_so l (suc (suc (suc (suc (suc (suc (suc a))))))) h = rw (lt-ltb l (suc (suc (suc (suc (suc (suc (suc a))))))) (omega arith), ne_eqb (suc (suc (suc (suc (suc (suc (suc a))))))) 0 (λ e. omega arith))
+  acts_so l (suc (suc (suc (suc (suc (suc (suc a))))))) h =
+      rw (lt-ltb l (suc (suc (suc (suc (suc (suc (suc a))))))) (omega arith), ne_eqb (suc (suc (suc (suc (suc (suc (suc a))))))) 0 (λ e. omega arith))
 
 -- thread t is the record's own, where it has one
 pub asked_so : (b : Bench) (t l x y d : ℕ) → l ≤ 6 → (x / 16 ≤ 3 → t ≡ x / 16) → record_step b l x y d ≡ answered (asked l x y d (b.threads t).place) b t y d
 unfolding record_step asked ite
 asked_so b t l x y d h same = by (ltb 3 (x / 16)) refl
   where
-    by : (c : Bool) → ltb 3 (x / 16) ≡ c → ite c (refused 7) (ite (ltb l (x % 16)) (refused 8) (acted (x % 16) b (x / 16) y d)) ≡ answered (ite c (Err Refusal.Thread) (asked_by l (x % 16) y d (b.threads t).place)) b t y d
+    by : (c : Bool) → ltb 3 (x / 16) ≡ c
+        → ite c (refused 7) (ite (ltb l (x % 16)) (refused 8) (acted (x % 16) b (x / 16) y d)) ≡ answered (ite c (Err Refusal.Thread) (asked_by l (x % 16) y d (b.threads t).place)) b t y d
     by true e = refl
     by false e = rw (← same (ltb-false _ _ e)) (acts_so b t y d l (x % 16) h)
 
 -- ---- a record of version 2 by its first two bytes: its last two, e, count only where it is refused or a query's start
 
 module _ {a : Asked} where
-  step_less : (c f i : Bool) → ite c (ite f (ite i (Err Refusal.Idle) (Ok Step)) (Err Refusal.UnusedBytes)) (Err Refusal.UnusedBytes) ≡ Ok a → ite c (ite i (Err Refusal.Idle) (Ok Step)) (Err Refusal.UnusedBytes) ≡ Ok a
+  step_less : (c f i : Bool) → ite c (ite f (ite i (Err Refusal.Idle) (Ok Step)) (Err Refusal.UnusedBytes)) (Err Refusal.UnusedBytes) ≡ Ok a
+      → ite c (ite i (Err Refusal.Idle) (Ok Step)) (Err Refusal.UnusedBytes) ≡ Ok a
   unfolding ite
   step_less true true i h = h
   step_less true false i h = cc
@@ -145,7 +151,8 @@ unfolding asked asked_by ite
 busy l x y d zero h = absurd (by (ltb 3 (x / 16)) (eqb (x % 16) 0) (eqb y 0) (eqb d 0) h)
   where
     by : (b c f g : Bool)
-        → ite b (Err Refusal.Thread) (ite c (ite f (ite g (Err Refusal.Idle) (Err Refusal.UnusedBytes)) (Err Refusal.UnusedBytes)) (starts (ltb l (x % 16)) (ltb 63 y) (extra_refusal (x % 16) y d) true (action_started (x % 16)))) ≡ Ok Step → ⊥
+        → ite b (Err Refusal.Thread) (ite c (ite f (ite g (Err Refusal.Idle) (Err Refusal.UnusedBytes)) (Err Refusal.UnusedBytes))
+        (starts (ltb l (x % 16)) (ltb 63 y) (extra_refusal (x % 16) y d) true (action_started (x % 16)))) ≡ Ok Step → ⊥
     by true c f g i = cc
     by false true true true i = cc
     by false true true false i = cc
@@ -188,7 +195,8 @@ query_by l (suc (suc (suc (suc (suc zero))))) y d p h = let e : Start Query ≡ 
 query_by l (suc (suc (suc (suc (suc (suc zero)))))) y d p h = opens l y d p (ltb l 6) (ltb 63 y) (ltb 63 d) (ltb d y) (eqb p 0) refl refl refl refl h
 query_by l (suc (suc (suc (suc (suc (suc (suc a))))))) y d p h =
     let n : ℕ = suc (suc (suc (suc (suc (suc (suc a)))))) in
-    let e : Start Query ≡ Start Join = only_query (ltb l n) (ltb 63 y) (unused (eqb d 0)) (eqb p 0) Join (rw (ne_eqb n 0 (λ i. omega arith), ne_eqb n 6 (λ i. omega arith), ne_eqb n 2 (λ i. omega arith)) at h) in cc
+    let e : Start Query ≡ Start Join =
+    only_query (ltb l n) (ltb 63 y) (unused (eqb d 0)) (eqb p 0) Join (rw (ne_eqb n 0 (λ i. omega arith), ne_eqb n 6 (λ i. omega arith), ne_eqb n 2 (λ i. omega arith)) at h) in cc
 
 query_of : (l x y d p : ℕ) → asked l x y d p ≡ Ok (Start Query) → (x / 16 ≤ 3) × Asking l (x % 16) y d p
 unfolding asked ite

@@ -5,7 +5,7 @@ use Rattle.definitions.specs.declared.Answer.{Answer}
 use Rattle.definitions.specs.declared.Answer.TheVariants.{No, Yes, At, Lacking, Blocked, Lost, NeighbourBlocked, StoodDown, Stopped}
 use Rattle.definitions.specs.declared.Effect.{Effect}
 use Rattle.depths.specs.Rows.{Rows, rows}
-use Rattle.effects.specs.Used.{deepened, Applied}
+use Rattle.effects.specs.Used.{within, deepened, Applied}
 
 -- a lookup's find at station s, else 0
 abbrev pub depth_by : Answer → Rows → ℕ → ℕ
@@ -19,9 +19,9 @@ depth_by NeighbourBlocked d s = 0
 depth_by StoodDown d s = 0
 depth_by Stopped d s = 0
 
--- the depths l become l' by the effect e on the nodes t, where they are lent whole
+-- the depths l become l' by the effect e on the nodes t, where those of the new nodes are lent
 pub record Followed (t : Shapes) (l : List ℕ) (e : Effect) (l' : List ℕ) : Type 0 where
-  pub rows : length l ≡ 16384 → rows l' ≡ deepened e t (rows l)
+  pub rows : within e (length l) → rows l' ≡ deepened e t (rows l)
 
 -- the same, and the nodes t with root o and u numbers used become t' with root r, the stores k with j shown become k'
 pub record Enacted (t : Shapes) (l : List ℕ) (o u : ℕ) (k : Stores) (j : ℕ) (e : Effect) (t' : Shapes) (l' : List ℕ) (r : ℕ) (k' : Stores) : Type 0 where

@@ -162,8 +162,8 @@ pub fn note(th: &mut Notes, place: Place, note: Note)
 fn follow(nodes: &Nodes, depths: &mut [u16], w: Write)
     ensures { Followed (table nodes.now) depths.old (effect_of w) depths.new }
 {
-    if let Some(lent) = depths.as_mut_array() {
-        effects::deepen(nodes, lent, w);
+    if !depths.is_empty() {
+        effects::deepen(nodes, depths, w);
     }
 }
 

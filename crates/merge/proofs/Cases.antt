@@ -50,7 +50,8 @@ pub record Turn (ones others : List (List ℕ)) (n : ℕ) (p : ℕ × (List ℕ 
   pub one : p.1.0 ≡ get_or ones n []
   pub other : p.1.1 ≡ get_or others n []
 
-pub turn_is : (ones others : List (List ℕ)) (n : ℕ) (p : ℕ × (List ℕ × List ℕ)) → n < length (enumerate_from 0 (zip ones others)) → p ≡ get_or (enumerate_from 0 (zip ones others)) n p → Turn ones others n p
+pub turn_is : (ones others : List (List ℕ)) (n : ℕ) (p : ℕ × (List ℕ × List ℕ)) → n < length (enumerate_from 0 (zip ones others)) → p ≡ get_or (enumerate_from 0 (zip ones others)) n p
+    → Turn ones others n p
 turn_is ones others n p h e =
     let z : n < length (zip ones others) = omega (arith, length-enumerate_from 0 (zip ones others)) in
     let i : n < length ones = omega (arith, length-zip ones others) in

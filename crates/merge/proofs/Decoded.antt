@@ -72,7 +72,12 @@ unfolding turns plain_of in_turns
 pairs_turns first second rest zero = refl
 pairs_turns first second rest (suc k) =
     let e : length (plain_of first k) ≡ length (plain_of second k) = records_length first k ∙ sym (records_length second k) in
-    rw (append_assoc (turns first second k), pairs_turns first second (first_byte first k ∷ second_byte first k ∷ first_byte second k ∷ second_byte second k ∷ rest) k, turns_append (plain_of first k) (plain_of second k) (record_of first k ∷ []) (record_of second k ∷ []) e, append_assoc (in_turns (plain_of first k) (plain_of second k)))
+    rw (
+      append_assoc (turns first second k),
+      pairs_turns first second (first_byte first k ∷ second_byte first k ∷ first_byte second k ∷ second_byte second k ∷ rest) k,
+      turns_append (plain_of first k) (plain_of second k) (record_of first k ∷ []) (record_of second k ∷ []) e,
+      append_assoc (in_turns (plain_of first k) (plain_of second k)),
+    )
     (ap (λ (l : List Rec). in_turns (plain_of first k) (plain_of second k) ++ l) (two _ _ _ ∙ ap (λ (m : List Rec). record_of first k ∷ m) (two _ _ rest)))
 
 -- ---- a file has no record of another file's threads

@@ -43,7 +43,8 @@ module _ (first second : List ℕ) {room : ℕ} (h : Accepted first second room)
   of_second l =
       let n : min (count_of first) (count_of second) ≡ count_of first = omega arith in
       let tail = drop (3 + 2 * count_of first) second in
-      let e : part first second ≡ tail = sym (rest_second first second (h.one, h.other) refl refl l) ∙ take_all (length second - (3 + 2 * count_of first)) tail (omega (arith, length-drop (3 + 2 * count_of first) second)) in
+      let e : part first second ≡ tail =
+      sym (rest_second first second (h.one, h.other) refl refl l) ∙ take_all (length second - (3 + 2 * count_of first)) tail (omega (arith, length-drop (3 + 2 * count_of first) second)) in
       record {
         size = rw (e, n) (omega (arith, length-drop (3 + 2 * count_of first) second, h.other.whole));
         records =
@@ -55,7 +56,8 @@ module _ (first second : List ℕ) {room : ℕ} (h : Accepted first second room)
   of_first l =
       let n : min (count_of first) (count_of second) ≡ count_of second = omega arith in
       let tail = drop (3 + 2 * count_of second) first in
-      let e : part first second ≡ tail = sym (rest_first first second (h.one, h.other) refl refl l) ∙ take_all (length first - (3 + 2 * count_of second)) tail (omega (arith, length-drop (3 + 2 * count_of second) first)) in
+      let e : part first second ≡ tail =
+      sym (rest_first first second (h.one, h.other) refl refl l) ∙ take_all (length first - (3 + 2 * count_of second)) tail (omega (arith, length-drop (3 + 2 * count_of second) first)) in
       record {
         size = rw (e, n) (omega (arith, length-drop (3 + 2 * count_of second) first, h.one.whole));
         records =
@@ -107,8 +109,10 @@ module _ (first second : List ℕ) {room : ℕ} (h : Accepted first second room)
   own_records : (t : ℕ) → kept (is_of t) (in_turns (all_of first) (all_of second)) ≡ kept (is_of t) (all_of (ite (ltb t 2) first second))
   unfolding ite
   own_records t = elim (dec_lt t 2) [
-    | yes l ↦ rw (lt-ltb t 2 l) (kept_first (is_of t) (all_of first) (all_of second) (ap (kept (is_of t)) (records_plain second h.other.version (count_of second)) ∙ none_of 1 second t (λ e. omega arith) (count_of second) h.own_other))
-    | no l ↦ rw (le-ltb t 2 (omega arith)) (kept_second (is_of t) (all_of first) (all_of second) (ap (kept (is_of t)) (records_plain first h.one.version (count_of first)) ∙ none_of 0 first t (λ e. omega arith) (count_of first) h.own_one))
+    | yes l ↦ rw (lt-ltb t 2 l) (kept_first (is_of t) (all_of first) (all_of second)
+        (ap (kept (is_of t)) (records_plain second h.other.version (count_of second)) ∙ none_of 1 second t (λ e. omega arith) (count_of second) h.own_other))
+    | no l ↦ rw (le-ltb t 2 (omega arith)) (kept_second (is_of t) (all_of first) (all_of second)
+        (ap (kept (is_of t)) (records_plain first h.one.version (count_of first)) ∙ none_of 0 first t (λ e. omega arith) (count_of first) h.own_one))
   ]
 
   shown : (out after file : List ℕ) → needed first second ≤ length out → after ≡ overlay (merge_bytes first second) out → file ≡ whole first second → MergedRight first second file out after
@@ -135,5 +139,6 @@ unfolding merge_buffer merge_report ite
 merge_rule first second out z =
     let h = accepted first second (length out) z in
     let after : merge_buffer first second out ≡ overlay (merge_bytes first second) out = rw (eq-eqb _ _ z) in
-    let file : merged_file first second out ≡ whole first second = rw (eq-eqb _ _ z) (ap (λ (l : List ℕ). l ++ part first second) (take_at (merge_bytes first second) _ (needed first second) (bytes_length first second))) in
+    let file : merged_file first second out ≡ whole first second =
+    rw (eq-eqb _ _ z) (ap (λ (l : List ℕ). l ++ part first second) (take_at (merge_bytes first second) _ (needed first second) (bytes_length first second))) in
     shown first second h out (merge_buffer first second out) (merged_file first second out) h.room after file

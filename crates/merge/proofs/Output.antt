@@ -45,7 +45,8 @@ module _ (first second out : List ℕ) (h : Accepted first second (length out)) 
   unfolding merge_bytes put_all
   output_put {after} e f i =
       let head = put_fits (1 ∷ total first second / 256 ∷ total first second % 256 ∷ []) out (omega (arith, h.room)) in
-      let all : page after (needed first second) ≡ put_all (page out 0) (merge_bytes first second) = i ∙ rw (head_is e f) (ap (λ q. put_all q (turns first second (smaller first second))) (sym head)) in
+      let all : page after (needed first second) ≡ put_all (page out 0) (merge_bytes first second) =
+      i ∙ rw (head_is e f) (ap (λ q. put_all q (turns first second (smaller first second))) (sym head)) in
       ap (λ (s : Page). s.bytes) (all ∙ put_fits (merge_bytes first second) out (omega (arith, bytes_length first second, h.room)))
 
 -- ---- the part
@@ -67,12 +68,14 @@ module _ (first second : List ℕ) {a b : ℕ} (h : Plain first × Plain second)
 
 module _ (first second out : List ℕ) where
   -- where `?` hands on the refusal k
-  pub refused : (k : Refusal) (r : Result (Bor (List ℕ)) Refusal) → refusal_number k ≡ merge_refusal first second (length out) → IsErrAnd r (λ e. e ≡ k) → Merging first second out (code_of r) out (rest_of r)
+  pub refused : (k : Refusal) (r : Result (Bor (List ℕ)) Refusal) → refusal_number k ≡ merge_refusal first second (length out) → IsErrAnd r (λ e. e ≡ k)
+      → Merging first second out (code_of r) out (rest_of r)
   unfolding merge_buffer merge_report part_of ite
   refused k r e h =
       let p = err_from_is_err_and r h in
       rw (p.1, p.2) (record { refused = e; output = rw (← e, ne_eqb _ _ (not_0 k)); rest = rw (← e, ne_eqb _ _ (not_0 k)) })
 
-  pub merged : {w s : List ℕ} → 0 ≡ merge_refusal first second (length out) → w ≡ overlay (merge_bytes first second) out → s ≡ part_of first second (left_over first second) → Merging first second out 0 w s
+  pub merged : {w s : List ℕ} → 0 ≡ merge_refusal first second (length out) → w ≡ overlay (merge_bytes first second) out → s ≡ part_of first second (left_over first second)
+      → Merging first second out 0 w s
   unfolding merge_buffer merge_report ite
   merged e f g = record { refused = e; output = rw (← e) f; rest = rw (← e) g }

@@ -23,8 +23,12 @@ use Rattle.definitions.specs.Threads.{Frame, Thread, Turn, Moves, Finishes, Find
 use Rattle.definitions.specs.Frames.{tail_of, store_of, in_frame, next_from, adding, found_first, back_in, back}
 use Rattle.definitions.specs.Nodes.{child_for, check}
 use Rattle.definitions.specs.Bench.{Sight}
-use Rattle.definitions.specs.Places.{Swap, own, found, united, opening, next, quarter_number, first_of, number, reading, Place, nowhere, p1, p2, p3, p4, p5, p15, p16, p19, p20, p21, p22, p23, p24, p25, p30, p31, p32, p33, p34, p35, p36, p37, p38, p40, p45, p46, p47, p48, p49, p50, p51, p60, p61, p62, p70, p71, p72, p73, p74, p76, p81, p82, swap}
-use Rattle.definitions.specs.Steps.{back_out, at_leaf, reached, onward, one_more, followed, released, help_by, blocked_as, blocked, lost_as, lost, join_under, cleared_as, cleared, probe, replaced_as, replaced, own_by, found_by, united_by, beside, grand_marking, cut_at, cut_on, cut_right, freeing, reached_first, reached_next, opened_by, extended_by, pop_on, met_by, filling, read_out, step}
+use Rattle.definitions.specs.Places.{Swap, own, found, united, opening, next, quarter_number, first_of, number, reading, Place, nowhere, p1, p2}
+use Rattle.definitions.specs.Places.{p3, p4, p5, p15, p16, p19, p20, p21, p22, p23, p24, p25, p30, p31, p32, p33, p34, p35, p36, p37, p38, p40}
+use Rattle.definitions.specs.Places.{p45, p46, p47, p48, p49, p50, p51, p60, p61, p62, p70, p71, p72, p73, p74, p76, p81, p82, swap}
+use Rattle.definitions.specs.Steps.{back_out, at_leaf, reached, onward, one_more, followed, released, help_by, blocked_as, blocked, lost_as, lost, join_under}
+use Rattle.definitions.specs.Steps.{cleared_as, cleared, probe, replaced_as, replaced, own_by, found_by, united_by, beside, grand_marking, cut_at, cut_on}
+use Rattle.definitions.specs.Steps.{cut_right, freeing, reached_first, reached_next, opened_by, extended_by, pop_on, met_by, filling, read_out, step}
 
 abbrev pub Stays : Turn → Type 0
 Stays (Moves th' e) = is_idle th' ≡ false

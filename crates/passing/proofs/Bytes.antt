@@ -11,7 +11,8 @@ use lib.ListN.{get_or, length}
 use borrow.Author.Tests.{eq-eqb, ne_eqb, le-ltb, ltb-true}
 use Rattle.container.specs.Choice.{ite}
 use Rattle.definitions.specs.Schedule.{count_of}
-use Rattle.definitions.specs.History.{Event, Events, events_of, Reading, unread, ended_by, noted, in_place, reading, all_in_place, unfinished, reading_of, form_refusal, events_refusal, history_refusal}
+use Rattle.definitions.specs.History.{Event, Events, events_of, Reading, unread, ended_by, noted, in_place, reading}
+use Rattle.definitions.specs.History.{all_in_place, unfinished, reading_of, form_refusal, events_refusal, history_refusal}
 use Rattle.definitions.specs.History.{in_range}
 use Rattle.definitions.specs.Written.{start_of, starts, bytes_of, history_of}
 use Rattle.passing.proofs.Fold.{read_all}
@@ -72,7 +73,8 @@ fold_reading E (e ∷ es) base h =
     ap (reading E) q ∙ fold_reading E es (suc base) (λ k l. ap E (let w : suc base + k ≡ base + suc k = omega arith in w) ∙ h (suc k) (omega arith))
     ∙ ap (λ x. read_all es (noted x (reading E base))) (ap E (sym z) ∙ h 0 (omega arith))
 
-fold_placed : (E : Events) (es : List Event) (base : ℕ) → ((k : ℕ) → k < length es → E (base + k) ≡ nth es k) → all_in_place E base ≡ true → AllPlaced es (reading E base) → all_in_place E (base + length es) ≡ true
+fold_placed : (E : Events) (es : List Event) (base : ℕ) → ((k : ℕ) → k < length es → E (base + k) ≡ nth es k) → all_in_place E base ≡ true → AllPlaced es (reading E base)
+    → all_in_place E (base + length es) ≡ true
 unfolding reading all_in_place
 fold_placed E [] base h a p = subst (λ x. all_in_place E x ≡ true) (let q : base ≡ base + 0 = omega arith in q) a
 fold_placed E (e ∷ es) base h a p =
@@ -119,7 +121,8 @@ module _ (es : List Event) (pl : AllPlaced es unread) (few : starts es ≤ 12) (
   place_start = refl
 
   placed_back : all_in_place (events_of (history_of es)) (length es) ≡ true
-  placed_back = subst (λ x. all_in_place (events_of (history_of es)) x ≡ true) at_end (fold_placed (events_of (history_of es)) es 0 back place_start (subst (λ Q. AllPlaced es Q) (sym reading_start) pl))
+  placed_back = subst (λ x. all_in_place (events_of (history_of es)) x ≡ true) at_end
+      (fold_placed (events_of (history_of es)) es 0 back place_start (subst (λ Q. AllPlaced es Q) (sym reading_start) pl))
 
   none_open : unfinished (read_all es unread) ≡ false
   unfolding unfinished

@@ -55,7 +55,17 @@ module _ (e : Event) (R : Reading) (t : e.thread < 4) (a : 0 < e.action) (b : e.
 
   finish_in : (i : ℕ) → e.mark ≢ 0 → e.mark < 3 → R.busy e.thread ≡ Some i → e.action ≡ (R.all.operation i).action → e.station ≡ (R.all.operation i).station → in_place e R ≡ true
   unfolding in_place ite
-  finish_in i m l d x y = rw (lt-ltb e.thread 4 t, lt-ltb 0 e.action a, lt-ltb e.action 4 (omega arith), lt-ltb e.station 64 s, lt-ltb e.mark 3 l, ne_eqb e.mark 0 m, d, eq-eqb e.action (R.all.operation i).action x, eq-eqb e.station (R.all.operation i).station y)
+  finish_in i m l d x y = rw (
+    lt-ltb e.thread 4 t,
+    lt-ltb 0 e.action a,
+    lt-ltb e.action 4 (omega arith),
+    lt-ltb e.station 64 s,
+    lt-ltb e.mark 3 l,
+    ne_eqb e.mark 0 m,
+    d,
+    eq-eqb e.action (R.all.operation i).action x,
+    eq-eqb e.station (R.all.operation i).station y,
+  )
 
 -- ---- a start record by its action
 carried_start : (a : Action) (t y : ℕ) (P : Plain) → carried_out (action_number a) t y false P ≡ start t a y P
@@ -88,9 +98,11 @@ event_start Split b r = refl
 event_start Join b r = refl
 event_start Query b r = refl
 
-module _ (H : Hist) (r : Rec) (rs : List Rec) (b b' : Bench) (P : Plain) (f : ℕ → Option ℕ) (k : ℕ) (R : Reading) (z : Standing H (r ∷ rs) b P f k) (l : Linked b P R) (tidy : Tidy R) (small : r.first / 16 < 4) where
+module _ (H : Hist) (r : Rec) (rs : List Rec) (b b' : Bench) (P : Plain) (f : ℕ → Option ℕ) (k : ℕ) (R : Reading) (z : Standing H (r ∷ rs) b P f k) (l : Linked b P R)
+    (tidy : Tidy R) (small : r.first / 16 < 4) where
   abbrev Onward : Type 0
-  Onward = (P' : Plain) (f' : ℕ → Option ℕ) (R' : Reading) → Standing H rs b' P' f' (suc k) → Linked b' P' R' → Tidy R' → OnlyThree (events_from rs b') → AllFinished (end_from rs b') → Passed H (events_from rs b') R' f' (suc k)
+  Onward = (P' : Plain) (f' : ℕ → Option ℕ) (R' : Reading) → Standing H rs b' P' f' (suc k) → Linked b' P' R' → Tidy R' → OnlyThree (events_from rs b') → AllFinished (end_from rs b')
+      → Passed H (events_from rs b') R' f' (suc k)
 
   abbrev t : ℕ
   t = r.first / 16
@@ -101,7 +113,8 @@ module _ (H : Hist) (r : Rec) (rs : List Rec) (b b' : Bench) (P : Plain) (f : �
 
   start_case : (n : ℕ) → Started b t r.second n b' → Standing H rs b' (carried_out n t r.second false P) (first_steps n t k f) (suc k)
       → OnlyThree (event_of n b r no_row ++ events_from rs b') → AllFinished (end_from rs b') → Onward → Passed H (event_of n b r no_row ++ events_from rs b') R f k
-  start_case n s z' o fin ih = subst (λ v. Passed H (v ++ events_from rs b') R f k) (sym is) (on_start H e (events_from rs b') R f k tidy quiet refl small free (start_in e R small (number_low s.what) three.0 s.low refl free)
+  start_case n s z' o fin ih = subst (λ v. Passed H (v ++ events_from rs b') R f k) (sym is)
+      (on_start H e (events_from rs b') R f k tidy quiet refl small free (start_in e R small (number_low s.what) three.0 s.low refl free)
       (ih (start t s.what r.second P) (upd f t None) (noted e R) standing linked tidy' three.1 fin))
     where
       e : Event
@@ -161,7 +174,8 @@ module _ (H : Hist) (r : Rec) (rs : List Rec) (b b' : Bench) (P : Plain) (f : �
       three = subst (λ v. OnlyThree (event_of v b r (row a d c) ++ events_from rs b')) g.number o
 
       fits' : Fits (doing (b.threads t).action st) (b.threads t).place P H (moment (first_steps 0 t k f t)) k a
-      fits' = subst (λ v. Fits v (b.threads t).place P H (moment (first_steps 0 t k f t)) k a) op.plain (subst (λ v. Fits (P.operation t) (b.threads t).place P H (moment (first_steps v t k f t)) k a) g.number fits)
+      fits' = subst (λ v. Fits v (b.threads t).place P H (moment (first_steps 0 t k f t)) k a) op.plain
+          (subst (λ v. Fits (P.operation t) (b.threads t).place P H (moment (first_steps v t k f t)) k a) g.number fits)
 
       standing : Standing H rs b' (finish t P) (upd f t (opened (f t) k)) (suc k)
       standing = subst (λ v. Standing H rs b' (carried_out v t r.second true P) (first_steps v t k f) (suc k)) g.number z'
@@ -178,7 +192,8 @@ module _ (H : Hist) (r : Rec) (rs : List Rec) (b b' : Bench) (P : Plain) (f : �
           (subst (λ Q. Tidy Q) (sym (noted_finish e R i some op.busy)) (tidy_ended R e tidy i op.busy)) three.1 fin
 
       after : (s : ℕ) → H (suc k) s ≡ settled (b.threads t).action st (H k) s
-      after s = now_is H rs b' (finish t P) (upd f t (opened (f t) k)) (suc k) standing s ∙ ap (λ x. settled_by x P.set s) op.plain ∙ ap (λ S. settled (b.threads t).action st S s) (sym (fun_ext set_now))
+      after s = now_is H rs b' (finish t P) (upd f t (opened (f t) k)) (suc k) standing s ∙ ap (λ x. settled_by x P.set s) op.plain
+          ∙ ap (λ S. settled (b.threads t).action st S s) (sym (fun_ext set_now))
 
       action_is : (act : Action) → (b.threads t).action ≡ act → (R.all.operation i).action ≡ action_number act
       action_is act q = op.action ∙ ap action_number q
@@ -200,11 +215,13 @@ module _ (H : Hist) (r : Rec) (rs : List Rec) (b b' : Bench) (P : Plain) (f : �
 pub pass : (H : Hist) (rs : List Rec) (b : Bench) (P : Plain) (f : ℕ → Option ℕ) (k : ℕ) (R : Reading) → Standing H rs b P f k → Linked b P R → Tidy R
     → OnlyThree (events_from rs b) → AllFinished (end_from rs b) → Passed H (events_from rs b) R f k
 pass H [] b P f k R z l tidy o fin = stops H b P R f k l tidy fin
-pass H (r ∷ rs) b P f k R z l tidy o fin = go (record_step b r.last r.first r.second r.extra) (next H r rs b P f k z) (did b r.last r.first r.second r.extra) o fin (λ b' P' f' R'. pass H rs b' P' f' (suc k) R')
+pass H (r ∷ rs) b P f k R z l tidy o fin =
+    go (record_step b r.last r.first r.second r.extra) (next H r rs b P f k z) (did b r.last r.first r.second r.extra) o fin (λ b' P' f' R'. pass H rs b' P' f' (suc k) R')
   where
     go : (res : Result) → Next H r rs b P (firsts r k f) k res → Did b (r.first / 16) r.second (r.first % 16) res
         → OnlyThree (events_by res b r (λ b'. events_from rs b')) → AllFinished (end_by res b (λ b'. end_from rs b'))
-        → ((b' : Bench) (P' : Plain) (f' : ℕ → Option ℕ) (R' : Reading) → Standing H rs b' P' f' (suc k) → Linked b' P' R' → Tidy R' → OnlyThree (events_from rs b') → AllFinished (end_from rs b') → Passed H (events_from rs b') R' f' (suc k))
+        → ((b' : Bench) (P' : Plain) (f' : ℕ → Option ℕ) (R' : Reading) → Standing H rs b' P' f' (suc k) → Linked b' P' R' → Tidy R' → OnlyThree (events_from rs b')
+        → AllFinished (end_from rs b') → Passed H (events_from rs b') R' f' (suc k))
         → Passed H (events_by res b r (λ b'. events_from rs b')) R f k
     go (refused _) _ _ o fin ih = stops H b P R f k l tidy fin
     go (carried b' no_row) (_, z') (small, inl s) o fin ih = start_case H r rs b b' P f k R z l tidy small (r.first % 16) s z' o fin (ih b')

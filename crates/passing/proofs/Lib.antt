@@ -11,3 +11,4 @@ pub mod Bytes
 pub mod RunRows
 pub mod RunEvents
 pub mod RunPasses
+pub mod Tallied

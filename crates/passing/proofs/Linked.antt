@@ -50,7 +50,8 @@ module _ (b : Bench) (P : Plain) (R : Reading) (t : ℕ) where
       go (works i q _ _ _ _ _) = absurd (true≢false (sym h ∙ q))
 
 -- a slot is as before where its operation asks the same
-frame : {th : Thread} {o : plain.Operation} {k : Option ℕ} {f : ℕ → Operation} (g : ℕ → Operation) → ((i : ℕ) → k ≡ Some i → ((g i).action ≡ (f i).action) × ((g i).station ≡ (f i).station)) → Slot th o k f → Slot th o k g
+frame : {th : Thread} {o : plain.Operation} {k : Option ℕ} {f : ℕ → Operation} (g : ℕ → Operation)
+    → ((i : ℕ) → k ≡ Some i → ((g i).action ≡ (f i).action) × ((g i).station ≡ (f i).station)) → Slot th o k f → Slot th o k g
 frame g h (rests a b c) = rests a b c
 frame g h (works i a b c d e s) = works i a b ((h i b).0 ∙ c) ((h i b).1 ∙ d) e s
 

@@ -99,12 +99,25 @@ module _ (H : ℕ → ℕ → Bool) (ops : Operations) where
     settle_one T list p = by (R.busy T) refl
       where
         same_list : ((i : ℕ) → R.busy T ≡ Some i → Status k (suc T) T i (f T) list) → SomePart (suc T)
-        same_list h = (list, record { answers = p.answers; keeps = p.keeps; within = p.within; future = p.future; beyond = p.beyond; opens = λ t i z. elim (t ==? T) [ yes q ↦ subst (λ x. Status k (suc T) x i (f x) list) (sym q) (h i (ap R.busy (sym q) ∙ z)) | no q ↦ raise T t i list (λ w. q (sym w)) (p.opens t i z) ] })
+        same_list h = (
+          list,
+          record {
+            answers = p.answers;
+            keeps = p.keeps;
+            within = p.within;
+            future = p.future;
+            beyond = p.beyond;
+            opens = λ t i z. elim (t ==? T) [ yes q ↦ subst (λ x. Status k (suc T) x i (f x) list) (sym q) (h i (ap R.busy (sym q) ∙ z)) | no q ↦ raise T t i list (λ w. q (sym w)) (p.opens t i z) ];
+          },
+        )
 
         by_status : (i : ℕ) → R.busy T ≡ Some i → Status k T T i (f T) list → SomePart (suc T)
         by_status i e (placed a) = same_list (λ j z. let d : Some i ≡ Some j = sym e ∙ z in let w : i ≡ j = cc in subst (λ x. Status k (suc T) T x (f T) list) w (placed a))
         by_status i e (past m u a b c d l y) = same_list (λ j z. let g : Some i ≡ Some j = sym e ∙ z in let w : i ≡ j = cc in subst (λ x. Status k (suc T) T x (f T) list) w (past m u a b c d l y))
-        by_status i e (now a b c d) = (i ∷ list, prepend (suc T) T i (H k) (H k) list e b (d ∙ rw c) (rw c) p.answers p.keeps p.within p.future p.beyond (λ v j q z. raise T v j list (λ w. q (sym w)) (p.opens v j z)))
+        by_status i e (now a b c d) = (
+          i ∷ list,
+          prepend (suc T) T i (H k) (H k) list e b (d ∙ rw c) (rw c) p.answers p.keeps p.within p.future p.beyond (λ v j q z. raise T v j list (λ w. q (sym w)) (p.opens v j z)),
+        )
 
         by : (l : Option ℕ) → R.busy T ≡ l → SomePart (suc T)
         by None e = same_list (λ i z. let w : None ≡ Some i = sym e ∙ z in cc)

@@ -103,7 +103,8 @@ module _ (H : Hist) where
           ];
           beyond = p.beyond;
           opens = λ v i d. let o = old_busy v i d in
-              status_back H ops k R f tidy (all_ask (e ∷ es) R) (all_count (e ∷ es) R) v i (upd f e.thread None v) ih.list (tidy.small v i d) (λ m. rw (ne_eqb v e.thread o.0) (λ a _. a)) (p.opens v i o.1);
+              status_back H ops k R f tidy (all_ask (e ∷ es) R) (all_count (e ∷ es) R) v i (upd f e.thread None v) ih.list (tidy.small v i d)
+              (λ m. rw (ne_eqb v e.thread o.0) (λ a _. a)) (p.opens v i o.1);
         }
 
   -- ---- a step that goes on
@@ -125,7 +126,8 @@ module _ (H : Hist) where
       }
 
   -- ---- a step that ends its operation i
-  module _ (e : Event) (es : List Event) (R : Reading) (f : ℕ → Option ℕ) (k i : ℕ) (tidy : Tidy R) (said : Bool) (mark : eqb e.mark 2 ≡ said) (some : e.mark ≢ 0) (doing : R.busy e.thread ≡ Some i) (pl : in_place e R ≡ true)
+  module _ (e : Event) (es : List Event) (R : Reading) (f : ℕ → Option ℕ) (k i : ℕ) (tidy : Tidy R) (said : Bool) (mark : eqb e.mark 2 ≡ said) (some : e.mark ≢ 0)
+      (doing : R.busy e.thread ≡ Some i) (pl : in_place e R ≡ true)
       (ih : Passed H es (noted e R) (upd f e.thread (opened (f e.thread) k)) (suc k)) where
     abbrev ops_e : Operations
     ops_e = (read_all (e ∷ es) R).all

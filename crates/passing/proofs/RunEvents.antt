@@ -34,7 +34,8 @@ snoc file (q ∷ rs) r p e = go (record_step p.bench q.last q.first q.second q.e
     go : (res : Result) → Did p.bench (q.first / 16) q.second (q.first % 16) res → advance file p q ≡ advance_by file p (q.first / 16) res
         → ((p' : Progress) → p'.refusal ≡ 0 → events_from (rs ++ r ∷ []) p'.bench ≡ events_from rs p'.bench ++ added (walk file rs p') r)
         → events_by res p.bench q (λ b'. events_from (rs ++ r ∷ []) b') ≡ events_by res p.bench q (λ b'. events_from rs b') ++ added (walk file rs (advance file p q)) r
-    go (refused k) d a ih = sym (ap (λ x. added x r) (ap (walk file rs) a ∙ stuck file rs (advance_by file p (q.first / 16) (refused k)) d) ∙ added_none (advance_by file p (q.first / 16) (refused k)) r d)
+    go (refused k) d a ih =
+        sym (ap (λ x. added x r) (ap (walk file rs) a ∙ stuck file rs (advance_by file p (q.first / 16) (refused k)) d) ∙ added_none (advance_by file p (q.first / 16) (refused k)) r d)
     go (carried b' w) d a ih =
         ap (λ l. event_of (q.first % 16) p.bench q w ++ l) (ih (advance_by file p (q.first / 16) (carried b' w)) refl)
         ∙ sym (append_assoc (event_of (q.first % 16) p.bench q w) (events_from rs b') (added (walk file rs (advance_by file p (q.first / 16) (carried b' w))) r))

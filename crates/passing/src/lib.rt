@@ -1,5 +1,5 @@
-// The proof that Judge accepts the bench's own runs (proofs/RunPasses.antt), what each record does to its thread (proofs/Did.antt), and
-// the room that a run's history needs.
+// The proof that Judge accepts the bench's own runs (proofs/RunPasses.antt), what each record does to its thread (proofs/Did.antt) and to a tally
+// that is kept while a run goes on (proofs/Tallied.antt), and the room that a run's history needs.
 #![tactic(auto)]
 
 ghost use Rattle.std.specs.Prelude.{◌≡◌, ◌+◌, ◌*◌, ◌≤◌};

@@ -63,9 +63,11 @@ abbrev pub chain : Bool → ℕ → List Rec
 chain on k = op on 2 63 3 (op on 2 62 3 (op on 4 62 3 (levels on 1 62 (rec on 17 0 ∷ steps on 16 k []))))
 
 pub open_off : waits 1 (chain false 63) (fresh false) None ≡ Some 63
-unfolding put lower upper check replaceable taken stepped started record_step reached onward followed blocked lacks cleared lost probe replaced step ite has insert remove union cut below from size least drop_least upper_half lower_half split_key ones_in count_trailing_zeros
+unfolding put lower upper check replaceable taken stepped started record_step reached onward followed blocked lacks cleared lost probe replaced
+    step ite has insert remove union cut below from size least drop_least upper_half lower_half split_key ones_in count_trailing_zeros
 open_off = refl
 
 pub open_on : waits 1 (chain true 65) (fresh true) None ≡ Some 65
-unfolding put lower upper check replaceable taken stepped started record_step reached onward followed blocked lacks cleared lost probe replaced step ite has insert remove union cut below from size least drop_least upper_half lower_half split_key ones_in count_trailing_zeros
+unfolding put lower upper check replaceable taken stepped started record_step reached onward followed blocked lacks cleared lost probe replaced
+    step ite has insert remove union cut below from size least drop_least upper_half lower_half split_key ones_in count_trailing_zeros
 open_on = refl

@@ -75,7 +75,8 @@ lines_of v count r rows l text =
     first_line (r.records % 10000) (count % 10000) (r.refusal % 10000) ++ (row_lines (headed v) r.rows rows ++ (take l.length text ++ last_line (r.stored % 10000) (r.used % 10000)))
 
 ended_lines : (file rows text : List ℕ) → count_of file ≤ 4096
-    → lines_of (version file) (count_of file) (report_of (ended file)) (overlay (ended file).rows rows) (listed_at file (ended file)) (overlay (listing file (ended file).bench) text) ≡ printed_at file (ended file)
+    → lines_of (version file) (count_of file) (report_of (ended file)) (overlay (ended file).rows rows) (listed_at file (ended file))
+    (overlay (listing file (ended file).bench) text) ≡ printed_at file (ended file)
 ended_lines file rows text few =
     let done : (ended file).done % 10000 ≡ (ended file).done = small _ (omega (arith, done_few file (count_of file))) in
     let count : count_of file % 10000 ≡ count_of file = small _ few in
@@ -83,7 +84,8 @@ ended_lines file rows text few =
     let held : stored (ended file).bench % 10000 ≡ stored (ended file).bench = small _ (omega (arith, reach_stored file (count_of file))) in
     let used : (ended file).bench.store.used % 10000 ≡ (ended file).bench.store.used = small _ (omega (arith, reach_used file (count_of file))) in
     let lines : row_lines (headed (version file)) (ended file).finished (overlay (ended file).rows rows) ≡ row_lines file (ended file).finished (ended file).rows =
-    version_lines (headed (version file)) file refl (ended file).finished (overlay (ended file).rows rows) ∙ lines_front file (ended file).finished (ended file).rows (drop (length (ended file).rows) rows) (row_bytes_lem file) in
+    version_lines (headed (version file)) file refl (ended file).finished (overlay (ended file).rows rows)
+    ∙ lines_front file (ended file).finished (ended file).rows (drop (length (ended file).rows) rows) (row_bytes_lem file) in
     rw (done, count, refusal, held, used, lines, take-append_seam)
 
 -- ---- what the code holds

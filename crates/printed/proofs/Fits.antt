@@ -38,7 +38,8 @@ decimal_few n = rw (length-append, length-append, length-append) (omega (
 
 action_few : (a : ℕ) → length (action_word a) ≤ 6
 unfolding action_word
-action_few a = one_of (eqb a 1) _ _ 6 (omega arith) (one_of (eqb a 2) _ _ 6 (omega arith) (one_of (eqb a 3) _ _ 6 (omega arith) (one_of (eqb a 4) _ _ 6 (omega arith) (one_of (eqb a 5) _ _ 6 (omega arith) (omega arith)))))
+action_few a = one_of (eqb a 1) _ _ 6 (omega arith)
+    (one_of (eqb a 2) _ _ 6 (omega arith) (one_of (eqb a 3) _ _ 6 (omega arith) (one_of (eqb a 4) _ _ 6 (omega arith) (one_of (eqb a 5) _ _ 6 (omega arith) (omega arith)))))
 
 word_few : (a : Answer) → length (rendered a).1 ≤ 3
 word_few No = omega arith
@@ -66,7 +67,8 @@ last_few held used = rw (length-append, length-append, length-append, length-app
 -- " 9999"
 depth_few : (file rows : List ℕ) → length (depth_text file rows) ≤ 5
 unfolding depth_text
-depth_few file rows = one_of (eqb (version file) 1) _ _ 5 (omega arith) (one_of (eqb (get_or rows 1 0) 1) _ _ 5 (one_of (eqb (get_or rows 3 0) 1) _ _ 5 (omega (arith, decimal_few (get_or rows 4 0 * 256 + get_or rows 5 0))) (omega arith)) (omega arith))
+depth_few file rows = one_of (eqb (version file) 1) _ _ 5 (omega arith)
+    (one_of (eqb (get_or rows 1 0) 1) _ _ 5 (one_of (eqb (get_or rows 3 0) 1) _ _ 5 (omega (arith, decimal_few (get_or rows 4 0 * 256 + get_or rows 5 0))) (omega arith)) (omega arith))
 
 row_few : (file rows : List ℕ) → length (row_line file rows) ≤ 27
 unfolding row_line
@@ -82,7 +84,14 @@ at_few : (file : List ℕ) → count_of file ≤ 4096 → length (printed_at fil
 at_few file few =
     let p : Progress = ended file in
     rw (length-append, length-append, length-append)
-    (omega (arith, first_few p.done (count_of file) p.refusal, rows_few file p.finished p.rows, finished_half file (count_of file), reach_fits file (count_of file), last_few (stored p.bench) p.bench.store.used))
+    (omega (
+      arith,
+      first_few p.done (count_of file) p.refusal,
+      rows_few file p.finished p.rows,
+      finished_half file (count_of file),
+      reach_fits file (count_of file),
+      last_few (stored p.bench) p.bench.store.used,
+    ))
 
 printed_few : (file : List ℕ) → (file_refusal file ≡ 0 → count_of file ≤ 4096) → length (printed file) ≤ 65536
 unfolding printed ite
@@ -92,7 +101,8 @@ printed_few file few = by (eqb (file_refusal file) 0) (eqb-true (file_refusal fi
     by true z = at_few file (few (z refl))
     by false z = omega (arith, first_few 0 0 (file_refusal file))
 
-pub stands_whole : (file out : List ℕ) {out' : List ℕ} {r : ℕ} → (file_refusal file ≡ 0 → count_of file ≤ 4096) → page out' r ≡ put_all (page out 0) (printed file) → 65536 ≤ length out → (r ≡ length (printed file)) × (out' ≡ overlay (printed file) out)
+pub stands_whole : (file out : List ℕ) {out' : List ℕ} {r : ℕ} → (file_refusal file ≡ 0 → count_of file ≤ 4096) → page out' r ≡ put_all (page out 0) (printed file)
+    → 65536 ≤ length out → (r ≡ length (printed file)) × (out' ≡ overlay (printed file) out)
 stands_whole file out few e h =
     let whole : page _ _ ≡ page (printed file ++ drop (length (printed file)) out) (length (printed file)) = e ∙ put_fits (printed file) out (omega (arith, printed_few file few)) in
     (ap (λ (p : Page). p.at) whole, ap (λ (p : Page). p.bytes) whole)

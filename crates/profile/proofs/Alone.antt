@@ -81,7 +81,8 @@ module _ {w : World} {hist : Hist} (mem : Mem w hist) where
   pub unmarked : {l : Option ℕ} (t : Tidy w.nodes w.used l None) (r : ℕ) → kind_of w r ≡ Route → Live w r → ((m : ℕ) → l ≡ Some m → (w.nodes r).mark ≢ Some m) → (w.nodes r).mark ≡ None
   unmarked {l} t r k lr h = go (w.nodes r).mark refl
     where
-      not_done : (m : ℕ) → (w.nodes r).mark ≡ Some m → kind_of w m ≡ Main → ((w.nodes m).parent ≡ Some r) ⊎ ((l ≡ Some m) × (◌≡◌ {A = Option ℕ} None (Some r))) → (l ≡ Some m) ⊎ ((w.nodes m).stage ≡ Done) → ⊥
+      not_done : (m : ℕ) → (w.nodes r).mark ≡ Some m → kind_of w m ≡ Main → ((w.nodes m).parent ≡ Some r) ⊎ ((l ≡ Some m) × (◌≡◌ {A = Option ℕ} None (Some r)))
+          → (l ≡ Some m) ⊎ ((w.nodes m).stage ≡ Done) → ⊥
       not_done m e km (inr (_, z)) _ = clash (cc)
       not_done m e km (inl p) (inl z) = h m z e
       not_done m e km (inl p) (inr z) = alive lr (done_dead m r km (mem.marks.main r m k (lives lr) e).1 z p)

@@ -68,7 +68,8 @@ module _ (file : List ℕ) where
     unfolding cut_run ite
     profile_by_run = elim (test (ltb j count)) [
       | on m ↦ elim ((after file j).refusal ==? 0) [
-        | yes e ↦ rw (m, eq-eqb (after file j).refusal 0 e) (stay (suc j) count (ltb-true j count m) (λ z. ended (sym (ap (λ p. p.refusal) (stops e (ltb-true j count m))) ∙ z)) ∙ stops e (ltb-true j count m))
+        | yes e ↦ rw (m, eq-eqb (after file j).refusal 0 e)
+            (stay (suc j) count (ltb-true j count m) (λ z. ended (sym (ap (λ p. p.refusal) (stops e (ltb-true j count m))) ∙ z)) ∙ stops e (ltb-true j count m))
         | no e ↦ rw (m, ne_eqb (after file j).refusal 0 e) (stay j count c.low (λ z. e (sym (ap (λ p. p.refusal) at_cut) ∙ z)) ∙ at_cut)
       ]
       | off m ↦ rw m (ap (profile_after file) (all (ltb-false j count m) c.low) ∙ at_cut)

@@ -72,7 +72,8 @@ module _ (s : Store) (th : Thread) (c : ℕ) where
       swung v i = (
         P,
         close_hang v (s.nodes th.main).union s k,
-        rw (grand_hang v (s.nodes th.main).union s th.main) (over_hang v (s.nodes th.main).union s th.main P (s.nodes th.main).grandparent (λ z. ib (ap (λ y. (s.nodes y).kind) (sym (sits_occupant s v (s.nodes th.main).neighbour i) ∙ z) ∙ k.route)) o),
+        rw (grand_hang v (s.nodes th.main).union s th.main) (over_hang v (s.nodes th.main).union s th.main P (s.nodes th.main).grandparent
+            (λ z. ib (ap (λ y. (s.nodes y).kind) (sym (sits_occupant s v (s.nodes th.main).neighbour i) ∙ z) ∙ k.route)) o),
       )
 
       by : (p : Probe) → Probed s (s.nodes th.main).neighbour q p → Ok (united_by p (shape (s.nodes th.main)) th)
@@ -119,8 +120,10 @@ module _ (s : Store) (th : Thread) (c : ℕ) where
   at_46 (P, k, o) = go (s.nodes th.main).grandparent refl o
     where
       go : (l : Option ℕ) → (s.nodes th.main).grandparent ≡ l → Over s th.main P l → Ok (cut_at l (shape (s.nodes th.main)) (λ z. shape (s.nodes z)) s.root th)
-      go None e i = pick_true Ok _ _ _ (names_it (s.nodes th.main).parent P s.root k.parent i) (record { act = k.act; owner = k.owner; tidy = tidy_hang Root (replacement (shape (s.nodes th.main))) s (rw e at k.tidy) })
-      go (Some G) e (f, (i, j, l)) = fork s th c _ _ _ (λ z. (P, G, k, e, (named (s.nodes th.main).parent P (s.nodes G).left k.parent z, j, l))) (λ z. (P, G, k, e, (other f i (not_named (s.nodes th.main).parent P (s.nodes G).left k.parent z), j, l)))
+      go None e i = pick_true Ok _ _ _ (names_it (s.nodes th.main).parent P s.root k.parent i)
+          (record { act = k.act; owner = k.owner; tidy = tidy_hang Root (replacement (shape (s.nodes th.main))) s (rw e at k.tidy) })
+      go (Some G) e (f, (i, j, l)) = fork s th c _ _ _ (λ z. (P, G, k, e, (named (s.nodes th.main).parent P (s.nodes G).left k.parent z, j, l)))
+          (λ z. (P, G, k, e, (other f i (not_named (s.nodes th.main).parent P (s.nodes G).left k.parent z), j, l)))
         where
           other : (f : Bool) → kid_at f (s.nodes G) ≡ P → (s.nodes G).left ≢ P → (s.nodes G).right ≡ P
           other true i z = absurd (z i)
@@ -128,7 +131,8 @@ module _ (s : Store) (th : Thread) (c : ℕ) where
 
   -- ---- 47 to 50
 
-  cuts : (d : Bool) (P G : ℕ) → Close s th.action th.owner th.main P → (s.nodes th.main).grandparent ≡ Some G → OnSide s th.main P G d → Ok (cut_on d (s.nodes th.main).grandparent (shape (s.nodes th.main)) (λ z. shape (s.nodes z)) th)
+  cuts : (d : Bool) (P G : ℕ) → Close s th.action th.owner th.main P → (s.nodes th.main).grandparent ≡ Some G → OnSide s th.main P G d
+      → Ok (cut_on d (s.nodes th.main).grandparent (shape (s.nodes th.main)) (λ z. shape (s.nodes z)) th)
   cuts d P G k e (i, j, l) = subst (λ z. Ok (cut_on d z (shape (s.nodes th.main)) (λ z. shape (s.nodes z)) th)) (sym e) (pick_true Ok _ _ _ (names_it _ P _ k.parent i) (
     G,
     record {

@@ -68,7 +68,8 @@ pick_false P k o o' e h = rw e h
 -- a new base that is no main, put where another was
 pub quiet_base : (s : Store) (v : Spot) (k : Kind) (p : Option ℕ) (x : Container) (m : ℕ) {l g : Option ℕ} → k ≢ Main → k ≢ Range → Tidy s.nodes s.used l g
     → Tidy (hang v s.used (push s.used (new_base k p x m) s)).nodes (hang v s.used (push s.used (new_base k p x m) s)).used l g
-quiet_base s v k p x m h ra t = tidy_hang v s.used (push s.used (new_base k p x m) s) (tidy_used (tidy_fill t s.used (new_base k p x m) (omega arith) h refl (λ z. clash (cc)) ra) (suc s.used) (omega arith))
+quiet_base s v k p x m h ra t =
+    tidy_hang v s.used (push s.used (new_base k p x m) s) (tidy_used (tidy_fill t s.used (new_base k p x m) (omega arith) h refl (λ z. clash (cc)) ra) (suc s.used) (omega arith))
 
 module _ {b : Bench} {hist : Hist} {now : ℕ} {first : ℕ → Option ℕ} (inv : Inv b hist now first) (c : ℕ) where
   abbrev th : Thread
@@ -182,7 +183,8 @@ module _ {b : Bench} {hist : Hist} {now : ℕ} {first : ℕ → Option ℕ} (inv
       put Remove v i = fork s th c _ _ _ (λ _. (quiet_base s v Normal _ _ 0 (λ z. clash (cc)) (λ z. clash (cc)) t, neither s th _ (λ z. clash (cc)) (λ z. clash (cc)))) (λ _. tt)
       put Split v i = fork s th c _ _ _ (λ _. (
         tidy_hang v s.used (store _ s.root (s.used + 3) s.stores s.shown s.stop) (tidy_used
-            (tidy_fill (tidy_fill (tidy_fill t s.used _ (omega arith) (λ z. clash (cc)) refl (λ z. clash (cc)) (λ z. clash (cc))) (s.used + 1) _ (omega arith) (λ z. clash (cc)) refl (λ z. clash (cc)) (λ z. clash (cc))) (s.used + 2) _ (omega arith) (λ z. clash (cc)) refl (λ z. clash (cc)) (λ z. clash (cc)))
+            (tidy_fill (tidy_fill (tidy_fill t s.used _ (omega arith) (λ z. clash (cc)) refl (λ z. clash (cc)) (λ z. clash (cc))) (s.used + 1) _ (omega arith)
+            (λ z. clash (cc)) refl (λ z. clash (cc)) (λ z. clash (cc))) (s.used + 2) _ (omega arith) (λ z. clash (cc)) refl (λ z. clash (cc)) (λ z. clash (cc)))
             (s.used + 3) (omega arith)),
         ((λ z. absurd (clash (cc))), (λ _. inl refl)),
       )) (λ _. tt)

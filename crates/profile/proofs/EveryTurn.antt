@@ -14,7 +14,9 @@ use Rattle.definitions.specs.declared.Probe.{Probe}
 use Rattle.definitions.specs.Threads.{Thread}
 use Rattle.definitions.specs.Nodes.{is_preparing, shape}
 use Rattle.definitions.specs.Bench.{sight_of, Store, Bench}
-use Rattle.definitions.specs.Places.{Place, nowhere, p1, p2, p3, p4, p5, p15, p16, p19, p20, p21, p22, p23, p24, p25, p30, p31, p32, p33, p34, p35, p36, p37, p38, p40, p45, p46, p47, p48, p49, p50, p51, p60, p61, p62, p70, p71, p72, p73, p74, p76, p81, p82, swap, own, found, united, opening, next as next_of}
+use Rattle.definitions.specs.Places.{Place, nowhere, p1, p2, p3, p4, p5, p15, p16, p19, p20, p21, p22, p23, p24, p25, p30, p31}
+use Rattle.definitions.specs.Places.{p32, p33, p34, p35, p36, p37, p38, p40, p45, p46, p47, p48, p49, p50, p51, p60, p61, p62, p70}
+use Rattle.definitions.specs.Places.{p71, p72, p73, p74, p76, p81, p82, swap, own, found, united, opening, next as next_of}
 use Rattle.definitions.specs.Steps.{step, is_nil}
 use Rattle.definitions.specs.Records.{is_idle}
 use Rattle.profile.specs.Claim.{missed, grand_taken, root_lost, side_lost, mark_lost, compares, fails, updates}
@@ -148,7 +150,8 @@ module _ {b : Bench} {hist : Hist} {now : ℕ} {first : ℕ → Option ℕ} (inv
   turn off (swap opening q) e h m = absurd m
   turn off (swap next_of q) e h m = absurd m
 
-  side_found : (d : Bool) (P G : ℕ) → Close s th.action th.owner th.main P → (s.nodes th.main).grandparent ≡ Some G → OnSide s th.main P G d → side_lost d (s.nodes th.main).grandparent (shape (s.nodes th.main)) (sight_of s) ≡ false
+  side_found : (d : Bool) (P G : ℕ) → Close s th.action th.owner th.main P → (s.nodes th.main).grandparent ≡ Some G → OnSide s th.main P G d
+      → side_lost d (s.nodes th.main).grandparent (shape (s.nodes th.main)) (sight_of s) ≡ false
   side_found d P G k e i = subst (λ z. side_lost d z (shape (s.nodes th.main)) (sight_of s) ≡ false) (sym e) (ap not (names_it (s.nodes th.main).parent P (kid_at d (s.nodes G)) k.parent i.0))
 
   -- no swap fails

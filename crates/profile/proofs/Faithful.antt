@@ -23,7 +23,9 @@ use Rattle.definitions.specs.declared.Node.{Node}
 use Rattle.definitions.specs.declared.Action.{Action}
 use Rattle.definitions.specs.declared.Action.TheVariants.{Lookup, Insert, Remove, Split, Join, Query}
 use Rattle.definitions.specs.Bench.{Sight}
-use Rattle.definitions.specs.Places.{nowhere, p1, p2, p3, p4, p5, p15, p16, p19, p20, p21, p22, p23, p24, p25, p30, p31, p32, p33, p34, p35, p36, p37, p38, p40, p45, p46, p47, p48, p49, p50, p51, p60, p61, p62, p70, p71, p72, p73, p74, p76, p81, p82, swap, own, found, united, opening, next as next_of, quarter_number, at, at_frames}
+use Rattle.definitions.specs.Places.{nowhere, p1, p2, p3, p4, p5, p15, p16, p19, p20, p21, p22, p23, p24, p25, p30, p31, p32, p33, p34}
+use Rattle.definitions.specs.Places.{p35, p36, p37, p38, p40, p45, p46, p47, p48, p49, p50, p51, p60, p61, p62, p70, p71, p72, p73, p74}
+use Rattle.definitions.specs.Places.{p76, p81, p82, swap, own, found, united, opening, next as next_of, quarter_number, at, at_frames}
 use Rattle.definitions.specs.Steps.{goes, room, lost_as, lost, back_out, probe, replaced_as, replaced, own_by, found_by, united_by, grand_marking, names, cut_at, cut_on, cut_right, freeing, step}
 use Rattle.profile.specs.Claim.{missed, grand_taken, root_lost, side_lost, mark_lost, cut_to, compares, fails, FailsExactly}
 
@@ -201,7 +203,8 @@ fails_exactly p25 s th = anyway _ (tested _ _ _ (with_room 1 s.used _ _ (λ e. o
 fails_exactly (swap found q) s th = anyway _ (found_out s th (probe q (s.nodes th.found).parent s.nodes s.root th.found))
 fails_exactly p30 s th = anyway _ (tested _ _ _ (λ e. omega (arith, ap leads e)))
 fails_exactly p33 s th = anyway _ (grand_out s th th.grandparent)
-fails_exactly p35 s th = anyway _ (tested _ _ _ (with_room 1 s.used _ _ (back_apart s th th.grandparent _ (λ e. omega arith) (λ e. omega arith)) (back_apart s th th.grandparent _ (λ e. omega arith) (λ e. omega arith))))
+fails_exactly p35 s th =
+    anyway _ (tested _ _ _ (with_room 1 s.used _ _ (back_apart s th th.grandparent _ (λ e. omega arith) (λ e. omega arith)) (back_apart s th th.grandparent _ (λ e. omega arith) (λ e. omega arith))))
 fails_exactly (swap united q) s th = anyway _ (united_out s th (probe q (s.nodes (s.nodes th.main).neighbour).parent s.nodes s.root (s.nodes th.main).neighbour))
 fails_exactly p46 s th = anyway _ (root_out s th (s.nodes th.main).grandparent (s.nodes th.main))
 fails_exactly p47 s th = anyway _ (side_out s th true (s.nodes th.main).grandparent (s.nodes th.main))

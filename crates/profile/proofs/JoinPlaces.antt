@@ -134,7 +134,24 @@ module _ {b : Bench} {hist : Hist} {now : ℕ} {first : ℕ → Option ℕ} (inv
   at_25 e (k, q, ib) = pick_true Ok _ _ _ (eq-eqb _ _ k.here) (fork s th c _ _ _ (λ _. made) (λ _. tt))
     where
       made : Mine (swap found ReadLeft) (hang (Under th.parent th.left) s.used (push s.used M s))
-          (record { action = th.action; station = th.station; extra = th.extra; place = 26; route = th.route; read = th.read; base = th.base; parent = th.parent; left = th.left; found = th.found; neighbour = th.neighbour; main = s.used; owner = true; grandparent = th.grandparent; other = th.other; frames = th.frames }) (suc c)
+          (record {
+            action = th.action;
+            station = th.station;
+            extra = th.extra;
+            place = 26;
+            route = th.route;
+            read = th.read;
+            base = th.base;
+            parent = th.parent;
+            left = th.left;
+            found = th.found;
+            neighbour = th.neighbour;
+            main = s.used;
+            owner = true;
+            grandparent = th.grandparent;
+            other = th.other;
+            frames = th.frames;
+          }) (suc c)
       made = let u = s.used in let v = M in let sp = Under th.parent th.left in let s1 = push u v s in
           let lp : th.parent < u = (mem inv c).shape.low th.parent (lives (live_of inv c th.parent k.reach)) in
           let lf : th.found < u = (mem inv c).shape.low th.found (lives (live_of inv c th.found q)) in
@@ -262,7 +279,8 @@ module _ {b : Bench} {hist : Hist} {now : ℕ} {first : ℕ → Option ℕ} (inv
   pub free_33 : (o : Mine p33 s th c) → (s.nodes o.2).mark ≡ None
   free_33 (k, h, G, e, a) = unmarked (mem inv c) k.tidy G a.route (live_of inv c G a.reach) (λ m z i. go m z i (k.tidy.marks G m i).1)
     where
-      go : (m : ℕ) → ◌≡◌ {A = Option ℕ} (Some th.main) (Some m) → (s.nodes G).mark ≡ Some m → ((s.nodes m).parent ≡ Some G) ⊎ ((◌≡◌ {A = Option ℕ} (Some th.main) (Some m)) × (◌≡◌ {A = Option ℕ} None (Some G))) → ⊥
+      go : (m : ℕ) → ◌≡◌ {A = Option ℕ} (Some th.main) (Some m) → (s.nodes G).mark ≡ Some m
+          → ((s.nodes m).parent ≡ Some G) ⊎ ((◌≡◌ {A = Option ℕ} (Some th.main) (Some m)) × (◌≡◌ {A = Option ℕ} None (Some G))) → ⊥
       go m z i (inl p) = a.apart (let v = k.parent in let y : th.main ≡ m = cc in cc)
       go m z i (inr (_, p)) = clash (cc)
 
@@ -302,7 +320,8 @@ module _ {b : Bench} {hist : Hist} {now : ℕ} {first : ℕ → Option ℕ} (inv
     record {
       act = k.act;
       owner = k.owner;
-      tidy = subst (λ z. Tidy (s3 p x).nodes (s3 p x).used (Some th.main) z) (sym (ap (λ z. z.grandparent) zm)) (tidy_close (s2 p x).nodes (suc s.used) th.main (C p x) (record { kind = refl; mark = refl; parent = refl })
+      tidy = subst (λ z. Tidy (s3 p x).nodes (s3 p x).used (Some th.main) z) (sym (ap (λ z. z.grandparent) zm))
+          (tidy_close (s2 p x).nodes (suc s.used) th.main (C p x) (record { kind = refl; mark = refl; parent = refl })
           (tidy_used (tidy_fill k.tidy s.used (united p x) (omega arith) (λ z. clash (cc)) refl (λ z. clash (cc)) (λ z. clash (cc))) (suc s.used) (omega arith)) (λ z. clash (cc)));
       kind = (fr th.main lm).kind ∙ k.kind;
       stage = ap (λ z. z.stage) zm;

@@ -22,7 +22,9 @@ use Rattle.definitions.specs.declared.Probe.TheVariants.{Hit, Next}
 use Rattle.definitions.specs.Threads.{Thread}
 use Rattle.definitions.specs.Nodes.{Entry, shape, over, with_kid}
 use Rattle.definitions.specs.Bench.{Store}
-use Rattle.definitions.specs.Places.{Place, nowhere, p1, p2, p3, p4, p5, p15, p16, p19, p20, p21, p22, p23, p24, p25, p30, p31, p32, p33, p34, p35, p36, p37, p38, p40, p45, p46, p47, p48, p49, p50, p51, p60, p61, p62, p70, p71, p72, p73, p74, p76, p81, p82, swap, own, found, united, opening, next as next_of}
+use Rattle.definitions.specs.Places.{Place, nowhere, p1, p2, p3, p4, p5, p15, p16, p19, p20, p21, p22, p23, p24, p25, p30, p31}
+use Rattle.definitions.specs.Places.{p32, p33, p34, p35, p36, p37, p38, p40, p45, p46, p47, p48, p49, p50, p51, p60, p61, p62, p70}
+use Rattle.definitions.specs.Places.{p71, p72, p73, p74, p76, p81, p82, swap, own, found, united, opening, next as next_of}
 use Rattle.definitions.specs.Effects.{hang, push}
 use Rattle.definitions.specs.Steps.{probe}
 use Rattle.answers.specs.Reachable.{Reached}

@@ -130,7 +130,8 @@ not_among n Q [] h q = refl
 not_among n Q (k ∷ l) (h, h') q = rw (ne_eqb n k (λ i. h (subst (λ v. Q (place_of v)) i q))) (not_among n Q l h' q)
 
 writer_shut : (s : Store) (th : Thread) (c : ℕ) → Shut (λ p. Mine p s th c) asides
-writer_shut s th c = ((λ q. q), ((λ q. q), ((λ q. q), ((λ q. q), ((λ q. q), ((λ q. q), ((λ q. q), ((λ q. q), ((λ q. q), ((λ q. q), ((λ q. q), ((λ q. q), ((λ q. q), ((λ q. q), ((λ q. q), ((λ q. q), ((λ q. q), ((λ q. q), ((λ q. q), ((λ q. q), ((λ q. q), ((λ q. q), ((λ q. q), ((λ q. q), ((λ q. q), ((λ q. q), ((λ q. q), tt)))))))))))))))))))))))))))
+writer_shut s th c = let i : ⊥ → ⊥ = λ q. q in
+    (i, (i, (i, (i, (i, (i, (i, (i, (i, (i, (i, (i, (i, (i, (i, (i, (i, (i, (i, (i, (i, (i, (i, (i, (i, (i, (i, tt)))))))))))))))))))))))))))
 
 roams_straight : (n : ℕ) → Roams n → among n asides ≡ false
 roams_straight n (resting e) = rw e
@@ -226,17 +227,21 @@ module _ {b : Bench} {hist : Hist} {now : ℕ} {f : ℕ → Option ℕ} (inv : I
 
   steps : (t : ℕ) → Kept 0 t (stepped b t y d)
   unfolding stepped
-  steps t = pick 0 t _ _ _ (λ _. pick 0 t _ _ _ (λ _. pick 0 t _ _ _ (λ _. tt) (λ i. elim (t ==? 0) [ yes e ↦ at_0 t e i | no e ↦ taken_other t e _ (looking b.store (b.threads t) z.out (z.others t e)) ])) (λ _. tt)) (λ _. tt)
+  steps t = pick 0 t _ _ _
+      (λ _. pick 0 t _ _ _ (λ _. pick 0 t _ _ _ (λ _. tt) (λ i. elim (t ==? 0) [ yes e ↦ at_0 t e i | no e ↦ taken_other t e _ (looking b.store (b.threads t) z.out (z.others t e)) ])) (λ _. tt))
+      (λ _. tt)
     where
       at_0 : (t : ℕ) → t ≡ 0 → is_idle (b.threads t) ≡ false → Kept 0 t (taken b t (step (place_of (b.threads t).place) (sight_of b.store) (b.threads t)))
       at_0 t e i = let i' : is_idle (b.threads 0) ≡ false = rw e at i in
-          subst (λ v. Kept 0 v (taken b v (step (place_of (b.threads v).place) (sight_of b.store) (b.threads v)))) (sym e) (taken_mine _ (turn inv (c 0) z.out (place_of (b.threads 0).place) refl i' z.mine) (brief inv (c 0) (place_of (b.threads 0).place) refl i' z.mine))
+          subst (λ v. Kept 0 v (taken b v (step (place_of (b.threads v).place) (sight_of b.store) (b.threads v)))) (sym e)
+          (taken_mine _ (turn inv (c 0) z.out (place_of (b.threads 0).place) refl i' z.mine) (brief inv (c 0) (place_of (b.threads 0).place) refl i' z.mine))
 
   -- ---- starts
 
   begins : (n t : ℕ) (a : Action) → (t ≢ 0 → a ≡ Lookup) → Kept (suc n) t (started b t a y d)
   unfolding started
-  begins n t a h = pick (suc n) t _ _ _ (λ _. tt) (λ _. pick (suc n) t _ _ _ (λ _. pick (suc n) t _ _ _ (λ i. ((λ _. rw (eq-eqb t t refl) (omega arith)), tt, elim (t ==? 0) [ yes e ↦ at_0 e i | no e ↦ at_other_lem e ])) (λ _. tt)) (λ _. tt))
+  begins n t a h = pick (suc n) t _ _ _ (λ _. tt)
+      (λ _. pick (suc n) t _ _ _ (λ _. pick (suc n) t _ _ _ (λ i. ((λ _. rw (eq-eqb t t refl) (omega arith)), tt, elim (t ==? 0) [ yes e ↦ at_0 e i | no e ↦ at_other_lem e ])) (λ _. tt)) (λ _. tt))
     where
       at_0 : t ≡ 0 → is_idle (b.threads t) ≡ true → Solo (bench b.store (upd b.threads t (begun a y d 1))) (counted (suc n) t c)
       at_0 e i = let i' : is_idle (b.threads 0) ≡ true = rw e at i in

@@ -136,7 +136,8 @@ list_past file (q ∷ rs) r p c e (now, h) i = subst Ok (sym (on_step file p q e
     c' = counted (q.first % 16) (q.first / 16) c
 
     Ok : Progress → Type 0
-    Ok v = (all_of file rs v).refusal ≡ 0 → Past (profile_step (all_of file rs v).bench r) (all_of file rs v).bench (r.first / 16) (counted (r.first % 16) (r.first / 16) (steps_by rs c')) (λ _. Unit {0})
+    Ok v = (all_of file rs v).refusal ≡ 0
+        → Past (profile_step (all_of file rs v).bench r) (all_of file rs v).bench (r.first / 16) (counted (r.first % 16) (r.first / 16) (steps_by rs c')) (λ _. Unit {0})
 
     go : (o : Result) → Numbered o → Past o p.bench (q.first / 16) c' (λ b'. Throughout (rs ++ r ∷ []) b' c')
         → ((v : Progress) → v.refusal ≡ 0 → Throughout (rs ++ r ∷ []) v.bench c' → Ok v) → Ok (advance_by file p (q.first / 16) o)
@@ -147,7 +148,8 @@ profile_sound : (file : List ℕ) → stop_of file ≡ false → (k : ℕ) → S
 unfolding records_of
 profile_sound file e k = record {
   calm = profile_calm file k e;
-  past = subst (λ p. p.refusal ≡ 0 → Past (profile_step p.bench (record_at file k)) p.bench ((record_at file k).first / 16) (counted ((record_at file k).first % 16) ((record_at file k).first / 16) (steps_by (records_of file k) (λ _. 0))) (λ _. Unit {0}))
+  past = subst (λ p. p.refusal ≡ 0 → Past (profile_step p.bench (record_at file k)) p.bench ((record_at file k).first / 16)
+      (counted ((record_at file k).first % 16) ((record_at file k).first / 16) (steps_by (records_of file k) (λ _. 0))) (λ _. Unit {0}))
       (sym (after_is file k)) (list_past file (records_of file k) (record_at file k) (begin (stop_of file)) (λ _. 0) refl (off_start file (records_of file (suc k)) e));
 }
 

@@ -120,7 +120,8 @@ module _ (file : List ℕ) where
       none : (v : Bool) → 0 ≡ wide v * 0
       none v = omega arith
   all_good sound (suc k) = elim ((profile_after file k).refusal ==? 0) [
-    | yes e ↦ rw (on_step file (profile_after file k) (record_at file k) e) (record_good (profile_after file k) ((record_at file k).first / 16) (profile_step (profile_after file k).bench (record_at file k))
+    | yes e ↦ rw (on_step file (profile_after file k) (record_at file k) e)
+        (record_good (profile_after file k) ((record_at file k).first / 16) (profile_step (profile_after file k).bench (record_at file k))
         (counted ((record_at file k).first % 16) ((record_at file k).first / 16) (steps_by (records_of file k) (λ _. 0))) (all_good sound k) ((sound k).past e))
     | no e ↦ rw (off_step file (profile_after file k) (record_at file k) e) (all_good sound k)
   ]

@@ -109,7 +109,8 @@ tidy_main {n} {u} t v m a ra = record {
     only x (inl e) = absurd (clash (cc))
     only x (inr e) = e
 
-    its : (r m' : ℕ) → ((n m').parent ≡ Some r) ⊎ ((◌≡◌ {A = Option ℕ} None (Some m')) × (◌≡◌ {A = Option ℕ} None (Some r))) → ((n m').parent ≡ Some r) ⊎ ((◌≡◌ {A = Option ℕ} (Some u) (Some m')) × (◌≡◌ {A = Option ℕ} None (Some r)))
+    its : (r m' : ℕ) → ((n m').parent ≡ Some r) ⊎ ((◌≡◌ {A = Option ℕ} None (Some m')) × (◌≡◌ {A = Option ℕ} None (Some r)))
+        → ((n m').parent ≡ Some r) ⊎ ((◌≡◌ {A = Option ℕ} (Some u) (Some m')) × (◌≡◌ {A = Option ℕ} None (Some r)))
     its r m' (inl e) = inl e
     its r m' (inr (e, _)) = absurd (clash (cc))
 
@@ -123,11 +124,13 @@ new_unmarked {n} {u} t v m r = elim (r ==? u) [
 -- ---- marks
 
 module _ (n : Nodes) (u m : ℕ) (km : (n m).kind ≡ Main) (r : ℕ) where
-  fields : (k : Option ℕ) (x : ℕ) → ((upd n r (over (with_mark k) (n r)) x).kind ≡ (n x).kind) × ((upd n r (over (with_mark k) (n r)) x).parent ≡ (n x).parent) × ((upd n r (over (with_mark k) (n r)) x).stage ≡ (n x).stage)
+  fields : (k : Option ℕ) (x : ℕ) → ((upd n r (over (with_mark k) (n r)) x).kind ≡ (n x).kind) × ((upd n r (over (with_mark k) (n r)) x).parent ≡ (n x).parent)
+      × ((upd n r (over (with_mark k) (n r)) x).stage ≡ (n x).stage)
   fields k x = elim (x ==? r) [ yes e ↦ rw (eq-eqb x r e, e) (refl, refl, refl) | no e ↦ rw (ne_eqb x r e) (refl, refl, refl) ]
 
   remark : (k : Option ℕ) {g g' : Option ℕ} → Tidy n u (Some m) g
-      → ((r' m' : ℕ) → (upd n r (over (with_mark k) (n r)) r').mark ≡ Some m' → ((n m').kind ≡ Main) × (((n m').parent ≡ Some r') ⊎ ((◌≡◌ {A = Option ℕ} (Some m) (Some m')) × (g' ≡ Some r')))) → Tidy (upd n r (over (with_mark k) (n r))) u (Some m) g'
+      → ((r' m' : ℕ) → (upd n r (over (with_mark k) (n r)) r').mark ≡ Some m' → ((n m').kind ≡ Main) × (((n m').parent ≡ Some r') ⊎ ((◌≡◌ {A = Option ℕ} (Some m) (Some m')) × (g' ≡ Some r'))))
+      → Tidy (upd n r (over (with_mark k) (n r))) u (Some m) g'
   remark k t f = record {
     mains = λ x e. let (a, _, c) = fields k x in let (i, o) = t.mains x (sym a ∙ e) in (i, rw c o);
     marks = λ r' m' e. let (i, o) = f r' m' e in let (a, b, _) = fields k m' in (a ∙ i, rw b o);
@@ -149,7 +152,8 @@ module _ (n : Nodes) (u m : ℕ) (km : (n m).kind ≡ Main) (r : ℕ) where
     | no e ↦ rw (ne_eqb r' r e) (λ z. let (i, o) = t.marks r' m' z in (i, own r' m' o))
   ])
     where
-      own : (r' m' : ℕ) → ((n m').parent ≡ Some r') ⊎ ((◌≡◌ {A = Option ℕ} (Some m) (Some m')) × (◌≡◌ {A = Option ℕ} None (Some r'))) → ((n m').parent ≡ Some r') ⊎ ((◌≡◌ {A = Option ℕ} (Some m) (Some m')) × (◌≡◌ {A = Option ℕ} (Some r) (Some r')))
+      own : (r' m' : ℕ) → ((n m').parent ≡ Some r') ⊎ ((◌≡◌ {A = Option ℕ} (Some m) (Some m')) × (◌≡◌ {A = Option ℕ} None (Some r')))
+          → ((n m').parent ≡ Some r') ⊎ ((◌≡◌ {A = Option ℕ} (Some m) (Some m')) × (◌≡◌ {A = Option ℕ} (Some r) (Some r')))
       own r' m' (inl e) = inl e
       own r' m' (inr (_, e)) = absurd (clash (cc))
 
@@ -160,7 +164,8 @@ module _ (n : Nodes) (u m : ℕ) (km : (n m).kind ≡ Main) (r : ℕ) where
     | no e ↦ rw (ne_eqb r' r e) (λ z. let (i, o) = t.marks r' m' z in (i, own r' m' e o))
   ])
     where
-      own : (r' m' : ℕ) → r' ≢ r → ((n m').parent ≡ Some r') ⊎ ((◌≡◌ {A = Option ℕ} (Some m) (Some m')) × (◌≡◌ {A = Option ℕ} (Some r) (Some r'))) → ((n m').parent ≡ Some r') ⊎ ((◌≡◌ {A = Option ℕ} (Some m) (Some m')) × (◌≡◌ {A = Option ℕ} None (Some r')))
+      own : (r' m' : ℕ) → r' ≢ r → ((n m').parent ≡ Some r') ⊎ ((◌≡◌ {A = Option ℕ} (Some m) (Some m')) × (◌≡◌ {A = Option ℕ} (Some r) (Some r')))
+          → ((n m').parent ≡ Some r') ⊎ ((◌≡◌ {A = Option ℕ} (Some m) (Some m')) × (◌≡◌ {A = Option ℕ} None (Some r')))
       own r' m' h (inl e) = inl e
       own r' m' h (inr (_, e)) = absurd (h (cc))
 

@@ -12,7 +12,9 @@ use Rattle.definitions.specs.Threads.{Frame, Thread, Turn}
 use Rattle.definitions.specs.Nodes.{Shapes, Stores}
 use Rattle.definitions.specs.Bench.{Sight, sight}
 use Rattle.definitions.specs.Frames.{in_frame}
-use Rattle.definitions.specs.Places.{own, found, united, opening, next, number, Place, nowhere, p1, p2, p3, p4, p5, p15, p16, p19, p20, p21, p22, p23, p24, p25, p30, p31, p32, p33, p34, p35, p36, p37, p38, p40, p45, p46, p47, p48, p49, p50, p51, p60, p61, p62, p70, p71, p72, p73, p74, p76, p81, p82, swap, place_of}
+use Rattle.definitions.specs.Places.{own, found, united, opening, next, number, Place, nowhere, p1, p2, p3, p4, p5, p15, p16, p19}
+use Rattle.definitions.specs.Places.{p20, p21, p22, p23, p24, p25, p30, p31, p32, p33, p34, p35, p36, p37, p38, p40, p45, p46, p47}
+use Rattle.definitions.specs.Places.{p48, p49, p50, p51, p60, p61, p62, p70, p71, p72, p73, p74, p76, p81, p82, swap, place_of}
 use Rattle.definitions.specs.Steps.{probe, opened_by, extended_by, step}
 use Rattle.answers.proofs.PlaceNumbers.{number_of}
 

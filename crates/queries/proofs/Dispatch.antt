@@ -95,17 +95,20 @@ module _ {p : ℕ} (m : 60 ≤ p) (a : p < 63 → ⊥) (b : 63 < p → p < 68 �
   unfolding step
   bare_stays s th o q = ap₂ (λ (x : ℕ) (l : List Frame). Moves (to_frames x l th) Quiet) (sym q) (sym o) ∙ ap (λ (v : Place). step v s th) (sym (unlisted m a b c d))
 
-pub bare_takes : (s : Sight) (h : ℕ → Frame) (t p d : ℕ) (a : Action) (l u : ℕ) {r : Ending} {v : Option ℕ} → v ≡ top_row t d → ((i : ℕ) → v ≡ Some i → ⊥) → Bare r p → Takes h h t d r (Stands p a l u) (step (place_of p) s)
+pub bare_takes : (s : Sight) (h : ℕ → Frame) (t p d : ℕ) (a : Action) (l u : ℕ) {r : Ending} {v : Option ℕ} → v ≡ top_row t d → ((i : ℕ) → v ≡ Some i → ⊥) → Bare r p
+    → Takes h h t d r (Stands p a l u) (step (place_of p) s)
 bare_takes s h t p zero a l u {r} e z b = record { turn = λ th o q. b s th o q.place; others = λ u k l o. refl; same = λ z. refl }
 bare_takes s h t p (suc d) a l u {r} e z b = absurd (z (t * 4 + d) e)
 
 -- ---- 82: k is the frame on top
-at_82 : (s : Sight) (h : ℕ → Frame) (t d : ℕ) (k : ℕ) (c : Option ℕ) (th : Thread) → k ≡ store_of (h (t * 4 + d)).store → c ≡ s.stores k → th.frames ≡ frames_of h t (suc d) → end_turn c th ≡ step (place_of 82) s th
+at_82 : (s : Sight) (h : ℕ → Frame) (t d : ℕ) (k : ℕ) (c : Option ℕ) (th : Thread) → k ≡ store_of (h (t * 4 + d)).store → c ≡ s.stores k → th.frames ≡ frames_of h t (suc d)
+    → end_turn c th ≡ step (place_of 82) s th
 unfolding end_turn step
 at_82 s h t d k c th ek ec o = ap (λ (l : List Frame). in_frame l (λ f fs. read_out c fs th)) o
     ∙ (ap (λ (x : Option ℕ). read_out x (frames_of h t d) th) (ec ∙ ap s.stores ek) ∙ ap (λ (l : List Frame). in_frame l (λ f fs. read_out (s.stores (store_of f.store)) fs th)) (sym o))
 
-pub ends : (s : Sight) (l : List Kept) (t d i p : ℕ) (k : Kept) {a : Action} {b u : ℕ} {h' : ℕ → Frame} {r : Ending} {v : Option ℕ} {j : ℕ} {c : Option ℕ} → length l ≡ 16 → t < 4 → d ≤ 4 → v ≡ top_row t d → v ≡ Some i → p ≡ 82
+pub ends : (s : Sight) (l : List Kept) (t d i p : ℕ) (k : Kept) {a : Action} {b u : ℕ} {h' : ℕ → Frame} {r : Ending} {v : Option ℕ} {j : ℕ} {c : Option ℕ} → length l ≡ 16
+    → t < 4 → d ≤ 4 → v ≡ top_row t d → v ≡ Some i → p ≡ 82
     → j ≡ store_of (get_or l i k).store → c ≡ s.stores j → Takes (held l) h' t d r (Stands 82 a b u) (end_turn c) → Takes (held l) h' t d r (Stands p a b u) (step (place_of p) s)
 ends s l t zero i p k n m o y z w ej ec q = absurd (top_some t i y z)
 ends s l t (suc d) i p k {a} {b} {u} {h'} {r} {j = j} {c = c} n m o y z w ej ec q = rw w at_end

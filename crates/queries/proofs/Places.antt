@@ -38,7 +38,8 @@ told_alike (Ok (Found c)) gs fs hs p th = refl
 told_alike (Err shortage.Nodes) gs fs hs p th = refl
 told_alike (Err shortage.Stores) gs fs hs p th = refl
 
-acts_as : {f g : Frame} {r : Ending} {d d' : Frame → List Frame → Thread → Turn} (p : ℕ) → Acts f g r d → ((fs : List Frame) (th : Thread) → d f fs (to_frames p (f ∷ fs) th) ≡ d' f fs th) → Acts f g r d'
+acts_as : {f g : Frame} {r : Ending} {d d' : Frame → List Frame → Thread → Turn} (p : ℕ) → Acts f g r d
+    → ((fs : List Frame) (th : Thread) → d f fs (to_frames p (f ∷ fs) th) ≡ d' f fs th) → Acts f g r d'
 acts_as {f} {g} {r} p k t = record { turn = λ fs th. told_alike r (g ∷ fs) fs (f ∷ fs) p th ∙ (k.turn fs (to_frames p (f ∷ fs) th) ∙ t fs th); same = k.same }
 
 goes_acts : {f g : Frame} {p : ℕ} {d : Frame → List Frame → Thread → Turn} → Goes f g p d → Acts f g (Ok (Onward p Quiet)) d

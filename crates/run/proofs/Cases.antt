@@ -58,7 +58,8 @@ module _ {N : Type 0} {a₁ a₂ : N} (p : Page) (v t : ℕ) (th : Notes) (b : A
   wide_row_put z h j i = (i.0 ∙ h.0, i.1 ∙ rw (h.1, j, ← put_all_append, f, g, shown_number b, ne_eqb v 1 z))
 
 -- a row's bytes depend on the file's version alone, and on no frame: in version 1 the depth is not among them
-pub row_as : (file : List ℕ) (v t : ℕ) (th : Notes) (fs : List Frame) (b : Answer) (d d' : ℕ) → v ≡ version file → ((version file ≡ 1 → ⊥) → d ≡ d') → row_of v t th b d ≡ row_bytes file t (thread th fs) (row (shown b) d' 0)
+pub row_as : (file : List ℕ) (v t : ℕ) (th : Notes) (fs : List Frame) (b : Answer) (d d' : ℕ) → v ≡ version file → ((version file ≡ 1 → ⊥) → d ≡ d')
+    → row_of v t th b d ≡ row_bytes file t (thread th fs) (row (shown b) d' 0)
 unfolding ite
 row_as file v t th fs b d d' w f = elim (ℕ_discrete (version file) 1) [
   | yes e ↦ rw (w, eq-eqb (version file) 1 e)

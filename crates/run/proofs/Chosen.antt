@@ -33,7 +33,8 @@ pub finding_one : {th : Notes} {d : Decision} {p : ℕ} (on : Bool) (n : Shapes)
 unfolding finding ite
 finding_one on n root e i = rw e i
 
-pub finding_two : {th : Notes} {d : Decision} {p : ℕ} (on : Bool) (n : Shapes) (root : ℕ) → p ≡ 2 → Decides th d (λ h. followed on n h (child_for h.station (n h.route))) → Decides th d (finding p on n root)
+pub finding_two : {th : Notes} {d : Decision} {p : ℕ} (on : Bool) (n : Shapes) (root : ℕ) → p ≡ 2 → Decides th d (λ h. followed on n h (child_for h.station (n h.route)))
+    → Decides th d (finding p on n root)
 unfolding finding ite
 finding_two on n root e i = rw e i
 
@@ -76,7 +77,12 @@ module _ {file : List ℕ} {k x y e : ℕ} {n : Shapes} {l : List ℕ} {s : Stor
       → Begun (sight n root used s shown (stop (stop_of file) count)) (x / 16 % 4) end threads threads' d
       → Decides (seen threads' x end) d (finding (seen threads' x end).place on n root) → Chosen d threads' count
   chosen_find {d} {threads'} on z low i j =
-      record { decided = i.decided; rereads = i.rereads; recounts = count_other _ _ (λ (m : (seen threads x end).place ≡ 4). omega (arith, low, m)) (λ (m : (seen threads x end).place ≡ 5). omega (arith, low, m)); kept = λ o. absurd (subst Seeks o found.ways) }
+      record {
+        decided = i.decided;
+        rereads = i.rereads;
+        recounts = count_other _ _ (λ (m : (seen threads x end).place ≡ 4). omega (arith, low, m)) (λ (m : (seen threads x end).place ≡ 5). omega (arith, low, m));
+        kept = λ o. absurd (subst Seeks o found.ways);
+      }
     where
       found : Sought d
       found =

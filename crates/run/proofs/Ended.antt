@@ -1,19 +1,22 @@
--- Where a run begins and where it has ended: what the code then holds is what 01 says of the file and the row buffer. Assumes nothing.
+-- Where a run begins and where it has ended: what the code then holds is what 01 says of the file and the row buffer. It rests on
+-- Lending.antt.
 use Rattle.frames.specs.View.{held}
 use Rattle.std.specs.Prelude.{None, Result as Outcome, Ok, Err, Option}
 use mathlib.Core.Path.{◌≡◌, refl, sym, ap, ◌∙◌}
 use mathlib.Core.Logic.{inl, inr, ⊎_elim}
+use mathlib.Core.Bool.{Bool, true, false}
 use mathlib.Core.List.{List, []}
 use Prim.Native.Nat.{ℕ, zero, suc, ◌+◌, ◌-◌, ◌≤◌, ◌<◌}
 use native.Mathlib.Omega.{arith}
-use borrow.Author.Tests.{eq-eqb, ne_eqb}
+use borrow.Author.Tests.{eq-eqb, ne_eqb, le-ltb}
+use lib.Dec.{ltb}
 use lib.ListN.{length, replicate, length-replicate}
 use Rattle.container.specs.Choice.{ite}
 use Rattle.container.specs.Container.{all}
 use Rattle.answers.specs.Reachable.{Unasked}
 use Rattle.buffer.specs.Page.{Page, put_all}
 use Rattle.buffer.proofs.Laws.{put_fits}
-use Rattle.depths.specs.Rows.{rows, full}
+use Rattle.depths.specs.Rows.{rows, Holds, full}
 use Rattle.depths.proofs.Fresh.{blank}
 use Rattle.tree.specs.Below.{set_below, count_below}
 use Rattle.tree.proofs.Held.{held_set, held_stored}
@@ -32,20 +35,23 @@ use Rattle.definitions.specs.declared.Report.{Report}
 use Rattle.definitions.specs.declared.Stop.{Stop}
 use Rattle.definitions.proofs.Refusals.{refused}
 use Rattle.run.specs.Threads.{threads_of}
-use Rattle.run.specs.Standing.{Lent, Spare, Enough, Stands, Carried, Handed}
+use Rattle.run.specs.Standing.{numbers_for, Lent, Spare, Enough, Stands, Carried, Handed}
 use Rattle.run.specs.declared.Standing.{Standing}
 use Rattle.run.proofs.Threads.{all_idle}
 use Rattle.run.proofs.Turn.{stand}
 use Rattle.run.proofs.Rows.{rows_fit}
+use Rattle.run.proofs.Lending.{enough}
 use Rattle.run.proofs.Room.{has_room}
 use Rattle.frames.specs.declared.frame.Frame.{Frame as Kept}
 
 -- rows that fit stand in the buffer
-overlaid : {n : Shapes} {l : List ℕ} {k : Stores} {z : Stop} {threads : ℕ → Thread} {s : Standing} {first buffer : List ℕ} (p : Progress) → Stands n l k z threads s first buffer p → length p.rows ≤ length first → buffer ≡ overlay p.rows first
+overlaid : {n : Shapes} {l : List ℕ} {k : Stores} {z : Stop} {threads : ℕ → Thread} {s : Standing} {first buffer : List ℕ} (p : Progress)
+    → Stands n l k z threads s first buffer p → length p.rows ≤ length first → buffer ≡ overlay p.rows first
 overlaid p h f = ap (λ (q : Page). q.bytes) (h.rows ∙ put_fits p.rows _ f)
 
 -- ---- before the first record, and after the last
-pub none_yet : (file first : List ℕ) (h : ℕ → Frame) {n : Shapes} {l : List ℕ} {s : Stores} {th : Notes} → n ≡ (λ _. shape empty_base) → s ≡ (λ _. None) → (length l ≡ 16384 → rows l ≡ (λ _ _. 0)) → thread th [] ≡ idle
+pub none_yet : (file first : List ℕ) (h : ℕ → Frame) {n : Shapes} {l : List ℕ} {s : Stores} {th : Notes} → n ≡ (λ _. shape empty_base) → s ≡ (λ _. None)
+    → (Holds (length l) 1 → rows l ≡ (λ _ _. 0)) → thread th [] ≡ idle
     → Stands n l s (stop (stop_of file) 0) (threads_of (replicate 4 th) (replicate 4 0) h) (stand 0 1 0 (Ok tt) 0 0 0) first first (after file 0)
 unfolding after put_all
 none_yet file first h {th = th} e f b g = record {
@@ -63,7 +69,8 @@ abbrev pub handing : ℕ → ℕ → ℕ → Outcome (Unit {0}) Refusal → ℕ 
 handing root used shown refusal done finished at threads frames count =
     record { root = root; used = used; shown = shown; refusal = refusal; done = done; finished = finished; at = at; threads = threads; frames = frames; count = count }
 
-module _ (file : List ℕ) (k last : ℕ) {n : Shapes} {l : List ℕ} {s : Stores} {root used shown done finished at count : ℕ} {refusal : Outcome (Unit {0}) Refusal} {threads : List Notes} {frames : List ℕ}
+module _ (file : List ℕ) (k last : ℕ) {n : Shapes} {l : List ℕ} {s : Stores} {root used shown done finished at count : ℕ} {refusal : Outcome (Unit {0}) Refusal}
+    {threads : List Notes} {frames : List ℕ}
     {lent : List Kept} {first buffer : List ℕ} where
   pub all_done : after file k ≡ after file last
       → Stands n l s (stop (stop_of file) count) (threads_of threads frames (held lent)) (stand root used shown refusal done finished at) first buffer (after file k)
@@ -72,7 +79,8 @@ module _ (file : List ℕ) (k last : ℕ) {n : Shapes} {l : List ℕ} {s : Store
   all_done e h =
       let table : threads_of threads frames (held lent) ≡ (after file last).bench.threads = ap (λ (b : Bench). b.threads) h.bench ∙ ap (λ (p : Progress). p.bench.threads) e in
       let switch : stop (stop_of file) count ≡ (after file last).bench.store.stop = ap (λ (b : Bench). b.store.stop) h.bench ∙ ap (λ (p : Progress). p.bench.store.stop) e in
-      let g : Stands n l s (after file last).bench.store.stop (after file last).bench.threads (stand root used shown refusal done finished at) first buffer (after file last) = rw (table, switch, e) at h in (
+      let g : Stands n l s (after file last).bench.store.stop (after file last).bench.threads (stand root used shown refusal done finished at) first buffer (after file last) =
+      rw (table, switch, e) at h in (
         record { deep = g.deep; bench = g.bench; depths = g.depths; refusal = g.refusal; done = g.done; finished = g.finished; rows = g.rows },
         record { threads = table; stop = switch },
       )
@@ -113,8 +121,13 @@ module _ {n : Shapes} {l : List ℕ} {k : Stores} {z : Stop} {threads : ℕ → 
   unfolding stored
   stored_at = sym (held_stored 63 (full n h.deep) s.root all) ∙ ap (λ (b : Bench). stored_below 63 b.store.nodes b.store.root all) h.bench
 
-  used_at : s.used ≡ p.bench.store.used
+  pub used_at : s.used ≡ p.bench.store.used
   used_at = ap (λ (b : Bench). b.store.used) h.bench
+
+-- what holds the depths of all nodes that a run may use holds those of the nodes that it has used
+pub held_all : (file : List ℕ) {n : Shapes} {l : List ℕ} {k : Stores} {s : Standing} {first buffer : List ℕ} → Carried file (count_of file) n l k s first buffer
+    → Holds (length l) (numbers_for file) → Holds (length l) s.used
+held_all file h w = (w.0, omega (arith, used_at h, enough file (count_of file) (omega arith), w.1))
 
 -- ---- room for the rows
 pub room_for : (file : List ℕ) (room : ℕ) → run_refusal file room ≡ 0 → row_room file (count_of file) ≤ room
@@ -123,22 +136,24 @@ room_for file room = has_room (file_refusal file) room (row_room file (count_of 
 
 -- ---- what is lent, before the first record
 
-pub lent_none : (file : List ℕ) → version file ≡ 1 → Lent file []
-lent_none file e = record { blank = blank 0; none = λ _. refl; whole = λ n. absurd (n e) }
+-- as much as any file from version 2 on needs: the depths of 256 nodes, and all the memory for queries
+pub enough_all : (file : List ℕ) {d r n : ℕ} → (version file ≡ 1 → ⊥) → d ≡ 16384 → r ≡ 256 → n ≡ 16 → Enough file d r n
+unfolding ite
+enough_all file {d} v e f g = record { none = λ h. absurd (v h); whole = λ _. by (ltb 64 (count_of file)); spare = inr (f, g); depths = omega arith; results = omega arith; frames = omega arith }
+  where
+    by : (c : Bool) → Holds d (ite c 256 65)
+    by true = (omega arith, omega arith)
+    by false = (omega arith, omega arith)
 
-pub lent_all : (file : List ℕ) → (version file ≡ 1 → ⊥) → Lent file (replicate 16384 0)
-lent_all file n = record { blank = blank 16384; none = λ e. absurd (n e); whole = λ _. length-replicate {A = ℕ} 16384 0 }
+-- as much as one needs that has up to 64 records and asks for no query: the depths of 65
+pub enough_few : (file : List ℕ) {d r n : ℕ} → (version file ≡ 1 → ⊥) → count_of file ≤ 64 → Unasked file → Holds d 65 → d ≤ 16384 → r ≤ 256 → n ≤ 16 → Enough file d r n
+unfolding ite
+enough_few file v l o h d r n = record { none = λ e. absurd (v e); whole = λ _. rw (le-ltb 64 (count_of file) l) h; spare = inl o; depths = d; results = r; frames = n }
 
-pub spare_none : (file : List ℕ) → Unasked file → Spare file [] []
-spare_none file o = inl o
-
-pub spare_all : (file : List ℕ) {f : Kept} → Spare file (replicate 256 None) (replicate 16 f)
-spare_all file {f} = inr (record { results = length-replicate {A = Option ℕ} 256 None; frames = length-replicate {A = Kept} 16 f })
-
--- by their numbers
+-- as it is lent
 module _ (file : List ℕ) {d r n : ℕ} (e : Enough file d r n) where
   pub lent_so : Lent file (replicate d 0)
-  lent_so = record { blank = blank d; none = λ v. length-replicate {A = ℕ} d 0 ∙ e.none v; whole = λ v. length-replicate {A = ℕ} d 0 ∙ e.whole v }
+  lent_so = record { blank = blank d; none = λ v. length-replicate {A = ℕ} d 0 ∙ e.none v; whole = λ v. rw (length-replicate {A = ℕ} d 0) (e.whole v) }
 
   pub spare_so : (f : Kept) → Spare file (replicate r None) (replicate n f)
   spare_so f = ⊎_elim inl (λ v. inr (record { results = length-replicate {A = Option ℕ} r None ∙ v.0; frames = length-replicate {A = Kept} n f ∙ v.1 })) e.spare

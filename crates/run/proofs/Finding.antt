@@ -35,8 +35,12 @@ use Rattle.definitions.specs.Threads.{Frame, Thread, new_frame, Turn, Moves, Fin
 use Rattle.definitions.specs.Frames.{back}
 use Rattle.definitions.specs.Answers.{said, depth_in}
 use Rattle.definitions.specs.Bench.{Sight}
-use Rattle.definitions.specs.Places.{own, found, united, opening, next, Place, nowhere, p1, p2, p3, p4, p5, p15, p16, p19, p20, p21, p22, p23, p24, p25, p30, p31, p32, p33, p34, p35, p36, p37, p38, p40, p45, p46, p47, p48, p49, p50, p51, p60, p61, p62, p70, p71, p72, p73, p74, p76, p81, p82, swap, place_of, reading}
-use Rattle.definitions.specs.Steps.{looked, at_leaf, reached, onward, one_more, followed, released, lost_as, lost, join_under, cleared_as, cleared, probe, replaced_as, replaced, own_by, found_by, united_by, help_by, blocked_as, blocked, beside, grand_marking, ended, cut_at, cut_on, cut_right, freeing, step}
+use Rattle.definitions.specs.Places.{own, found, united, opening, next, Place, nowhere, p1, p2, p3, p4, p5, p15, p16, p19, p20, p21}
+use Rattle.definitions.specs.Places.{p22, p23, p24, p25, p30, p31, p32, p33, p34, p35, p36, p37, p38, p40, p45, p46, p47, p48, p49}
+use Rattle.definitions.specs.Places.{p50, p51, p60, p61, p62, p70, p71, p72, p73, p74, p76, p81, p82, swap, place_of, reading}
+use Rattle.definitions.specs.Steps.{looked, at_leaf, reached, onward, one_more, followed, released, lost_as, lost, join_under}
+use Rattle.definitions.specs.Steps.{cleared_as, cleared, probe, replaced_as, replaced, own_by, found_by, united_by, help_by}
+use Rattle.definitions.specs.Steps.{blocked_as, blocked, beside, grand_marking, ended, cut_at, cut_on, cut_right, freeing, step}
 use Rattle.steps.specs.declared.Notes.{Notes}
 use Rattle.effects.specs.declared.Write.{Write}
 use Rattle.steps.specs.declared.Note.{Note}
@@ -329,7 +333,8 @@ module _ (s : Sight) (th : Notes) (h : th.place < 60) (k : ℕ) (d : Decision) (
   effect = written d
 
   finds : {v : Decision} → d ≡ v → Finding (s.nodes th.base) (thread th fs) (tallied th.place (turn_of top now v))
-  finds e = subst (λ (t : Turn). Finding (s.nodes th.base) (thread th fs) t) (q.turn fs ∙ ap (λ (v : Decision). tallied th.place (turn_of top now v)) e) (finding s (thread th fs) (place_of th.place) (below_60 th.place h))
+  finds e = subst (λ (t : Turn). Finding (s.nodes th.base) (thread th fs) t) (q.turn fs ∙ ap (λ (v : Decision). tallied th.place (turn_of top now v)) e)
+      (finding s (thread th fs) (place_of th.place) (below_60 th.place h))
 
   -- where the count changes nothing is written
   quiet_or : (effect ≡ Quiet) ⊎ (counted th.place effect ≡ effect)

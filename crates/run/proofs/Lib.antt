@@ -5,6 +5,8 @@ pub mod Numbers
 pub mod Noting
 pub mod Decided
 pub mod Outcome
+pub mod Credit
+pub mod Lending
 pub mod Finding
 pub mod FramedSteps
 pub mod Framed
@@ -22,3 +24,5 @@ pub mod Settled
 pub mod Looked
 pub mod Reading
 pub mod Ended
+pub mod Counts
+pub mod Counting

@@ -1,4 +1,5 @@
--- What `may_ask` has looked at: the first bytes of a file's records. Where none asks for a query, the file does not. Assumes nothing.
+-- What `may_ask` has looked at: the first bytes of a file's records. Where none asks for a query, the file does not; and a file of up to 259 bytes has up
+-- to 64 records (`few_records`). Assumes nothing.
 use mathlib.Core.Path.{◌≡◌, refl, subst}
 use mathlib.Core.Bool.{Bool, true, false}
 use mathlib.Core.List.{List}
@@ -11,7 +12,8 @@ use lib.ListN.{length, get_or, get_or-eq_default}
 use Rattle.container.specs.Choice.{ite}
 use Rattle.answers.specs.Reachable.{Unasked}
 use Rattle.definitions.specs.Versions.{version}
-use Rattle.definitions.specs.Schedule.{record_at}
+use Rattle.definitions.specs.Schedule.{count_of, record_at}
+use Rattle.schedule.specs.Proper.{Proper}
 
 -- a record of four bytes starts at `from`, and those before it ask for no query
 pub record Looked (file : List ℕ) (from : ℕ) : Type 0 where
@@ -38,3 +40,12 @@ looked_all file from h l j = by (eqb (version file) 1) refl
     by : (c : Bool) → eqb (version file) 1 ≡ c → get_or file (3 + ite c 2 4 * j) 0 % 16 ≡ 6 → version file ≡ 1
     by true e z = eqb-true (version file) 1 e
     by false e z = absurd (none z)
+
+-- a short file from version 2 on has at most 64 records
+pub few_records : (file : List ℕ) → Proper file → (version file ≡ 1 → ⊥) → length file ≤ 259 → count_of file ≤ 64
+unfolding ite
+few_records file h n l = by (eqb (version file) 1) refl h.whole
+  where
+    by : (c : Bool) → eqb (version file) 1 ≡ c → length file ≡ 3 + ite c 2 4 * count_of file → count_of file ≤ 64
+    by true e w = absurd (n (eqb-true (version file) 1 e))
+    by false e w = omega arith

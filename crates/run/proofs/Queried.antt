@@ -10,7 +10,7 @@ use lib.Dec.{eqb}
 use lib.ListN.{length, get_or, set}
 use lib.Seq.{set-set}
 use Rattle.buffer.specs.Page.{page, put_all}
-use Rattle.depths.specs.Rows.{rows}
+use Rattle.depths.specs.Rows.{rows, Holds}
 use Rattle.effects.specs.Used.{deepened}
 use Rattle.frames.specs.View.{frames_of}
 use Rattle.frames.specs.Outcomes.{Room, Opens}
@@ -32,13 +32,13 @@ use Rattle.definitions.specs.declared.Action.TheVariants.{Query}
 use Rattle.definitions.specs.declared.Refusal.{Refusal}
 use Rattle.run.specs.Threads.{threads_of}
 use Rattle.run.specs.Standing.{Stands}
-use Rattle.run.specs.Query.{left_of, Leaves, found_row}
+use Rattle.run.specs.Query.{left_of, used_in, Leaves, found_row}
 use Rattle.run.specs.declared.query.Counts.{Counts}
 use Rattle.run.specs.declared.query.Left.{Left}
 use Rattle.run.specs.declared.query.Left.TheVariants.{Goes, Found}
 use Rattle.run.proofs.Cases.{found_as}
 use Rattle.run.proofs.Framed.{no_query}
-use Rattle.run.proofs.Turn.{seen, stand, Asking, here, own_frames, own, wants, asked_on, wants_so, carried_on, refused_at, awake, table_with}
+use Rattle.run.proofs.Turn.{seen, stand, Asking, Said, said_so, here, own_frames, own, wants, asked_on, wants_so, carried_on, refused_at, awake, table_with}
 
 module _ {file : List ℕ} {k x y e : ℕ} {n : Shapes} {l : List ℕ} {s : Stores} {threads : List Notes} {counts : List ℕ} {h : ℕ → Frame} {count root used shown finished at : ℕ}
     {first buffer : List ℕ} {a : Outcome Asked Refusal} {end : Notes} (q : Asking file k x y e n l s threads counts h count root used shown finished at first buffer a end) where
@@ -74,9 +74,11 @@ module _ {file : List ℕ} {k x y e : ℕ} {n : Shapes} {l : List ℕ} {s : Stor
         ≡ left_of n' (deepened g.effect n q.stands.deep) s' (stop (stop_of file) count) h' (here q) (x / 16 % 4) (seen threads x end) r
     left_by = asked_on q (wants_so q z) ∙ g.turn (here q) q.stands.deep (stop (stop_of file) count) refl (own q)
 
-    -- the depths, where they are lent
-    deep_on : length l' ≡ length l → length l' ≡ 16384 → rows l' ≡ deepened g.effect n q.stands.deep
-    deep_on same i = let w : length l ≡ 16384 = sym same ∙ i in g.depths w ∙ ap (deepened g.effect n) (q.stands.depths w)
+    -- the depths, where those of the nodes then used are lent
+    deep_on : {v : ℕ} → length l' ≡ length l → used_in used r ≡ v → Holds (length l') v → rows l' ≡ deepened g.effect n q.stands.deep
+    deep_on {v} same f i =
+        let w = g.inside (rw f (subst (λ (m : ℕ). Holds m v) same i)) in
+        g.depths w.0 ∙ ap (deepened g.effect n) (q.stands.depths w.1)
 
     -- its thread goes on: place and base in two stores
     pub left_on : (u : Notes) {v : Notes} {c : Counts} {p b m : ℕ} → length l' ≡ length l → r ≡ Ok (Goes c p b m) → ((fs : List Frame) → thread v fs ≡ to_base p b (thread (seen threads x end) fs))
@@ -85,7 +87,12 @@ module _ {file : List ℕ} {k x y e : ℕ} {n : Shapes} {l : List ℕ} {s : Stor
     unfolding put_all
     left_on u {v} {m = m} i o f = rw set-set
         (carried_on q (thread v (frames_of h' (x / 16 % 4) m)) no_row (table_with q h' v m g.others)
-        (left_by ∙ rw (o, f (frames_of h' (x / 16 % 4) m))) (deep_on i) (omega arith) refl)
+        (left_by ∙ rw (o, f (frames_of h' (x / 16 % 4) m))) (deep_on i (ap (used_in used) o)) (omega arith) refl)
+
+    pub found_said : {c : Counts} {d : ℕ} → r ≡ Ok (Found c d) → Said file k (said (not (eqb d 0)))
+    found_said o =
+        said_so q (subst (λ (m : Outcome Left Refusal). record_step (here q) (last_action file) x y e
+        ≡ left_of n' (deepened g.effect n q.stands.deep) s' (stop (stop_of file) count) h' (here q) (x / 16 % 4) (seen threads x end) m) o left_by)
 
     -- it has found a set
     pub left_found : {v : Notes} {finished' at' : ℕ} {buffer' : List ℕ} (m : ℕ) {c : Counts} {d : ℕ} → length l' ≡ length l → r ≡ Ok (Found c d) → thread v [] ≡ idle → finished' ≡ 1 + finished
@@ -93,7 +100,7 @@ module _ {file : List ℕ} {k x y e : ℕ} {n : Shapes} {l : List ℕ} {s : Stor
         → Stands n' l' s' (stop (stop_of file) count) (threads_of (set threads (x / 16 % 4) v) (set counts (x / 16 % 4) 0) h')
         (stand c.root c.used c.shown (Ok tt) (k + 1) finished' at') first buffer' (after file (k + 1))
     left_found {v} m {d = d} i o f j vs ro = carried_on q (thread v []) (row (said (not (eqb d 0))) 0 d) (table_with q h' v 0 g.others)
-        (left_by ∙ rw (o, f)) (deep_on i) j
+        (left_by ∙ rw (o, f)) (deep_on i (ap (used_in used) o)) j
         (ro ∙ ap (put_all (page buffer at)) (found_as file m (x / 16 % 4) (seen threads x end) (own_frames q) d vs))
 
     -- it is refused

@@ -15,7 +15,9 @@ use Rattle.definitions.specs.Threads.{Frame, Thread, Turn, Moves, Finishes, Find
 use Rattle.definitions.specs.Frames.{top_of, tail_of, store_of, in_hand, in_frame, found_first}
 use Rattle.definitions.specs.Queries.{reached_first, opened_by, reached_next, pop_on, met_by, extended_by, filling, read_out}
 use Rattle.definitions.specs.Bench.{Sight}
-use Rattle.definitions.specs.Places.{own, found, united, opening, next, Place, nowhere, p1, p2, p3, p4, p5, p15, p16, p19, p20, p21, p22, p23, p24, p25, p30, p31, p32, p33, p34, p35, p36, p37, p38, p40, p45, p46, p47, p48, p49, p50, p51, p60, p61, p62, p70, p71, p72, p73, p74, p76, p81, p82, swap, place_of}
+use Rattle.definitions.specs.Places.{own, found, united, opening, next, Place, nowhere, p1, p2, p3, p4, p5, p15, p16, p19, p20}
+use Rattle.definitions.specs.Places.{p21, p22, p23, p24, p25, p30, p31, p32, p33, p34, p35, p36, p37, p38, p40, p45, p46, p47, p48}
+use Rattle.definitions.specs.Places.{p49, p50, p51, p60, p61, p62, p70, p71, p72, p73, p74, p76, p81, p82, swap, place_of}
 use Rattle.definitions.specs.Steps.{probe, step}
 use Rattle.run.specs.Query.{Ranged}
 use Rattle.run.proofs.Numbers.{above, above_60, fork, add_moves, back_in_lem, back_moves}

@@ -62,7 +62,8 @@ module _ (file : List ℕ) (h : Proper file) (k : ℕ) {rest : List ℕ} (here :
     unfolding ite
     before_end = by (eqb (version file) 1) h.whole left_long (ap length cut ∙ length-append bytes rest') wide
       where
-        by : (v : Bool) → length file ≡ 3 + ite v 2 4 * count_of file → length rest ≡ length file - (3 + ite v 2 4 * k) → length rest ≡ length bytes + length rest' → length bytes ≡ ite v 2 4 → k < count_of file
+        by : (v : Bool) → length file ≡ 3 + ite v 2 4 * count_of file → length rest ≡ length file - (3 + ite v 2 4 * k) → length rest ≡ length bytes + length rest'
+            → length bytes ≡ ite v 2 4 → k < count_of file
         by true e l m n = omega arith
         by false e l m n = omega arith
 
@@ -105,10 +106,15 @@ module _ (file : List ℕ) (h : Proper file) (k : ℕ) {rest : List ℕ} (here :
       -- in version 1 the first two bytes are all
       pub read_plain : v ≡ 1 → e ≡ 0 → a ≡ asked 5 (get_or bytes 0 0) (get_or bytes 1 0) 0 p → Read file k (get_or bytes 0 0) (get_or bytes 1 0) e a p
       read_plain o b q =
-          let z : version file ≡ 1 = sym w ∙ o in
-          ((first_two.0, (first_two.1, b ∙ plain_none z)), q ∙ (ap (λ (d : ℕ). asked 5 (get_or bytes 0 0) (get_or bytes 1 0) d p) (sym b) ∙ ap (λ (l : ℕ). asked l (get_or bytes 0 0) (get_or bytes 1 0) e p) (plain_last z)))
+          let z : version file ≡ 1 = sym w ∙ o in (
+            (first_two.0, (first_two.1, b ∙ plain_none z)),
+            q ∙ (ap (λ (d : ℕ). asked 5 (get_or bytes 0 0) (get_or bytes 1 0) d p) (sym b) ∙ ap (λ (l : ℕ). asked l (get_or bytes 0 0) (get_or bytes 1 0) e p) (plain_last z)),
+          )
 
-      pub read_wide : {m : ℕ} → (v ≡ 1 → ⊥) → e ≡ m → m ≡ get_or bytes 2 0 * 256 + get_or bytes 3 0 → a ≡ asked 6 (get_or bytes 0 0) (get_or bytes 1 0) m p → Read file k (get_or bytes 0 0) (get_or bytes 1 0) e a p
+      pub read_wide : {m : ℕ} → (v ≡ 1 → ⊥) → e ≡ m → m ≡ get_or bytes 2 0 * 256 + get_or bytes 3 0 → a ≡ asked 6 (get_or bytes 0 0) (get_or bytes 1 0) m p
+          → Read file k (get_or bytes 0 0) (get_or bytes 1 0) e a p
       read_wide o b d q =
-          let z : version file ≡ 1 → ⊥ = λ h. o (w ∙ h) in
-          ((first_two.0, (first_two.1, b ∙ (d ∙ wide_extra z))), q ∙ (ap (λ (u : ℕ). asked 6 (get_or bytes 0 0) (get_or bytes 1 0) u p) (sym b) ∙ ap (λ (l : ℕ). asked l (get_or bytes 0 0) (get_or bytes 1 0) e p) (wide_last z)))
+          let z : version file ≡ 1 → ⊥ = λ h. o (w ∙ h) in (
+            (first_two.0, (first_two.1, b ∙ (d ∙ wide_extra z))),
+            q ∙ (ap (λ (u : ℕ). asked 6 (get_or bytes 0 0) (get_or bytes 1 0) u p) (sym b) ∙ ap (λ (l : ℕ). asked l (get_or bytes 0 0) (get_or bytes 1 0) e p) (wide_last z)),
+          )

@@ -6,6 +6,7 @@ use mathlib.Core.List.{List, []}
 use Prim.Native.Nat.{ℕ, ◌/◌, ◌%◌, ◌<◌}
 use native.Mathlib.Omega.{arith}
 use lib.ListN.{length, get_or, set, length-set}
+use lib.Seq.{set-get_or}
 use Rattle.machine.specs.declared.Asked.{Asked}
 use Rattle.machine.specs.Enacted.{Enacted}
 use Rattle.machine.specs.Noted.{Noted}
@@ -29,13 +30,13 @@ use Rattle.run.proofs.Decided.{written}
 use Rattle.run.proofs.Noting.{placed}
 use Rattle.run.proofs.Threads.{notes_of}
 use Rattle.run.proofs.Turn.{seen, Asking, full_on, deeper}
-use Rattle.run.proofs.Staged.{set_own, Stage, Staged, restaged, noted_done, answer_row, round_refused, round_back, round_open}
+use Rattle.run.proofs.Staged.{Stage, Staged, restaged, noted_done, answer_row, round_refused, round_back, round_open}
 
 -- ---- the notes
 
 -- notes put where they stand
 put_back : (c : List Notes) (t : ℕ) (v d : Notes) → v ≡ get_or c t d → set c t v ≡ c
-put_back c t v d e = rw e (set_own c t d)
+put_back c t v d e = rw e (set-get_or c t d)
 
 -- a new frame's place is all that is noted
 opened_placed : {th v : Notes} {p : ℕ} → Noted th v Note.Opened p → v ≡ placed p th
@@ -74,7 +75,8 @@ module _ {file : List ℕ} {k x y e : ℕ} {n : Shapes} {l : List ℕ} {s : Stor
     noted u i g = noted_done q z d low c.decided l' all.nodes (deeper q.stands all same) (counted d used o w.used) c.rereads c.recounts i g u
 
     -- it is noted
-    goes : {b : Write} {p : ℕ} (m : Note) → d ≡ Goes b p m → Noted (seen threads' x end) v m p → Stage file k x n' l' s (set threads' (x / 16 % 4) v) counts h count' root' used' shown finished at first buffer end (left_by m)
+    goes : {b : Write} {p : ℕ} (m : Note) → d ≡ Goes b p m → Noted (seen threads' x end) v m p
+        → Stage file k x n' l' s (set threads' (x / 16 % 4) v) counts h count' root' used' shown finished at first buffer end (left_by m)
     goes Note.Opened i g = rw (opened_placed g) (round_open q z d low c.decided l' all.nodes (deeper q.stands all same) (counted d used o w.used) c.rereads c.recounts i)
     goes Note.Nothing i g = noted (λ u. let t : ◌≡◌ {A = ℕ} 0 1 = cc in omega arith) i g
     goes (Note.Route a₁) i g = noted (λ u. let t : ◌≡◌ {A = ℕ} 0 1 = cc in omega arith) i g

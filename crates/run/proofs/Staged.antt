@@ -2,15 +2,17 @@
 -- loop holds once that is done. Rests on crate answers by the laws of one record more.
 use Rattle.std.specs.Prelude.{Result as Outcome, Ok, Err}
 use mathlib.Core.Path.{◌≡◌, refl, ap, ◌∙◌, subst}
+use mathlib.Core.Bool.{not}
 use mathlib.Core.List.{List, [], ◌∷◌}
-use Prim.Native.Nat.{ℕ, zero, suc, ◌+◌, ◌/◌, ◌%◌, ◌≤◌, ◌<◌}
+use Prim.Native.Nat.{ℕ, ◌+◌, ◌/◌, ◌%◌, ◌≤◌, ◌<◌}
 use native.Mathlib.Omega.{arith}
+use lib.Dec.{eqb}
 use lib.ListN.{length, get_or, set}
-use lib.Seq.{set-set, get_or-set_same}
+use lib.Seq.{set-set, get_or-set_same, set-get_or}
 use Rattle.answers.specs.Reachable.{Unasked}
 use Rattle.buffer.specs.Page.{page, put_all}
-use Rattle.depths.specs.Rows.{rows}
-use Rattle.effects.specs.Used.{used_after, deepened, Applied}
+use Rattle.depths.specs.Rows.{rows, Holds}
+use Rattle.effects.specs.Used.{used_after, within, deepened, Applied}
 use Rattle.frames.specs.View.{frames_of}
 use Rattle.frames.specs.Outcomes.{Opens, Room}
 use Rattle.steps.specs.declared.Notes.{Notes}
@@ -24,6 +26,7 @@ use Rattle.machine.specs.Enacted.{depth_by}
 use Rattle.definitions.specs.Nodes.{Shapes, Stores}
 use Rattle.definitions.specs.Threads.{Frame, Thread, begun, idle}
 use Rattle.definitions.specs.Bench.{stop, sight}
+use Rattle.definitions.specs.Answers.{said as answers, shown as shownAs}
 use Rattle.definitions.specs.Places.{to_base}
 use Rattle.definitions.specs.Versions.{version, stop_of}
 use Rattle.definitions.specs.Run.{after}
@@ -42,15 +45,9 @@ use Rattle.run.specs.declared.query.Task.TheVariants.{Start, Help, Back, Step, R
 use Rattle.run.proofs.Decided.{written, Decided}
 use Rattle.run.proofs.Changed.{Rereads}
 use Rattle.run.proofs.Noting.{placed, unopened_still}
-use Rattle.run.proofs.Turn.{seen, stand, Asking, few, noted_on, said_on, opened_on, opens_few, back_on}
-use Rattle.run.proofs.Queried.{asking_on, stack_fits, left_on, left_found, left_refused}
+use Rattle.run.proofs.Turn.{seen, stand, Asking, Said, acting, answer_said, answer_acts, few, noted_on, said_on, opened_on, opens_few, back_on}
+use Rattle.run.proofs.Queried.{asking_on, stack_fits, left_on, found_said, left_found, left_refused}
 use Rattle.run.proofs.Wide.{wide_turn, wide_back, wide_start, wide_open}
-
--- a list put what it has
-pub set_own : {A : Type 0} (c : List A) (t : ℕ) (d : A) → set c t (get_or c t d) ≡ c
-set_own [] t d = refl
-set_own (m ∷ c) zero d = refl
-set_own {A} (m ∷ c) (suc t) d = ap (λ (l : List A). m ∷ l) (set_own c t d)
 
 -- record k has been carried out
 abbrev pub Next : List ℕ → ℕ → Shapes → List ℕ → Stores → List Notes → List ℕ → (ℕ → Frame) → ℕ → ℕ → ℕ → ℕ → ℕ → ℕ → List ℕ → List ℕ → Type 0
@@ -67,6 +64,8 @@ module _ (file : List ℕ) (k x : ℕ) (n : Shapes) (l : List ℕ) (s : Stores) 
           → Next file k n' l' s' (set (set threads (x / 16 % 4) u) (x / 16 % 4) v) (set counts (x / 16 % 4) m) h' count c.root c.used c.shown finished at first buffer
 
     pub record Finding (c : Counts) (d : ℕ) : Type 0 where
+      pub said : Said file k (answers (not (eqb d 0)))
+      pub acts : x / 16 < 4 → (seen threads x end).action ≡ ((after file k).bench.threads (x / 16)).action
       pub on : {v : Notes} {finished' at' : ℕ} {buffer' : List ℕ} (m : ℕ) → thread v [] ≡ idle → finished' ≡ 1 + finished → m ≡ version file
           → page buffer' at' ≡ put_all (page buffer at) (found_row m (x / 16 % 4) (seen threads x end) d)
           → Next file k n' l' s' (set threads (x / 16 % 4) v) (set counts (x / 16 % 4) 0) h' count c.root c.used c.shown finished' at' first buffer'
@@ -94,7 +93,10 @@ module _ (file : List ℕ) (k x : ℕ) (n : Shapes) (l : List ℕ) (s : Stores) 
         → Rounded n' l' s' h' r
 
   pub record Answering (answer : Answer) : Type 0 where
-    pub on : {v : Notes} {finished' at' : ℕ} {buffer' : List ℕ} (m : ℕ) → thread v [] ≡ idle → finished' ≡ 1 + finished → m ≡ version file → ((version file ≡ 1 → ⊥) → length l ≡ 16384)
+    pub said : Said file k (shownAs answer)
+    pub acts : x / 16 < 4 → (seen threads x end).action ≡ ((after file k).bench.threads (x / 16)).action
+    pub on : {v : Notes} {finished' at' : ℕ} {buffer' : List ℕ} (m : ℕ) → thread v [] ≡ idle → finished' ≡ 1 + finished → m ≡ version file
+        → ((version file ≡ 1 → ⊥) → Holds (length l) (after file (k + 1)).bench.store.used)
         → page buffer' at' ≡ put_all (page buffer at) (row_of m (x / 16 % 4) (seen threads x end) answer (depth_by answer (rows l) (seen threads x end).station))
         → Next file k n l s (set threads (x / 16 % 4) v) (set counts (x / 16 % 4) 0) h count root used shown finished' at' first buffer'
 
@@ -135,7 +137,7 @@ module _ {file : List ℕ} {k x y e : ℕ} {n : Shapes} {l : List ℕ} {s : Stor
           → Leaves n l s root used shown h (x / 16 % 4) (get_or counts (x / 16 % 4) 0) (seen threads x end) n' l' s' h' r
           → Rounded file k x n l s threads counts h count root used shown finished at first buffer end n' l' s' h' r
       by n' l' s' h' (Ok (Goes c p b j)) same g = record { on = λ u f. left_on q z g u same refl f }
-      by n' l' s' h' (Ok (Found c d)) same g = record { on = λ j o i v ro. left_found q z g j same refl o i v ro }
+      by n' l' s' h' (Ok (Found c d)) same g = record { said = found_said q z g refl; acts = acting q; on = λ j o i v ro. left_found q z g j same refl o i v ro }
       by n' l' s' h' (Err v) same g = left_refused q z g v refl
 
   -- a refusal, whatever it is for; it may have noted what is the same
@@ -180,7 +182,7 @@ module _ {file : List ℕ} {k x y e : ℕ} {n : Shapes} {l : List ℕ} {s : Stor
   -- a step below 60 that has decided d
   module _ (z : a ≡ Ok Asked.Step) {r : ℕ} (d : Decision) (low : (seen threads x end).place < 60) (i : Decided (sight n root used s shown (stop (stop_of file) count)) (seen threads x end) r d)
       {n' : Shapes} (l' : List ℕ) {root' used' : ℕ} {threads' : List Notes} {count' : ℕ} (w : Applied n root used s shown (written d) n' root' s)
-      (g : length l' ≡ 16384 → rows l' ≡ deepened (written d) n q.stands.deep) (u : used' ≡ used_after used (written d))
+      (g : within (written d) (length l') → Holds (length l') used → rows l' ≡ deepened (written d) n q.stands.deep) (u : used' ≡ used_after used (written d))
       (b : Rereads (x / 16 % 4) r end threads threads') (c : count' ≡ recounted (seen threads x end).place count) where
     -- nothing is left once it has noted v, but for frames that stay
     pub noted_done : {v : Notes} {e₁ : Write} {p : ℕ} {m : Note} → d ≡ Decision.Goes e₁ p m → Noted (seen threads' x end) v m p → (m ≡ Note.Opened → ⊥)
@@ -189,7 +191,7 @@ module _ {file : List ℕ} {k x y e : ℕ} {n : Shapes} {l : List ℕ} {s : Stor
 
     -- with an answer
     pub answer_row : {e₁ : Write} {a₁ : Answer} → d ≡ Decision.Answers e₁ a₁ → Answering file k x n' l' s threads' counts h count' root' used' shown finished at first buffer end a₁
-    answer_row o = record { on = λ m f j v len ro. said_on q z d low i l' w g u b c m o f j v len ro }
+    answer_row o = record { said = answer_said q z d low i l' w g u b c o; acts = answer_acts q z d low i l' w g u b c; on = λ m f j v len ro. said_on q z d low i l' w g u b c m o f j v len ro }
 
     -- back
     pub round_back : {e₁ : Write} → d ≡ Decision.Back e₁ → Rounding file k x n' l' s threads' counts h count' root' used' shown finished at first buffer end Back
@@ -199,7 +201,7 @@ module _ {file : List ℕ} {k x y e : ℕ} {n : Shapes} {l : List ℕ} {s : Stor
       more = λ f. let v : ◌≡◌ {A = ℕ} 0 1 = cc in absurd (omega arith);
       room = λ f. let v : ◌≡◌ {A = ℕ} 0 1 = cc in absurd (omega arith);
       on = λ n'' l'' s'' h' p same f. rw f.1.goes (record {
-        on = λ _ {v = t} j. rw (f.0.nodes, f.0.depths, f.0.stores, set_own counts (x / 16 % 4) 0, set-set)
+        on = λ _ {v = t} j. rw (f.0.nodes, f.0.depths, f.0.stores, set-get_or counts (x / 16 % 4) 0, set-set)
             (back_on q z d low i l' w g u b c o (record { after = λ _ fs. j fs }) f.1.backs);
       });
     }

@@ -13,8 +13,8 @@ use lib.ListN.{length, get_or, set}
 use Rattle.container.specs.Choice.{ite, upd}
 use Rattle.buffer.specs.Page.{page, put_all}
 use Rattle.buffer.proofs.Laws.{put_all_append}
-use Rattle.depths.specs.Rows.{Rows, rows, full}
-use Rattle.effects.specs.Used.{used_after, shown_after, deepened, Applied}
+use Rattle.depths.specs.Rows.{Rows, rows, Holds, full}
+use Rattle.effects.specs.Used.{used_after, shown_after, within, deepened, Applied}
 use Rattle.frames.specs.View.{frames_of}
 use Rattle.frames.specs.Turns.{Backs}
 use Rattle.frames.specs.Outcomes.{Opens}
@@ -61,6 +61,7 @@ use Rattle.run.specs.declared.Standing.{Standing}
 use Rattle.run.proofs.Cases.{row_as}
 use Rattle.run.proofs.Noting.{opened_noted}
 use Rattle.run.proofs.Decided.{reread, written, counted, Decided, count_stored}
+use Rattle.run.proofs.Lending.{decided_inside}
 use Rattle.run.proofs.Outcome.{outcome, goes_on_lem, finishes, runs_out, goes_back}
 use Rattle.run.proofs.Finding.{depth_still, opened}
 use Rattle.run.proofs.Changed.{Rereads}
@@ -113,7 +114,7 @@ last_of : (file : List ℕ) (k : ℕ) → (record_at file k).last ≡ last_actio
 unfolding record_at
 last_of file k = refl
 
-last_few : (file : List ℕ) → last_action file ≤ 6
+pub last_few : (file : List ℕ) → last_action file ≤ 6
 unfolding ite
 last_few file = by (eqb (version file) 1)
   where
@@ -130,6 +131,12 @@ pub record Asking (file : List ℕ) (k x y e : ℕ) (n : Shapes) (l : List ℕ) 
   pub reads : Reads file k x y e
   pub stands : Stands n l s (stop (stop_of file) count) (threads_of threads counts h) (stand root used shown (Ok tt) k finished at) first buffer (after file k)
   pub asks : a ≡ asked (last_action file) x y e (seen threads x end).place
+
+-- record k of the file has the answer m
+abbrev pub Said : List ℕ → ℕ → Answer → Type 0
+Said file k m =
+    (b : Bench) × (d : ℕ) × (c : ℕ)
+    × (record_step (after file k).bench (record_at file k).last (record_at file k).first (record_at file k).second (record_at file k).extra ≡ carried b (row m d c))
 
 module _ {file : List ℕ} {k x y e : ℕ} {n : Shapes} {l : List ℕ} {s : Stores} {threads : List Notes} {counts : List ℕ} {h : ℕ → Frame} {count root used shown finished at : ℕ}
     {first buffer : List ℕ} {a : Outcome Asked Refusal} {end : Notes} (q : Asking file k x y e n l s threads counts h count root used shown finished at first buffer a end) where
@@ -168,7 +175,7 @@ module _ {file : List ℕ} {k x y e : ℕ} {n : Shapes} {l : List ℕ} {s : Stor
   pub carried_on : {n' : Shapes} {l' : List ℕ} {s' : Stores} {threads' : ℕ → Thread} {deep' : Rows} {root' used' shown' count' finished' at' : ℕ} {buffer' : List ℕ} (th : Thread) (w : Row)
       → threads' ≡ upd (threads_of threads counts h) (x / 16 % 4) th
       → record_step here (last_action file) x y e ≡ carried (bench (store (full n' deep') root' used' s' shown' (stop (stop_of file) count')) (upd (threads_of threads counts h) (x / 16 % 4) th)) w
-      → (length l' ≡ 16384 → rows l' ≡ deep')
+      → (Holds (length l') used' → rows l' ≡ deep')
       → finished' ≡ row_count w + finished → page buffer' at' ≡ put_all (page buffer at) (row_bytes file (x / 16 % 4) (thread (seen threads x end) own_frames) w)
       → Stands n' l' s' (stop (stop_of file) count') threads' (stand root' used' shown' (Ok tt) (k + 1) finished' at') first buffer' (after file (k + 1))
   carried_on {n'} {l'} {s'} {threads'} {deep'} th w t f g m ro =
@@ -188,6 +195,16 @@ module _ {file : List ℕ} {k x y e : ℕ} {n : Shapes} {l : List ℕ} {s : Stor
         rows = ro ∙ (ap (λ (i : ℕ). put_all (page buffer at) (row_bytes file i (thread (seen threads x end) own_frames) w)) mine
             ∙ (ap (λ (v : Thread). put_all (page buffer at) (row_bytes file (x / 16) v w)) at-mine ∙ rw (q.stands.rows, ← put_all_append)));
       })
+
+  -- its answer, and its action
+  pub said_so : {b : Bench} {m : Answer} {d c : ℕ} → record_step here (last_action file) x y e ≡ carried b (row m d c) → Said file k m
+  said_so {b} {m} {d} {c} f =
+      (b, d, c, rw (last_of file k, ← q.reads.0, ← q.reads.1.0, ← q.reads.1.1) (rw q.stands.bench at f))
+
+  pub acting : x / 16 < 4 → (seen threads x end).action ≡ ((after file k).bench.threads (x / 16)).action
+  acting low =
+      let mine : x / 16 % 4 ≡ x / 16 = omega arith in
+      ap (λ (t : Thread). t.action) (sym own ∙ (ap (threads_of threads counts h) mine ∙ ap (λ (b : Bench). b.threads (x / 16)) q.stands.bench))
 
   -- or it is refused
   pub refused_at : (v : Refusal) → record_step here (last_action file) x y e ≡ refused (refusal_number v)
@@ -210,6 +227,10 @@ module _ {file : List ℕ} {k x y e : ℕ} {n : Shapes} {l : List ℕ} {s : Stor
 
   pub wants_so : {m : Outcome Asked Refusal} → a ≡ m → wants ≡ m
   wants_so z = sym q.asks ∙ z
+
+  -- a start is not refused
+  pub started_on : {c : Action} → a ≡ Ok (Start c) → (after file (k + 1)).refusal ≡ 0
+  started_on z = rw (one_on, rw q.stands.bench at (asked_on (wants_so z))) refl
 
   -- the table with the notes v for its thread, and c frames, or as many as before
   pub table_with : (h' : ℕ → Frame) (v : Notes) (c : ℕ) → ((u j : ℕ) → j ≤ 4 → (u ≡ x / 16 % 4 → ⊥) → frames_of h' u j ≡ frames_of h u j)
@@ -267,7 +288,7 @@ module _ {file : List ℕ} {k x y e : ℕ} {n : Shapes} {l : List ℕ} {s : Stor
     -- it goes on or finishes; what it writes leaves n', root', used' and the depths l'. The routes read are noted in `threads'`, and count' is the
     -- new count
     module _ {n' : Shapes} (l' : List ℕ) {root' used' : ℕ} {threads' : List Notes} {count' : ℕ} (w : Applied n root used s shown effect n' root' s)
-        (g : length l' ≡ 16384 → rows l' ≡ deepened effect n q.stands.deep) (u : used' ≡ used_after used effect)
+        (g : within effect (length l') → Holds (length l') used → rows l' ≡ deepened effect n q.stands.deep) (u : used' ≡ used_after used effect)
         (b : Rereads (x / 16 % 4) r end threads threads') (c : count' ≡ recounted (seen threads x end).place count) where
       stored_on : store (full n' (deepened effect n q.stands.deep)) root' used' s shown
           (stop (stop_of file) count') ≡ perform (counted (seen threads x end).place effect) here.store
@@ -276,6 +297,10 @@ module _ {file : List ℕ} {k x y e : ℕ} {n : Shapes} {l : List ℕ} {s : Stor
           ap (λ (j : ℕ). store (full n' (deepened effect n q.stands.deep)) root' used' s j v) (sym (shown_still d shown))
           ∙ (rw u (w.stored q.stands.deep v)
           ∙ count_stored (seen threads x end).place effect (full n q.stands.deep) root used s shown (stop_of file) count _ i.quiet c)
+
+      -- the depths, where those of the nodes then used are lent
+      deep_on : Holds (length l') used' → rows l' ≡ deepened effect n q.stands.deep
+      deep_on f = let j = decided_inside here.store (seen threads x end) r own_frames d i (length l') (rw u at f) in g j.0 j.1
 
       -- the table with the notes v for its thread, and m frames, or as many as before
       again_with : (h' : ℕ → Frame) (v : Notes) (m : ℕ) → ((u j : ℕ) → j ≤ 4 → (u ≡ x / 16 % 4 → ⊥) → frames_of h' u j ≡ frames_of h u j)
@@ -295,7 +320,7 @@ module _ {file : List ℕ} {k x y e : ℕ} {n : Shapes} {l : List ℕ} {s : Stor
           → Stands n' l' s (stop (stop_of file) count') (threads_of (set threads' (x / 16 % 4) v) counts h) (stand root' used' shown (Ok tt) (k + 1) finished at) first buffer (after file (k + 1))
       unfolding put_all
       noted_on {v} {p = p} {m = m} o f j = carried_on (thread v own_frames) no_row (again_noted h v (λ _ _ _ _. refl))
-          (steps_on (goes_on_lem here (x / 16 % 4) (seen threads x end) r own_frames d own i o (noted_of m p f) ∙ rw (← stored_on, j))) g (omega arith) refl
+          (steps_on (goes_on_lem here (x / 16 % 4) (seen threads x end) r own_frames d own i o (noted_of m p f) ∙ rw (← stored_on, j))) deep_on (omega arith) refl
 
       -- with a new frame, for the range base that it has reached: nothing is written, so the base is as it was
       base_still : {e₁ : Write} {p : ℕ} → d ≡ Goes e₁ p Note.Opened → helping (n' (seen threads x end).base) ≡ top
@@ -319,7 +344,7 @@ module _ {file : List ℕ} {k x y e : ℕ} {n : Shapes} {l : List ℕ} {s : Stor
           let most : Opens h h' t (get_or counts t 0) (helping (n' (seen threads x end).base)) = rw here-base at p in
           let more : frames_of h' t (get_or counts t 0 + 1) ≡ top ∷ own_frames = rw add-one (most.frames ∙ ap (λ (m : Frame). m ∷ own_frames) (base_still o)) in
           carried_on _ no_row (again_with h' v (get_or counts t 0 + 1) p.others)
-          (steps_on (goes_on_lem here t (seen threads x end) r own_frames d own i o (noted_of Note.Opened p₁ j) ∙ rw (← stored_on, ← more))) g (omega arith) refl
+          (steps_on (goes_on_lem here t (seen threads x end) r own_frames d own i o (noted_of Note.Opened p₁ j) ∙ rw (← stored_on, ← more))) deep_on (omega arith) refl
 
       -- back, where its frames lead
       pub back_on : {v : Notes} {h' : ℕ → Frame} {p : ℕ} {e₁ : Write} → d ≡ Back e₁ → Noted (seen threads' x end) v Note.Nothing p → Backs h h' (x / 16 % 4) (get_or counts (x / 16 % 4) 0) p
@@ -329,26 +354,35 @@ module _ {file : List ℕ} {k x y e : ℕ} {n : Shapes} {l : List ℕ} {s : Stor
       back_on {v} {h'} {p} o f m =
           carried_on (thread v (frames_of h' (x / 16 % 4) (get_or counts (x / 16 % 4) 0))) no_row (again_noted h' v m.others)
           (steps_on (goes_back here (x / 16 % 4) (seen threads x end) r own_frames d own i o (noted_of Note.Nothing p f)
-          (m.turn effect (thread (reread r (seen threads x end)) own_frames)) ∙ rw (← stored_on))) g (omega arith) refl
+          (m.turn effect (thread (reread r (seen threads x end)) own_frames)) ∙ rw (← stored_on))) deep_on (omega arith) refl
 
-      -- with a row: from version 2 on the depths are lent whole, and the depth is read in them after what is written
+      pub answer_said : {e₁ : Write} {a₁ : Answer} → d ≡ Answers e₁ a₁ → Said file k (shownAs a₁)
+      answer_said o = said_so (steps_on (finishes here (x / 16 % 4) (seen threads x end) r own_frames d own i o))
+
+      pub answer_acts : x / 16 < 4 → (seen threads' x end).action ≡ ((after file k).bench.threads (x / 16)).action
+      answer_acts low = ap (λ (t : Notes). t.action) b.own ∙ acting low
+
+      -- with a row: from version 2 on the depths of all nodes then used are lent, and the depth is read in them after what is written
       pub said_on : {v : Notes} {finished' at' : ℕ} {buffer' : List ℕ} (m : ℕ) {e₁ : Write} {a₁ : Answer} → d ≡ Answers e₁ a₁ → thread v [] ≡ idle → finished' ≡ 1 + finished → m ≡ version file
-          → ((version file ≡ 1 → ⊥) → length l' ≡ 16384)
+          → ((version file ≡ 1 → ⊥) → Holds (length l') (after file (k + 1)).bench.store.used)
           → page buffer' at' ≡ put_all (page buffer at) (row_of m (x / 16 % 4) (seen threads' x end) a₁ (depth_by a₁ (rows l') (seen threads' x end).station))
           → Stands n' l' s (stop (stop_of file) count') (threads_of (set threads' (x / 16 % 4) v) (set counts (x / 16 % 4) 0) h)
           (stand root' used' shown (Ok tt) (k + 1) finished' at') first buffer' (after file (k + 1))
       said_on {v} m {a₁ = a₁} o f j vs len ro =
           let deep : Rows = q.stands.deep in
+          let said = steps_on (finishes here (x / 16 % 4) (seen threads x end) r own_frames d own i o) in
+          let same : used' ≡ (after file (k + 1)).bench.store.used = ap (λ (t : Store). t.used) stored_on ∙ sym (ap (λ (a : Bench). a.store.used) (next_bench said)) in
           let found : (version file ≡ 1 → ⊥) → depth_by a₁ (rows l') (seen threads x end).station ≡ depth_in a₁ (full n deep) (seen threads x end).station =
-          λ z. ap (λ (r : Rows). depth_by a₁ r (seen threads x end).station) (g (len z))
+          λ z. ap (λ (r : Rows). depth_by a₁ r (seen threads x end).station) (deep_on (rw same (len z)))
           ∙ depth_still (sight n root used s shown (stop (stop_of file) count)) (seen threads x end) low r d i own_frames n deep (seen threads x end).station o in
           carried_on (thread v []) (row (shownAs a₁) (depth_in a₁ (full n deep) (seen threads x end).station) 0)
           (again_with h v 0 (λ _ _ _ _. refl))
-          (steps_on (finishes here (x / 16 % 4) (seen threads x end) r own_frames d own i o ∙ rw (← stored_on, f))) g j
+          (steps_on (finishes here (x / 16 % 4) (seen threads x end) r own_frames d own i o ∙ rw (← stored_on, f))) deep_on j
           (ro ∙ (ap (λ (t : Notes). put_all (page buffer at) (row_of m (x / 16 % 4) t a₁ (depth_by a₁ (rows l') t.station))) b.own
           ∙ ap (put_all (page buffer at)) (row_as file m (x / 16 % 4) (seen threads x end) own_frames a₁ _ _ vs found)))
 
 -- the depths after a step, where they are lent
 pub deeper : {n n' : Shapes} {l l' : List ℕ} {s s' : Stores} {v : Stop} {threads : ℕ → Thread} {t : Standing} {first buffer : List ℕ} {p : Progress} {e : Effect} {root used shown r : ℕ}
-    (h : Stands n l s v threads t first buffer p) → Enacted n l root used s shown e n' l' r s' → length l' ≡ length l → length l' ≡ 16384 → rows l' ≡ deepened e n h.deep
-deeper {n} {l = l} {l' = l'} {e = e} h o same z = let w : length l ≡ 16384 = sym same ∙ z in o.depths.rows w ∙ ap (deepened e n) (h.depths w)
+    (h : Stands n l s v threads t first buffer p) → Enacted n l root used s shown e n' l' r s' → length l' ≡ length l
+    → within e (length l') → Holds (length l') t.used → rows l' ≡ deepened e n h.deep
+deeper {n} {t = t} {e = e} h o same z w = o.depths.rows (subst (within e) same z) ∙ ap (deepened e n) (h.depths (subst (λ (m : ℕ). Holds m t.used) same w))

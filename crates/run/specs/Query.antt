@@ -1,8 +1,8 @@
 -- What a step at a place from 60 on writes, what it leaves, what else changes frames, and the row of a query.
 use Rattle.std.specs.Prelude.{ℕ, ◌+◌, ◌%◌, ◌≤◌, ◌<◌, ◌≡◌, not, List, [], ◌∷◌, eqb, length, Some, None, Option, Result as Outcome, Ok, Err}
 use Rattle.container.specs.Choice.{upd}
-use Rattle.depths.specs.Rows.{Rows, rows, full}
-use Rattle.effects.specs.Used.{used_after, shown_after, deepened}
+use Rattle.depths.specs.Rows.{Rows, rows, Holds, full}
+use Rattle.effects.specs.Used.{used_after, shown_after, within, deepened}
 use Rattle.machine.specs.Enacted.{Enacted}
 use Rattle.frames.specs.View.{held, frames_of}
 use Rattle.frames.specs.Turns.{Backs}
@@ -48,9 +48,9 @@ Ranged (Commit m x p n g o) = ⊥
 Ranged (Ask v x p y l h k new) = Unit {0}
 Ranged (Fill k c) = Unit {0}
 
--- the depths l become l': those of node y are those of x, where depths are lent
+-- the depths l become l': those of node y are those of x, where those of y are lent
 pub record Laid (l : List ℕ) (x y : ℕ) (l' : List ℕ) : Type 0 where
-  pub rows : length l ≡ 16384 → rows l' ≡ upd (rows l) y (rows l x)
+  pub rows : Holds (length l) (y + 1) → rows l' ≡ upd (rows l) y (rows l x)
 
 -- the effect e takes the nodes t, the depths l and the stores k, with root o, u numbers used and j stores shown, to t', l', k' and r
 pub record Wrote (t : Shapes) (l : List ℕ) (k : Stores) (o u j : ℕ) (e : Effect) (t' : Shapes) (l' : List ℕ) (k' : Stores) (r : Counts) : Type 0 where
@@ -76,13 +76,21 @@ abbrev pub IsRefused : Outcome Left Refusal → Type 0
 IsRefused (Ok v) = ⊥
 IsRefused (Err f) = Unit {0}
 
+-- the numbers used once it has left r, where u are used before
+abbrev pub used_in : ℕ → Outcome Left Refusal → ℕ
+used_in u (Ok (Goes c p x n)) = c.used
+used_in u (Ok (Found c s)) = c.used
+used_in u (Err f) = u
+
 -- thread i has the notes th and n frames, which h holds. Its step, whatever the depths and the stop, takes the nodes t, the stores k and their counts to t', k'
--- and the counts in r, and the thread to what r has and h' holds; the frames of the others stay. A refused step leaves nodes, depths, stores and frames
+-- and the counts in r, and the thread to what r has and h' holds; the frames of the others stay. What holds the depths of all nodes then
+-- used holds those of its new nodes, and of those used before. A refused step leaves nodes, depths, stores and frames
 pub record Leaves (t : Shapes) (l : List ℕ) (k : Stores) (o u j : ℕ) (h : ℕ → Frame) (i n : ℕ) (th : Notes) (t' : Shapes) (l' : List ℕ) (k' : Stores) (h' : ℕ → Frame) (r : Outcome Left Refusal) : Type 0 where
   pub effect : Effect
   pub turn : (b : Bench) (d : Rows) (z : Stop) → b.store ≡ store (full t d) o u k j z → b.threads i ≡ thread th (frames_of h i n)
       → taken b i (step (place_of (b.threads i).place) (sight_of b.store) (b.threads i)) ≡ left_of t' (deepened effect t d) k' z h' b i th r
-  pub depths : length l ≡ 16384 → rows l' ≡ deepened effect t (rows l)
+  pub depths : within effect (length l) → rows l' ≡ deepened effect t (rows l)
+  pub inside : Holds (length l) (used_in u r) → within effect (length l) × Holds (length l) u
   pub others : (v m : ℕ) → m ≤ 4 → (v ≡ i → ⊥) → frames_of h' v m ≡ frames_of h v m
   pub same : IsRefused r → (t' ≡ t) × ((l' ≡ l) × ((k' ≡ k) × (h' ≡ h)))
 

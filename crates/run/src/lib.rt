@@ -14,11 +14,14 @@ ghost use Rattle.buffer.specs.Writes.{Writes};
 ghost use Rattle.definitions.specs.Nodes.{shape, empty_base};
 ghost use Rattle.definitions.specs.Refusal.{code_of};
 ghost use Rattle.definitions.specs.Schedule.{count_of};
+ghost use Rattle.definitions.specs.Records.{action_number};
 ghost use Rattle.definitions.specs.Versions.{version, by, width, row_room};
 ghost use Rattle.definitions.specs.Run.{ended, report_of, overlay, wider_row, run_refusal, run_report, run_buffer};
 ghost use Rattle.run.specs.Threads.{recounted};
 ghost use Rattle.run.specs.Settled.{Settles};
+ghost use Rattle.run.specs.Tallying.{Room, Told, Closed, Added};
 ghost use Rattle.run.specs.Standing.{Lent, Spare, Enough, row_of, Carried, Handed};
+ghost use Rattle.season.specs.Tally.{unfinished, place, sum, records_tally, numbers};
 
 use buffer::Page;
 use definitions::{Action, Answer, Nodes, Place, Quarter, Refusal, Report, Stop, Version};
@@ -178,33 +181,74 @@ fn settle(
     }
 }
 
-// All records of a file that is not refused, from a fresh bench; the first one refused ends them. A thread's record changes where it
-// lies; what decides a step gets a copy, made once the place is known, so that only the notes it reads are loaded. Version 1 has a way of
-// its own to ask, so that it pays nothing for what the others have more (a long run takes no more than at the start: docs/DESIGN-PASS.md,
-// "Speed"). `frames` has how many frames each thread has; the arrays that hold them may hold anything at first. A file that asks for no query has
-// no frame and no result of a store, and may be lent no memory for them. That the file is proper is told to the few that carry it out: a
-// struct around C's slice would say the same, and each would open it. Which part decides a step below 60 is a match on
-// ranges of places, 01's and 02's 4, 5 and 19: twelve parts with a function each, so that a function handed in for each would be no plainer. What
-// each decides is settled at once: with one `settle` after the match a decision lies in memory, and 4,096 records of version 1 take 1.04 times as
-// long, 256 records 1.15 times (docs/DESIGN-PASS.md, "Speed").
+// What a record that is not refused leaves of the own steps of its thread's operation, and of a tally that is lent: a start is counted, and is
+// unfinished until its row comes. A tally is lent as the depths are, by a slice that may be empty; its 65 numbers are C's. How much room they have
+// is told here, in `count_row` and to those who carry out a file: each leaves another.
+fn count_asked(tally: &mut [u32], own: &mut [u16; 4], t: usize, asked: Result<Asked, Refusal>)
+    requires { (t < 4) × ((length tally.old ≡ 65 → Room tally.old 1) × (get_or own.old t 0 < 4096)) }
+    ensures { Told asked t tally.old own.old tally.new own.new }
+{
+    match asked {
+        Ok(Asked::Step) => {
+            own[t] = own[t] + 1;
+        }
+        Ok(Asked::Start(action)) => {
+            own[t] = 0;
+            if let Some(cells) = tally.as_mut_array::<65>() {
+                let a = usize::from(u8::from(action));
+                cells[a] = cells[a] + 1;
+                cells[24 + a] = cells[24 + a] + 1;
+            }
+        }
+        Err(_) => {}
+    }
+}
+
+// What a row leaves of a tally that is lent: yes or no, the n own steps of its operation, which was unfinished until then.
+fn count_row(tally: &mut [u32], action: Action, yes: bool, n: u16)
+    requires { (n ≤ 4096) × (length tally.old ≡ 65 → Room tally.old 4096 × (0 < get_or tally.old (place unfinished (action_number action)) 0)) }
+    ensures { Closed (action_number action) yes n tally.old tally.new }
+{
+    if let Some(cells) = tally.as_mut_array::<65>() {
+        let a = usize::from(u8::from(action));
+        let answer = if yes { 8 + a } else { 16 + a };
+        cells[answer] = cells[answer] + 1;
+        cells[24 + a] = cells[24 + a] - 1;
+        cells[32 + a] = cells[32 + a] + n as u32;
+        cells[40 + a] = cells[40 + a].max(n as u32);
+    }
+}
+
+// All records of a file that is not refused, from a fresh bench; the first one refused ends them. A thread's record changes where it lies; what
+// decides a step gets a copy, made once the place is known, so that only the notes it reads are loaded. Version 1 has a way of its own to ask, so
+// that it pays nothing for what the others have more (a long run takes no more than at the start: docs/DESIGN-PASS.md, "Speed"). `frames` has how
+// many frames each thread has; the arrays that hold them may hold anything at first. A file that asks for no query has no frame and no result of a
+// store, and may be lent no memory for them. A tally that is lent gets what the records add, counted as they come: `own` has the own steps of each
+// thread's operation, of 16 bits, since an array of wider numbers takes a run of version 1 two to eight hundredths longer. That the file is proper
+// is told to the few that carry it out: a struct around C's slice would say the same, and each would open it. Which part decides a step below 60 is
+// a match on ranges of places, 01's and 02's 4, 5 and 19: twelve parts with a function each, so that a function handed in for each would be no
+// plainer. What each decides is settled at once: with one `settle` after the match a decision lies in memory, and 4,096 records of version 1 take
+// 1.04 times as long, 256 records 1.15 times (docs/DESIGN-PASS.md, "Speed").
 pub fn carry_out(
     nodes: &mut Nodes,
     depths: &mut [u16],
     results: &mut [Option<u64>],
     lent: &mut [Frame],
+    tally: &mut [u32],
     schedule: &[u8],
     rows: &mut [u8],
 ) -> Standing
     requires { Proper schedule.now × ((table nodes.old ≡ (λ _. shape empty_base))
-        × ((stores results.old ≡ (λ _. None)) × (Lent schedule.now depths.old × Spare schedule.now results.old lent.old))) }
+        × ((stores results.old ≡ (λ _. None)) × (Lent schedule.now depths.old × (Spare schedule.now results.old lent.old × Room tally.old 33554432)))) }
     ensures { Carried schedule.now (count_of schedule.now) (table nodes.new)
         depths.new (stores results.new) result rows.old rows.new
-        × Handed schedule.now (ended schedule.now).bench result lent.new }
+        × (Handed schedule.now (ended schedule.now).bench result lent.new × Added schedule.now tally.old tally.new) }
 {
     let v = schedule::version_of(schedule);
     let idle = machine::idle_notes();
     let mut threads = [idle; 4];
     let mut frames = [0usize; 4];
+    let mut own = [0u16; 4];
     let mut count = 0usize;
     let mut root = 0u8;
     let mut used = 1u16;
@@ -225,6 +269,7 @@ pub fn carry_out(
             extra = extra_of(bytes);
             machine::ask(6, x, y, extra, place)
         };
+        count_asked(tally, &mut own, t, asked);
         let job = match asked {
             Err(refusal) => Job::Task(Task::Refuse(refusal)),
             Ok(what) => match what {
@@ -310,6 +355,7 @@ pub fn carry_out(
         match job {
             Job::Nothing => {}
             Job::Row(answer) => {
+                count_row(tally, threads[t].action, u8::from(answer) == 1, own[t]);
                 at = put_row(rows, at, v, t as u8, threads[t], answer, depths);
                 finished += 1;
                 threads[t] = idle;
@@ -347,6 +393,7 @@ pub fn carry_out(
                         root = counts.root;
                         used = counts.used;
                         shown = counts.shown;
+                        count_row(tally, threads[t].action, set != 0, own[t]);
                         at = query::put_found(rows, at, v, t as u8, threads[t], set);
                         finished += 1;
                         threads[t] = idle;
@@ -397,11 +444,11 @@ fn room_for(schedule: &[u8]) -> usize
     }
 }
 
-// Whether a file from version 2 on may ask for a query: not if it has at most 64 records and none of them does. So many are looked at
+// Whether a file from version 2 on is long or asks for a query: not if it has at most 64 records and none of them does. So many are looked at
 // sooner than the memory for queries is cleared; the run of a longer file takes far longer than either. A loop: with `any` over the same `step_by`
 // no proof closes.
 pub fn may_ask(schedule: &[u8]) -> bool
-    ensures { result ≡ false → Unasked schedule.now }
+    ensures { result ≡ false → Unasked schedule.now × (length schedule.now ≤ 259) }
 {
     if 259 < schedule.len() {
         return true;
@@ -430,17 +477,20 @@ pub fn check(schedule: &[u8], room: usize) -> Result<(), Refusal>
 // Run of a file that is not refused, with so many depths, results of stores, and frames. Each instance has a stack frame of its own: inlined,
 // the depths of all would lie in one. List and State have a `report` each: what comes of the standing is a report here, a text and a state there.
 // `Proper` and `Enough` are told to each of the three: they tie the file to the sizes, and a struct of the two would be made by its caller from the
-// same two facts. The memory is fixed, for there is no heap.
+// same two facts. The memory is fixed, for there is no heap. A tally that is lent gets what the records add.
 #[inline(never)]
 fn report<const DEPTHS: usize, const RESULTS: usize, const FRAMES: usize>(
+    tally: &mut [u32],
     schedule: &[u8],
     rows: &mut [u8],
 ) -> Report
     requires proper { Proper schedule.now }
     requires enough { Enough schedule.now DEPTHS RESULTS FRAMES }
     requires room { by schedule.now 2 7 * count_of schedule.now ≤ length rows.old }
+    requires tally { Room tally.old 33554432 }
     ensures report { result ≡ report_of (ended schedule.now) }
     ensures rows { rows.new ≡ overlay (ended schedule.now).rows rows.old }
+    ensures tally { Added schedule.now tally.old tally.new }
 {
     let mut nodes = nodes::fresh();
     let mut depths = [0u16; DEPTHS];
@@ -451,6 +501,7 @@ fn report<const DEPTHS: usize, const RESULTS: usize, const FRAMES: usize>(
         &mut depths,
         &mut results,
         &mut lent,
+        tally,
         schedule,
         rows,
     );
@@ -464,18 +515,37 @@ fn report<const DEPTHS: usize, const RESULTS: usize, const FRAMES: usize>(
     }
 }
 
-// Run: the report, and the rows in the buffer. Version 1 has no use for depths.
-pub fn run(schedule: &[u8], rows: &mut [u8]) -> Report
-    ensures { (result ≡ run_report schedule.now (length rows.old)) × (rows.new ≡ run_buffer schedule.now rows.old) }
+// Run, and what the records of the file add to a tally, where one is lent. Version 1 has no use for depths; 64 records use at most 65 nodes, with
+// 64 depths each.
+fn run_counted(schedule: &[u8], rows: &mut [u8], tally: &mut [u32]) -> Report
+    requires { Room tally.old 33554432 }
+    ensures run { (result ≡ run_report schedule.now (length rows.old)) × (rows.new ≡ run_buffer schedule.now rows.old) }
+    ensures tally { length tally.old ≡ 65 → numbers tally.new ≡ sum (numbers tally.old) (records_tally schedule.now (length rows.old)) }
 {
     if let Err(r) = check(schedule, rows.len()) {
         return Report::from(r);
     }
     if schedule[0] == 1 {
-        report::<0, 0, 0>(schedule, rows)
+        report::<0, 0, 0>(tally, schedule, rows)
     } else if may_ask(schedule) {
-        report::<16384, 256, 16>(schedule, rows)
+        report::<16384, 256, 16>(tally, schedule, rows)
     } else {
-        report::<16384, 0, 0>(schedule, rows)
+        report::<4160, 0, 0>(tally, schedule, rows)
     }
+}
+
+// Run: the report, and the rows in the buffer.
+pub fn run(schedule: &[u8], rows: &mut [u8]) -> Report
+    ensures { (result ≡ run_report schedule.now (length rows.old)) × (rows.new ≡ run_buffer schedule.now rows.old) }
+{
+    run_counted(schedule, rows, &mut [])
+}
+
+// Run, and what the records of the file add put into the tally that is lent: all but its refusal.
+pub fn tallied(schedule: &[u8], rows: &mut [u8], tally: &mut [u32; 65]) -> Report
+    requires { Room tally.old 33554432 }
+    ensures { (result ≡ run_report schedule.now (length rows.old)) × ((rows.new ≡ run_buffer schedule.now rows.old)
+        × (numbers tally.new ≡ sum (numbers tally.old) (records_tally schedule.now (length rows.old)))) }
+{
+    run_counted(schedule, rows, tally)
 }

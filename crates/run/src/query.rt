@@ -58,12 +58,12 @@ pub enum Left {
     },
 }
 
-// The depths of a range base are those of the base that it replaces, where depths are lent.
+// The depths of a range base are those of the base that it replaces, where its own are lent.
 fn lay(depths: &mut [u16], from: u8, to: u8)
     ensures { Laid depths.old from to depths.new }
 {
-    if let Some(lent) = depths.as_mut_array() {
-        effects::deepen_range(lent, to, from);
+    if !depths.is_empty() {
+        effects::deepen_range(depths, to, from);
     }
 }
 

@@ -87,7 +87,8 @@ unfolding file_refusal ite
 proper file =
     by (ltb (length file) 3) (eqb (version file) 1 || (eqb (version file) 2 || eqb (version file) 3)) (ltb 4096 (count_of file)) (eqb (length file) (3 + width file * count_of file)) refl refl refl
   where
-    by : (a b c d : Bool) → ltb (length file) 3 ≡ a → ltb 4096 (count_of file) ≡ c → eqb (length file) (3 + width file * count_of file) ≡ d → ◌≡◌ {A = ℕ} (ite a 1 (ite b (ite c 3 (ite d 0 4)) 2)) 0 → Proper file
+    by : (a b c d : Bool) → ltb (length file) 3 ≡ a → ltb 4096 (count_of file) ≡ c → eqb (length file) (3 + width file * count_of file) ≡ d
+        → ◌≡◌ {A = ℕ} (ite a 1 (ite b (ite c 3 (ite d 0 4)) 2)) 0 → Proper file
     by true b c d e f g z = absurd (omega arith)
     by false false c d e f g z = absurd (omega arith)
     by false true true d e f g z = absurd (omega arith)
@@ -134,7 +135,10 @@ module _ (file : List ℕ) (at : ℕ) where
   unfolding two_from ite
   two_gone h = rw (le-ltb _ _ h)
 
-  four_there : at + 3 < length file → four_from file at ≡ record { found = Some (record { first = get_or file at 0; second = get_or file (at + 1) 0; extra = get_or file (at + 2) 0 * 256 + get_or file (at + 3) 0 }); at = at + 4 }
+  four_there : at + 3 < length file → four_from file at ≡ record {
+    found = Some (record { first = get_or file at 0; second = get_or file (at + 1) 0; extra = get_or file (at + 2) 0 * 256 + get_or file (at + 3) 0 });
+    at = at + 4;
+  }
   unfolding four_from ite
   four_there h = rw (lt-ltb _ _ h)
 
@@ -152,14 +156,16 @@ module _ (file : List ℕ) (at : ℕ) where
     by_two e = rw (ne_eqb _ _ e)
 
 -- a call of `next`, where `rest` is what the reader has left
-module _ (r : Reader) {rest : List ℕ} (h : (r.at ≤ length r.schedule.now) × (length r.schedule.now ≤ length r.schedule.now) × (rest ≡ slice_range r.schedule.now r.at (length r.schedule.now)) × (length rest + r.at ≡ length r.schedule.now)) where
+module _ (r : Reader) {rest : List ℕ} (h : (r.at ≤ length r.schedule.now) × (length r.schedule.now ≤ length r.schedule.now)
+    × (rest ≡ slice_range r.schedule.now r.at (length r.schedule.now)) × (length rest + r.at ≡ length r.schedule.now)) where
   byte_of : (i : ℕ) → i < length rest → get_or rest i 0 ≡ get_or r.schedule.now (r.at + i) 0
   byte_of i l = rw h.2 (get_or-take _ _ i 0 (omega arith) ∙ get_or-drop r.at r.schedule.now i 0)
 
   first_of : 0 < length rest → get_or rest 0 0 ≡ get_or r.schedule.now r.at 0
   first_of l = byte_of 0 l ∙ rw add-zero
 
-  pub reads_two : r.version ≡ 1 → 2 ≤ length rest → Reads r (Some (record { first = get_or rest 0 0; second = get_or rest 1 0; extra = 0 })) (record { schedule = r.schedule; version = r.version; at = r.at + 2 })
+  pub reads_two : r.version ≡ 1 → 2 ≤ length rest
+      → Reads r (Some (record { first = get_or rest 0 0; second = get_or rest 1 0; extra = 0 })) (record { schedule = r.schedule; version = r.version; at = r.at + 2 })
   reads_two v l =
       let e : next_of r ≡ _ = by_one r.schedule.now r.at r.version v ∙ two_there r.schedule.now r.at (omega arith) in
       record { given = rw (e, first_of (omega arith), byte_of 1 (omega arith)); position = rw e; file = refl; version = refl }
@@ -194,14 +200,18 @@ read_in file k h = elim (ℕ_discrete (version file) 1) [
   | no e ↦ (let z : eqb (version file) 1 ≡ false = ne_eqb _ _ e in by_two file (3 + width file * k) (version file) e ∙ rw z (two (rw z at h)))
 ]
   where
-    one : 3 + 2 * suc k ≤ length file → two_from file (3 + 2 * k) ≡ record { found = Some (record { first = get_or file (3 + 2 * k) 0; second = get_or file (4 + 2 * k) 0; extra = 0 }); at = 3 + 2 * suc k }
+    one : 3 + 2 * suc k ≤ length file
+        → two_from file (3 + 2 * k) ≡ record { found = Some (record { first = get_or file (3 + 2 * k) 0; second = get_or file (4 + 2 * k) 0; extra = 0 }); at = 3 + 2 * suc k }
     one l =
         let e : 3 + 2 * k + 1 ≡ 4 + 2 * k = omega arith in
         let n : 3 + 2 * k + 2 ≡ 3 + 2 * suc k = omega arith in
         two_there file (3 + 2 * k) (omega arith) ∙ rw (e, n)
 
     two : 3 + 4 * suc k ≤ length file
-        → four_from file (3 + 4 * k) ≡ record { found = Some (record { first = get_or file (3 + 4 * k) 0; second = get_or file (4 + 4 * k) 0; extra = get_or file (5 + 4 * k) 0 * 256 + get_or file (6 + 4 * k) 0 }); at = 3 + 4 * suc k }
+        → four_from file (3 + 4 * k) ≡ record {
+          found = Some (record { first = get_or file (3 + 4 * k) 0; second = get_or file (4 + 4 * k) 0; extra = get_or file (5 + 4 * k) 0 * 256 + get_or file (6 + 4 * k) 0 });
+          at = 3 + 4 * suc k;
+        }
     two l =
         let e : 3 + 4 * k + 1 ≡ 4 + 4 * k = omega arith in
         let f : 3 + 4 * k + 2 ≡ 5 + 4 * k = omega arith in

@@ -1,3 +1,4 @@
+pub mod Sums
 pub mod Cases
 pub mod Quick
 pub mod Tallies

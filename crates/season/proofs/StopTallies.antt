@@ -45,7 +45,9 @@ singles =
 
 -- computed by the quick form, which is the definition
 computed : map (λ (s : Single). quick_tally s.asks.file s.asks.room) singles ≡ map (λ (s : Single). filled s.adds) singles
-unfolding refused_once busy_with left_busy sum join taken listed run_refusal count_of record_at file_refusal check replaceable between reaches adding back reached_first reached_next carried_out stepped started asked record_step reached onward followed blocked lacks cleared lost probe replaced beside step ite has insert remove union cut below from size least drop_least upper_half lower_half split_key put take_out merge inside lower upper ones_in count_trailing_zeros
+unfolding refused_once busy_with left_busy sum join taken listed run_refusal count_of record_at file_refusal check replaceable between reaches adding back
+    reached_first reached_next carried_out stepped started asked record_step reached onward followed blocked lacks cleared lost probe replaced beside step ite has
+    insert remove union cut below from size least drop_least upper_half lower_half split_key put take_out merge inside lower upper ones_in count_trailing_zeros
 computed = refl
 
 each : (l : List Single) → map (λ (s : Single). laid (file_tally s.asks.file s.asks.room)) l ≡ map (λ (s : Single). quick_tally s.asks.file s.asks.room) l

@@ -13,7 +13,8 @@ use Rattle.definitions.specs.Steps.{reached, onward, followed, blocked, lacks, c
 use Rattle.definitions.specs.Records.{taken as carried_out, stepped, started, asked, record_step}
 use Rattle.definitions.specs.Schedule.{count_of, record_at, file_refusal}
 use Rattle.definitions.specs.Run.{advance, after, run_refusal, run_report}
-use Rattle.season.specs.Tally.{starts, yes, no, unfinished, steps, largest, join, sum, taken, enter, ledger, busy_with, left_busy, refused_once, records_tally, file_tally, within, added, add_refusal, listed, laid, tally_report, tally_numbers}
+use Rattle.season.specs.Tally.{starts, yes, no, unfinished, steps, largest, join, sum, taken, enter, ledger, busy_with, left_busy, refused_once}
+use Rattle.season.specs.Tally.{records_tally, file_tally, within, added, add_refusal, listed, laid, tally_report, tally_numbers}
 use Rattle.definitions.proofs.Cases.{Lookup, Insert, Remove, Split, Join}
 use Rattle.definitions.proofs.Runs.{op, steps as steps', printed_run}
 use Rattle.definitions.proofs.DeepCases.{start, deep_run, Range}
@@ -66,7 +67,10 @@ singles =
     ∷ []
 
 single_tallies : map (λ (s : Single). laid (file_tally s.asks.file s.asks.room)) singles ≡ map (λ (s : Single). filled s.adds) singles
-unfolding file_tally records_tally refused_once ledger enter busy_with left_busy sum join taken listed after advance run_refusal run_report count_of record_at file_refusal check replaceable between reaches adding back reached_first reached_next carried_out stepped started asked record_step reached onward followed blocked lacks cleared lost probe replaced beside step ite has insert remove union cut below from size least drop_least upper_half lower_half split_key put take_out merge inside lower upper ones_in count_trailing_zeros
+unfolding file_tally records_tally refused_once ledger enter busy_with left_busy sum join taken listed after advance run_refusal run_report
+    count_of record_at file_refusal check replaceable between reaches adding back reached_first reached_next carried_out stepped started
+    asked record_step reached onward followed blocked lacks cleared lost probe replaced beside step ite has insert remove union cut below
+    from size least drop_least upper_half lower_half split_key put take_out merge inside lower upper ones_in count_trailing_zeros
 single_tallies = refl
 
 -- ---- a tally that is lent
@@ -97,9 +101,11 @@ lendings =
     ∷ lending (refusal 5 most ∷ []) short 19 (refusal 5 most ∷ [])
     -- one that it fills, and fields that it leaves
     ∷ lending (of steps 2 4294967292 ∷ []) (plain insert_nine) 0 (of starts 2 1 ∷ of yes 2 1 ∷ of steps 2 most ∷ of largest 2 3 ∷ [])
-    ∷ lending (of largest 2 most ∷ of no 2 most ∷ of yes 1 most ∷ refusal 5 most ∷ []) (plain insert_nine) 0 (of starts 2 1 ∷ of yes 2 1 ∷ of steps 2 3 ∷ of largest 2 most ∷ of no 2 most ∷ of yes 1 most ∷ refusal 5 most ∷ [])
+    ∷ lending (of largest 2 most ∷ of no 2 most ∷ of yes 1 most ∷ refusal 5 most ∷ []) (plain insert_nine) 0
+    (of starts 2 1 ∷ of yes 2 1 ∷ of steps 2 3 ∷ of largest 2 most ∷ of no 2 most ∷ of yes 1 most ∷ refusal 5 most ∷ [])
     -- places of no action and no refusal
-    ∷ lending (of starts 0 most ∷ of starts 7 most ∷ of largest 0 most ∷ refusal 0 most ∷ refusal 6 7 ∷ []) short 0 (of starts 0 most ∷ of starts 7 most ∷ of largest 0 most ∷ refusal 0 most ∷ refusal 6 7 ∷ refusal 5 1 ∷ [])
+    ∷ lending (of starts 0 most ∷ of starts 7 most ∷ of largest 0 most ∷ refusal 0 most ∷ refusal 6 7 ∷ []) short 0
+    (of starts 0 most ∷ of starts 7 most ∷ of largest 0 most ∷ refusal 0 most ∷ refusal 6 7 ∷ refusal 5 1 ∷ [])
     ∷ []
 
 record Handed : Type 0 where
@@ -113,5 +119,8 @@ abbrev promised : Lent → Handed
 promised c = record { refuses = c.answer; then = filled c.leaves }
 
 lent_tallies : map handed lendings ≡ map promised lendings
-unfolding tally_report tally_numbers added add_refusal within file_tally records_tally refused_once ledger enter busy_with left_busy sum join taken listed after advance run_refusal run_report count_of record_at file_refusal check replaceable between reaches adding back reached_first reached_next carried_out stepped started asked record_step reached onward followed blocked lacks cleared lost probe replaced beside step ite has insert remove union cut below from size least drop_least upper_half lower_half split_key put take_out merge inside lower upper ones_in count_trailing_zeros
+unfolding tally_report tally_numbers added add_refusal within file_tally records_tally refused_once ledger enter busy_with left_busy sum join taken listed
+    after advance run_refusal run_report count_of record_at file_refusal check replaceable between reaches adding back reached_first reached_next
+    carried_out stepped started asked record_step reached onward followed blocked lacks cleared lost probe replaced beside step ite has insert remove union
+    cut below from size least drop_least upper_half lower_half split_key put take_out merge inside lower upper ones_in count_trailing_zeros
 lent_tallies = refl

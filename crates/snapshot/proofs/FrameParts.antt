@@ -72,7 +72,8 @@ frame_parts p f e1 e2 e3 e4 e5 e6 e7 e8 = rw (e8, e7, e1, e2, e3, e4, e5, e6, be
 
 -- ---- the frames of thread t, d of them
 
-pub top_there : (l : List Kept) (t d w : ℕ) (k : Kept) {r : Option ℕ} {i : ℕ} {f : Kept} → r ≡ top_row t d → r ≡ Some i → f ≡ get_or l i k → i < length l → frame_bytes w (held_frame f) ≡ top_bytes w (frames_of (held l) t d)
+pub top_there : (l : List Kept) (t d w : ℕ) (k : Kept) {r : Option ℕ} {i : ℕ} {f : Kept} → r ≡ top_row t d → r ≡ Some i → f ≡ get_or l i k → i < length l
+    → frame_bytes w (held_frame f) ≡ top_bytes w (frames_of (held l) t d)
 top_there l t zero w k e s z h = absurd (cc)
 top_there l t (suc d) w k {i = i} e s z h =
     let at : i ≡ t * 4 + d = cc in
@@ -88,7 +89,8 @@ unfolding frames_bytes
 after_top k w h t zero = refl
 after_top k w h t (suc d) = let one : suc d - 1 ≡ d = omega arith in rw one
 
-pub frames_more : (h : ℕ → Frame) (k w t d : ℕ) (p : Page) {u e : ℕ} {q r : Page} → k < 4 → u ≡ t → e ≡ d - 1 → q ≡ put_all p (top_bytes w (frames_of h t d)) → put_all p (frames_bytes (4 - k) w (frames_of h t d)) ≡ r
+pub frames_more : (h : ℕ → Frame) (k w t d : ℕ) (p : Page) {u e : ℕ} {q r : Page} → k < 4 → u ≡ t → e ≡ d - 1 → q ≡ put_all p (top_bytes w (frames_of h t d))
+    → put_all p (frames_bytes (4 - k) w (frames_of h t d)) ≡ r
     → put_all q (frames_bytes (4 - (k + 1)) 0 (frames_of h u e)) ≡ r
 frames_more h k w t d p l f e g i =
     let one : 4 - k ≡ suc (4 - (k + 1)) = omega arith in

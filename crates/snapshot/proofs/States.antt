@@ -317,7 +317,10 @@ map_far [] = refl
 map_far (c ∷ cs) = ap₂ {C = List (ℕ × List ℕ)} (λ o os. o ∷ os) (sym (far_outcome_lem c)) (map_far cs)
 
 by_computing : (map quick table ≡ map written table) × (map far_quick far_heads ≡ far_heads)
-unfolding noted padded each thread_head frame_bytes frames_bytes thread_bytes node_bytes state_head state_refusal find bytes_of record_at between reaches adding back reached_first reached_next asked put take_out merge within lower upper check replaceable taken stepped started record_step count_of file_refusal reached onward followed blocked lacks cleared lost probe replaced beside step ite has insert remove union cut below from size least drop_least upper_half lower_half split_key ones_in count_trailing_zeros
+unfolding noted padded each thread_head frame_bytes frames_bytes thread_bytes node_bytes state_head state_refusal find bytes_of
+    record_at between reaches adding back reached_first reached_next asked put take_out merge within lower upper check replaceable
+    taken stepped started record_step count_of file_refusal reached onward followed blocked lacks cleared lost probe replaced beside
+    step ite has insert remove union cut below from size least drop_least upper_half lower_half split_key ones_in count_trailing_zeros
 by_computing = (refl, refl)
 
 pub states : (map outcome table ≡ map promised table) × (map far_outcome far_heads ≡ far_heads)

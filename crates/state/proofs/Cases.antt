@@ -101,7 +101,8 @@ node_at v t d x e = ap (λ (r : Option ℕ). node_bytes (v ∷ []) r (full t d x
 
 -- ---- the whole; w has the ranges of the nodes that are reachable
 pub bench_parts : (v : ℕ) (s : Standing) (t : Shapes) (d : Rows) (k : Stores) (h : ℕ → Frame) (w : Stores) → w ≡ reached_below 63 t s.root all (λ _. None)
-    → head_bytes v s ++ (each (λ u. thread_bytes (v ∷ []) (threads_of s.threads s.frames h u)) 4 ++ (each (λ x. node_bytes (v ∷ []) (w x) (full t d x)) s.used ++ each (λ j. shared_bytes (k j)) s.shown))
+    → head_bytes v s
+    ++ (each (λ u. thread_bytes (v ∷ []) (threads_of s.threads s.frames h u)) 4 ++ (each (λ x. node_bytes (v ∷ []) (w x) (full t d x)) s.used ++ each (λ j. shared_bytes (k j)) s.shown))
     ≡ bench_bytes v s t d k h
 unfolding bench_bytes
 bench_parts v s t d k h w q = rw q

@@ -16,7 +16,7 @@ use Rattle.container.specs.Container.{all}
 use Rattle.container.specs.Depths.{container}
 use Rattle.buffer.specs.Page.{Page, page, put_all}
 use Rattle.buffer.proofs.Laws.{put_fits}
-use Rattle.depths.specs.Rows.{Rows, rows, full}
+use Rattle.depths.specs.Rows.{Rows, rows, Holds, full}
 use Rattle.definitions.specs.Nodes.{Shapes, Stores, entry, is_route}
 use Rattle.definitions.specs.Threads.{Frame, Thread}
 use Rattle.definitions.specs.Refusal.{code_of}
@@ -85,7 +85,7 @@ module _ (file : List ℕ) (n : Shapes) (l : List ℕ) (k : Stores) (s : Standin
       ∙ parts_as (threads_of s.threads s.frames h)
 
 module _ (file : List ℕ) {n : Shapes} {l : List ℕ} {k : Stores} {z : Stop} {threads : ℕ → Thread} {s : Standing} {first buffer : List ℕ} (q : Progress)
-    (h : Stands n l k z threads s first buffer q) (deep : (version file ≡ 1 → ⊥) → length l ≡ 16384) where
+    (h : Stands n l k z threads s first buffer q) (deep : (version file ≡ 1 → ⊥) → Holds (length l) s.used) where
   same_made : state_bytes file (made file n l k s q h.deep (λ v. h.depths (deep v)) z threads) ≡ state_bytes file q
   same_made =
       ap (λ (b : Bench). state_bytes file (record { bench = b; refusal = code_of s.refusal; done = s.done; finished = q.finished; rows = q.rows })) h.bench

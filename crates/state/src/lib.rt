@@ -53,6 +53,7 @@ fn report<const DEPTHS: usize, const RESULTS: usize, const FRAMES: usize>(
         &mut depths,
         &mut results,
         &mut lent,
+        &mut [],
         schedule,
         &mut [],
     );

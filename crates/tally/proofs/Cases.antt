@@ -2,34 +2,18 @@
 use mathlib.Core.Path.{◌≡◌, refl, sym, ap, ◌∙◌, fun_ext}
 use mathlib.Core.Bool.{true, false, and-false}
 use mathlib.Core.List.{List}
-use Prim.Native.Nat.{ℕ, zero, suc, max, ◌+◌, ◌/◌, ◌^◌, ◌≤◌, ◌<◌}
+use Prim.Native.Nat.{ℕ, zero, suc, ◌+◌, ◌^◌, ◌≤◌, ◌<◌}
 use native.Mathlib.Omega.{arith}
 use native.Mathlib.Decide.{ℕ_discrete, dec_lt}
 use borrow.Author.Tests.{eq-eqb, ne_eqb, lt-ltb, le-ltb}
 use lib.Dec.{ltb}
-use Rattle.std.specs.List.{sum_by}
-use Rattle.std.specs.Prelude.{take}
-use Rattle.std.proofs.lemmas.List.{get_or-take, length-take}
-use Rattle.std.proofs.lemmas.List.Sums.{get_or-le-sum_by}
+use Rattle.std.specs.Int.Bits.{bit_or}
+use Rattle.std.proofs.lemmas.Nat.{le_or_l, le_or_r}
 use lib.ListN.{length, get_or, set, length-set, get_or-eq_default}
 use lib.Seq.{get_or-set_same, get_or-set_other}
 use Rattle.container.specs.Choice.{ite}
-use Rattle.season.specs.Tally.{Tally, join, just, sum, taken, refused_once, within, fits, numbers}
-use Rattle.tally.specs.Walk.{Spare}
-use Rattle.tally.proofs.Sums.{join_zero, sum_at, sum_assoc, sum_none, more_is, larger_is}
-
--- ---- own steps of an operation of action a
-module _ (l : List ℕ) (a n : ℕ) (low : a < 8) (long : length l ≡ 65) where
-  abbrev once : List ℕ
-  once = set l (32 + a) (get_or l (32 + a) 0 + n)
-
-  once_is : numbers once ≡ sum (numbers l) (just (32 + a) n)
-  once_is = more_is l (32 + a) n (omega arith) (omega arith)
-
-  pub steps_taken : (m : ℕ) → m ≡ max (get_or once (40 + a) 0) n → numbers (set once (40 + a) m) ≡ sum (numbers l) (taken a n)
-  unfolding taken
-  steps_taken m e =
-      larger_is once (40 + a) n m (omega (arith, length-set l (32 + a) (get_or l (32 + a) 0 + n))) (omega arith) e ∙ (ap (λ (t : Tally). sum t (just (40 + a) n)) once_is ∙ sum_assoc (numbers l) (just (32 + a) n) (just (40 + a) n))
+use Rattle.season.specs.Tally.{Tally, join, sum, refused_once, within, fits, numbers}
+use Rattle.season.proofs.Sums.{join_zero, sum_at, sum_none, more_is}
 
 -- ---- a refusal
 pub refusal_none : (l : List ℕ) (k : ℕ) → k ≡ 0 → numbers l ≡ sum (numbers l) (refused_once k)
@@ -54,16 +38,9 @@ within_past (suc n) t i h l = elim (ℕ_discrete i n) [
   | no q ↦ rw (← within_past n t i (omega arith) l) (sym (and-false (ltb (t n) (2 ^ 32))))
 ]
 
--- ---- low counts, by their high halves
-pub spare_by : (l : List ℕ) (k h : ℕ) → length l ≡ 65 → h ≡ sum_by (λ n. n / 65536) (take 48 l) → h ≤ 32767 → ((k ≡ 0 → ⊥) → get_or l (48 + k) 0 < 4294967295) → Spare l k
-spare_by l k h long e most refusal = record {
-  low = λ i b.
-      let f : ℕ → ℕ = λ n. n / 65536 in
-      let q : get_or (take 48 l) i 0 ≡ get_or l i 0 = get_or-take 48 l i 0 b in
-      let p : f (get_or (take 48 l) i 0) ≤ sum_by f (take 48 l) = get_or-le-sum_by f (take 48 l) i 0 (omega (arith, b, length-take 48 l)) in
-      omega (arith, p, q);
-  refusal = refusal;
-}
+-- ---- the bits of the first numbers together are at least each of them
+pub or_most : (l : List ℕ) (n v : ℕ) → ((j : ℕ) → j < n → get_or l j 0 ≤ v) → (j : ℕ) → j < n + 1 → get_or l j 0 ≤ bit_or v (get_or l n 0)
+or_most l n v h j p = elim (ℕ_discrete j n) [ yes q ↦ rw q (le_or_r v (get_or l n 0)) | no q ↦ omega (arith, h j (omega arith), le_or_l v (get_or l n 0)) ]
 
 -- ---- the sum of two tallies, as far as place i
 pub record Added (i : ℕ) (one two both : List ℕ) : Type 0 where
@@ -100,4 +77,6 @@ module _ (one two both : List ℕ) (i : ℕ) where
         by j (yes q) = a.done j (omega arith)
         by j (no q) =
             get_or-eq_default both 0 (omega (arith, a.long))
-            ∙ (sym (join_zero j 0) ∙ (ap (join j 0) (sym (get_or-eq_default two 0 (omega arith))) ∙ (ap (λ (x : ℕ). join j x (get_or two j 0)) (sym (get_or-eq_default one 0 (omega arith))) ∙ sym (sum_at (numbers one) (numbers two) j))))
+            ∙ (sym (join_zero j 0)
+            ∙ (ap (join j 0) (sym (get_or-eq_default two 0 (omega arith)))
+            ∙ (ap (λ (x : ℕ). join j x (get_or two j 0)) (sym (get_or-eq_default one 0 (omega arith))) ∙ sym (sum_at (numbers one) (numbers two) j))))

@@ -17,7 +17,7 @@ use Rattle.definitions.specs.declared.Action.{Action}
 use Rattle.definitions.specs.declared.Action.TheVariants.{Lookup, Insert, Remove, Split, Join, Query}
 use Rattle.passing.proofs.RunRows.{advance_on, advance_off}
 use Rattle.season.specs.Season.{RefusalsRule}
-use Rattle.tally.proofs.Whole.{report_on, report_off}
+use Rattle.tally.proofs.Told.{report_on, report_off}
 
 -- ---- a number that has a place
 record Has (k : ℕ) : Type 0 where
@@ -101,7 +101,10 @@ after_has : (file : List ℕ) (n : ℕ) → Has (after file n).refusal
 unfolding after
 after_has file zero = omega arith
 after_has file (suc n) = elim (ℕ_discrete (after file n).refusal 0) [
-  | yes z ↦ rw (advance_on file (after file n) (record_at file n) z) (advance_has file (after file n) ((record_at file n).first / 16) (record_step (after file n).bench (record_at file n).last (record_at file n).first (record_at file n).second (record_at file n).extra) (record_numbered (after file n).bench (record_at file n)))
+  | yes z ↦ rw (advance_on file (after file n) (record_at file n) z)
+      (advance_has file (after file n) ((record_at file n).first / 16)
+      (record_step (after file n).bench (record_at file n).last (record_at file n).first (record_at file n).second (record_at file n).extra)
+      (record_numbered (after file n).bench (record_at file n)))
   | no z ↦ rw (advance_off file (after file n) (record_at file n) z) (after_has file n)
 ]
 

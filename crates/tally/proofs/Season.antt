@@ -10,7 +10,7 @@ use lib.Dec.{eqb, ltb}
 use Rattle.container.specs.Choice.{ite}
 use Rattle.season.specs.Tally.{Tally, empty, sum, within, fits, added, add_refusal, laid, tally_numbers}
 use Rattle.season.specs.Season.{Lent, single, refusal_at, season, kept, total, blank, SeasonRule, NoneRefused, Reordered, same, keep, swap, then, OrderRule}
-use Rattle.tally.proofs.Sums.{sum_at, join_least, sum_assoc, sum_none, none_sum, sum_swap}
+use Rattle.season.proofs.Sums.{sum_at, join_least, sum_assoc, sum_none, none_sum, sum_swap}
 use Rattle.tally.proofs.Laid.{tally_back, report_back}
 
 pub both : (a b : Bool) → (a && b) ≡ true → (a ≡ true) × (b ≡ true)
@@ -64,7 +64,8 @@ season_from t (f ∷ fs) =
     rest_is : rest ≡ kept (laid (added t (single f))) fs
     rest_is = ap (λ (l : List ℕ). kept l fs) (tally_back f.file f.room t)
 
-    by : (c : Bool) → fits (sum t (single f)) ≡ c → laid (sum (added t (single f)) (total (kept (laid (added t (single f))) fs))) ≡ laid (sum t (total (ite (eqb (refusal_at (laid t) f) 0) (f ∷ rest) rest)))
+    by : (c : Bool) → fits (sum t (single f)) ≡ c
+        → laid (sum (added t (single f)) (total (kept (laid (added t (single f))) fs))) ≡ laid (sum t (total (ite (eqb (refusal_at (laid t) f) 0) (f ∷ rest) rest)))
     by true e =
         ap laid
         (ap (λ (u : Tally). sum u (total (kept (laid (added t (single f))) fs))) (added_in t (single f) e)

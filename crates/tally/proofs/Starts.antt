@@ -19,11 +19,12 @@ use Rattle.definitions.specs.Run.{Progress, begin, advance_by, after, ended, run
 use Rattle.definitions.specs.declared.Answer.{Answer}
 use Rattle.passing.proofs.Did.{Did, did, Started, Moved, Ended}
 use Rattle.passing.proofs.RunRows.{advance_on, advance_off}
-use Rattle.season.specs.Tally.{Field, starts, unfinished, place, Tally, empty, just, sum, Ledger, ledger_of, column, taken, entered_by, ledger, busy_with, left_busy, refused_once, records_tally, file_tally}
+use Rattle.passing.proofs.Tallied.{number_some, number_small, entered_start, enter_on, enter_off}
+use Rattle.season.specs.Tally.{Field, starts, unfinished, place, Tally, empty, just, sum, Ledger, ledger_of, column, taken, entered_by}
+use Rattle.season.specs.Tally.{ledger, busy_with, left_busy, refused_once, records_tally, file_tally}
 use Rattle.season.specs.Season.{Lent, single, total, StartsRule}
-use Rattle.tally.proofs.Sums.{sum_at, join_sum, just_same, just_other}
-use Rattle.tally.proofs.Matching.{number_some, number_small, entered_start, enter_on, enter_off}
-use Rattle.tally.proofs.Whole.{records_on, records_off}
+use Rattle.season.proofs.Sums.{sum_at, join_sum, just_same, just_other}
+use Rattle.run.proofs.Counting.{records_on, records_off}
 
 -- where numbers are added
 plus : (t u : Tally) (i : ℕ) → i / 8 ≢ 5 → sum t u i ≡ t i + u i
@@ -44,7 +45,12 @@ module _ (a : ℕ) (low : a < 8) where
   all_busy f =
       let i = place unfinished a in
       let h : i / 8 ≢ 5 = omega arith in
-      omega (arith, plus (busy_with (f 0)) (sum (busy_with (f 1)) (sum (busy_with (f 2)) (busy_with (f 3)))) i h, plus (busy_with (f 1)) (sum (busy_with (f 2)) (busy_with (f 3))) i h, plus (busy_with (f 2)) (busy_with (f 3)) i h)
+      omega (
+        arith,
+        plus (busy_with (f 0)) (sum (busy_with (f 1)) (sum (busy_with (f 2)) (busy_with (f 3)))) i h,
+        plus (busy_with (f 1)) (sum (busy_with (f 2)) (busy_with (f 3))) i h,
+        plus (busy_with (f 2)) (busy_with (f 3)) i h,
+      )
 
   -- a thread is replaced
   replaced : (f : ℕ → Thread) (th : Thread) (t : ℕ) → t < 4 → left_busy (upd f t th) (place unfinished a) + busy_one (f t) ≡ left_busy f (place unfinished a) + busy_one th
@@ -74,11 +80,15 @@ module _ (a : ℕ) (low : a < 8) where
     even : l.counts (place starts a) ≡ l.counts (place Field.yes a) + l.counts (place Field.no a) + left_busy p.bench.threads (place unfinished a)
     none : l.counts (place unfinished a) ≡ 0
 
-  answer_adds : (y : Answer) (c : ℕ) → c < 8 → (just (place (column y) c) 1 (place Field.yes a) + just (place (column y) c) 1 (place Field.no a) ≡ just c 1 a) × ((just (place (column y) c) 1 (place starts a) ≡ 0) × (just (place (column y) c) 1 (place unfinished a) ≡ 0))
+  answer_adds : (y : Answer) (c : ℕ) → c < 8
+      → (just (place (column y) c) 1 (place Field.yes a) + just (place (column y) c) 1 (place Field.no a) ≡ just c 1 a)
+      × ((just (place (column y) c) 1 (place starts a) ≡ 0) × (just (place (column y) c) 1 (place unfinished a) ≡ 0))
   unfolding ite
   answer_adds y c h = by (is_yes y)
     where
-      by : (k : Bool) → (just (place (ite k Field.yes Field.no) c) 1 (place Field.yes a) + just (place (ite k Field.yes Field.no) c) 1 (place Field.no a) ≡ just c 1 a) × ((just (place (ite k Field.yes Field.no) c) 1 (place starts a) ≡ 0) × (just (place (ite k Field.yes Field.no) c) 1 (place unfinished a) ≡ 0))
+      by : (k : Bool)
+          → (just (place (ite k Field.yes Field.no) c) 1 (place Field.yes a) + just (place (ite k Field.yes Field.no) c) 1 (place Field.no a) ≡ just c 1 a)
+          × ((just (place (ite k Field.yes Field.no) c) 1 (place starts a) ≡ 0) × (just (place (ite k Field.yes Field.no) c) 1 (place unfinished a) ≡ 0))
       by true = (omega (arith, same_field 8 c, just_other (8 + c) 1 (16 + a) (omega arith)), (just_other (8 + c) 1 a (omega arith), just_other (8 + c) 1 (24 + a) (omega arith)))
       by false = (omega (arith, same_field 16 c, just_other (16 + c) 1 (8 + a) (omega arith)), (just_other (16 + c) 1 a (omega arith), just_other (16 + c) 1 (24 + a) (omega arith)))
 
@@ -108,19 +118,42 @@ module _ (a : ℕ) (low : a < 8) where
 
     move_even : (n : ℕ) (o : ℕ → ℕ) → Moved p.bench t n b → Balanced (advance_by file p t (carried b no_row)) (ledger_of o l.counts)
     move_even n o s = record {
-      even = rw s.threads (omega (arith, m.even, replaced p.bench.threads s.next t small, busy_one_lem s.next s.still, busy_one_lem (p.bench.threads t) s.busy, ap (λ act. just (place unfinished (action_number act)) 1 (place unfinished a)) s.action));
+      even = rw s.threads
+          (omega (
+            arith,
+            m.even,
+            replaced p.bench.threads s.next t small,
+            busy_one_lem s.next s.still,
+            busy_one_lem (p.bench.threads t) s.busy,
+            ap (λ act. just (place unfinished (action_number act)) 1 (place unfinished a)) s.action,
+          ));
       none = m.none;
     }
 
     end_even : (n : ℕ) (o : ℕ → ℕ) (k : ℕ) (y : Answer) (d e : ℕ) → Ended p.bench t n b
-        → Balanced (advance_by file p t (carried b (row y d e))) (ledger_of o (sum l.counts (sum (just (place (column y) (action_number (p.bench.threads t).action)) 1) (taken (action_number (p.bench.threads t).action) k))))
+        → Balanced (advance_by file p t (carried b (row y d e)))
+        (ledger_of o (sum l.counts (sum (just (place (column y) (action_number (p.bench.threads t).action)) 1) (taken (action_number (p.bench.threads t).action) k))))
     end_even n o k y d e s =
         let c = action_number (p.bench.threads t).action in
         let (p1, (p2, p3)) = answer_adds y c (number_small (p.bench.threads t).action) in
         let u = just (place (column y) c) 1 in
-        let at : (i : ℕ) → i < 32 → sum l.counts (sum u (taken c k)) i ≡ l.counts i + u i = λ i h. omega (arith, plus l.counts (sum u (taken c k)) i (omega arith), plus u (taken c k) i (omega arith), taken_else c k i h) in
+        let at : (i : ℕ) → i < 32 → sum l.counts (sum u (taken c k)) i ≡ l.counts i + u i =
+        λ i h. omega (arith, plus l.counts (sum u (taken c k)) i (omega arith), plus u (taken c k) i (omega arith), taken_else c k i h) in
         record {
-          even = rw s.threads (omega (arith, m.even, p1, p2, at a (omega arith), at (8 + a) (omega arith), at (16 + a) (omega arith), replaced p.bench.threads idle t small, idle_one idle refl, busy_one_lem (p.bench.threads t) s.busy, same_field 24 c));
+          even = rw s.threads
+              (omega (
+                arith,
+                m.even,
+                p1,
+                p2,
+                at a (omega arith),
+                at (8 + a) (omega arith),
+                at (16 + a) (omega arith),
+                replaced p.bench.threads idle t small,
+                idle_one idle refl,
+                busy_one_lem (p.bench.threads t) s.busy,
+                same_field 24 c,
+              ));
           none = omega (arith, m.none, p3, at (24 + a) (omega arith));
         }
 
@@ -129,7 +162,8 @@ module _ (a : ℕ) (low : a < 8) where
       → Balanced (advance_by file p (r.first / 16) o) (entered_by o (r.first % 16) (r.first / 16) (p.bench.threads (r.first / 16)) l)
   by_result file p l r m (refused k) d = record { even = m.even; none = m.none }
   by_result file p l r m (carried b no_row) (h, inl s) =
-      rw (entered_start (r.first % 16) (r.first / 16) (p.bench.threads (r.first / 16)) no_row l (λ e. number_some s.what (sym s.number ∙ e))) (start_even file p l m b (r.first / 16) h r.second (r.first % 16) s)
+      rw (entered_start (r.first % 16) (r.first / 16) (p.bench.threads (r.first / 16)) no_row l (λ e. number_some s.what (sym s.number ∙ e)))
+      (start_even file p l m b (r.first / 16) h r.second (r.first % 16) s)
   by_result file p l r m (carried b no_row) (h, inr s) = rw s.number (move_even file p l m b (r.first / 16) h (r.first % 16) _ s)
   by_result file p l r m (carried b (row y d e)) (h, s) = rw s.number (end_even file p l m b (r.first / 16) h (r.first % 16) _ _ y d e s)
 
@@ -141,7 +175,9 @@ module _ (a : ℕ) (low : a < 8) where
   balanced file zero = at_first (stop_of file)
   balanced file (suc n) = elim (ℕ_discrete (after file n).refusal 0) [
     | yes z ↦ rw (advance_on file (after file n) (record_at file n) z, enter_on (after file n) (record_at file n) (ledger file n) z)
-        (by_result file (after file n) (ledger file n) (record_at file n) (balanced file n) (record_step (after file n).bench (record_at file n).last (record_at file n).first (record_at file n).second (record_at file n).extra) (did (after file n).bench (record_at file n).last (record_at file n).first (record_at file n).second (record_at file n).extra))
+        (by_result file (after file n) (ledger file n) (record_at file n) (balanced file n)
+        (record_step (after file n).bench (record_at file n).last (record_at file n).first (record_at file n).second (record_at file n).extra)
+        (did (after file n).bench (record_at file n).last (record_at file n).first (record_at file n).second (record_at file n).extra))
     | no z ↦ rw (advance_off file (after file n) (record_at file n) z, enter_off (after file n) (record_at file n) (ledger file n) z) (balanced file n)
   ]
 
@@ -175,12 +211,25 @@ module _ (a : ℕ) (low : a < 8) where
         busy_else (f 3) i h,
       )
 
-  records_even : (file : List ℕ) (n : ℕ) → records_tally file n (place starts a) ≡ records_tally file n (place Field.yes a) + records_tally file n (place Field.no a) + records_tally file n (place unfinished a)
+  records_even : (file : List ℕ) (n : ℕ)
+      → records_tally file n (place starts a) ≡ records_tally file n (place Field.yes a) + records_tally file n (place Field.no a) + records_tally file n (place unfinished a)
   records_even file n = elim (ℕ_discrete (run_refusal file n) 0) [
     | yes z ↦ let l = (ledger file (count_of file)).counts in
         let f = (ended file).bench.threads in
         let m = balanced file (count_of file) in
-        rw (records_on file n z) (omega (arith, m.even, m.none, plus l (left_busy f) a (omega arith), plus l (left_busy f) (8 + a) (omega arith), plus l (left_busy f) (16 + a) (omega arith), plus l (left_busy f) (24 + a) (omega arith), left_else f a (omega arith), left_else f (8 + a) (omega arith), left_else f (16 + a) (omega arith)))
+        rw (records_on file n z)
+        (omega (
+          arith,
+          m.even,
+          m.none,
+          plus l (left_busy f) a (omega arith),
+          plus l (left_busy f) (8 + a) (omega arith),
+          plus l (left_busy f) (16 + a) (omega arith),
+          plus l (left_busy f) (24 + a) (omega arith),
+          left_else f a (omega arith),
+          left_else f (8 + a) (omega arith),
+          left_else f (16 + a) (omega arith),
+        ))
     | no z ↦ rw (records_off file n z) (omega arith)
   ]
 
@@ -189,7 +238,18 @@ unfolding file_tally
 starts_rule file n a low =
     let k = refused_once (run_report file n).refusal in
     let t = records_tally file n in
-    omega (arith, records_even a low file n, plus k t a (omega arith), plus k t (8 + a) (omega arith), plus k t (16 + a) (omega arith), plus k t (24 + a) (omega arith), refusal_else a low (run_report file n).refusal a (omega arith), refusal_else a low (run_report file n).refusal (8 + a) (omega arith), refusal_else a low (run_report file n).refusal (16 + a) (omega arith), refusal_else a low (run_report file n).refusal (24 + a) (omega arith))
+    omega (
+      arith,
+      records_even a low file n,
+      plus k t a (omega arith),
+      plus k t (8 + a) (omega arith),
+      plus k t (16 + a) (omega arith),
+      plus k t (24 + a) (omega arith),
+      refusal_else a low (run_report file n).refusal a (omega arith),
+      refusal_else a low (run_report file n).refusal (8 + a) (omega arith),
+      refusal_else a low (run_report file n).refusal (16 + a) (omega arith),
+      refusal_else a low (run_report file n).refusal (24 + a) (omega arith),
+    )
 
 -- and so has a season's sum
 pub season_starts : (fs : List Lent) (a : ℕ) → a < 8 → total fs (place starts a) ≡ total fs (place Field.yes a) + total fs (place Field.no a) + total fs (place unfinished a)

@@ -15,11 +15,12 @@ use Rattle.definitions.specs.Schedule.{record_at, count_of}
 use Rattle.definitions.specs.Run.{after, ended, run_refusal, run_report}
 use Rattle.definitions.specs.declared.Action.{Action}
 use Rattle.passing.proofs.Did.{Did, did}
-use Rattle.season.specs.Tally.{Field, starts, unfinished, steps, largest, place, Tally, empty, just, sum, Ledger, column, taken, entered_by, ledger, busy_with, left_busy, refused_once, records_tally, file_tally}
+use Rattle.passing.proofs.Tallied.{number_some, number_small, entered_start, enter_on, enter_off}
+use Rattle.season.specs.Tally.{Field, starts, unfinished, steps, largest, place, Tally, empty, just, sum, Ledger, column, taken, entered_by}
+use Rattle.season.specs.Tally.{ledger, busy_with, left_busy, refused_once, records_tally, file_tally}
 use Rattle.season.specs.Season.{UnusedRule}
-use Rattle.tally.proofs.Sums.{sum_at, join_zero, just_other}
-use Rattle.tally.proofs.Matching.{number_some, number_small, entered_start, enter_on, enter_off}
-use Rattle.tally.proofs.Whole.{records_on, records_off}
+use Rattle.season.proofs.Sums.{sum_at, join_zero, just_other}
+use Rattle.run.proofs.Counting.{records_on, records_off}
 use Rattle.tally.proofs.Refusals.{refusals_rule}
 
 place_low : (f : Field) (a : ℕ) → a < 8 → (place f a % 8 ≡ a) × (place f a < 48)
@@ -49,14 +50,17 @@ module _ (i : ℕ) (free : (f : Field) (c : Action) → i ≢ place f (action_nu
   by_result b t y n l z (carried b' no_row) (h, inr s) = rw s.number z
   by_result b t y n l z (carried b' (row r d e)) (h, s) =
       rw s.number
-      (sum_zero l.counts _ z (sum_zero (just (place (column r) (action_number (b.threads t).action)) 1) _ (just_zero (column r) (b.threads t).action 1) (taken_zero (b.threads t).action (suc (l.own t)))))
+      (sum_zero l.counts _ z
+      (sum_zero (just (place (column r) (action_number (b.threads t).action)) 1) _ (just_zero (column r) (b.threads t).action 1) (taken_zero (b.threads t).action (suc (l.own t)))))
 
   ledger_zero : (file : List ℕ) (n : ℕ) → (ledger file n).counts i ≡ 0
   unfolding ledger
   ledger_zero file zero = refl
   ledger_zero file (suc n) = elim (ℕ_discrete (after file n).refusal 0) [
     | yes z ↦ rw (enter_on (after file n) (record_at file n) (ledger file n) z)
-        (by_result (after file n).bench ((record_at file n).first / 16) (record_at file n).second ((record_at file n).first % 16) (ledger file n) (ledger_zero file n) (record_step (after file n).bench (record_at file n).last (record_at file n).first (record_at file n).second (record_at file n).extra) (did (after file n).bench (record_at file n).last (record_at file n).first (record_at file n).second (record_at file n).extra))
+        (by_result (after file n).bench ((record_at file n).first / 16) (record_at file n).second ((record_at file n).first % 16) (ledger file n) (ledger_zero file n)
+        (record_step (after file n).bench (record_at file n).last (record_at file n).first (record_at file n).second (record_at file n).extra)
+        (did (after file n).bench (record_at file n).last (record_at file n).first (record_at file n).second (record_at file n).extra))
     | no z ↦ rw (enter_off (after file n) (record_at file n) (ledger file n) z) (ledger_zero file n)
   ]
 
@@ -72,7 +76,7 @@ module _ (i : ℕ) (free : (f : Field) (c : Action) → i ≢ place f (action_nu
   unfolding left_busy
   left_zero f = sum_zero _ _ (busy_zero (f 0)) (sum_zero _ _ (busy_zero (f 1)) (sum_zero _ _ (busy_zero (f 2)) (busy_zero (f 3))))
 
-  records_zero : (file : List ℕ) (n : ℕ) → records_tally file n i ≡ 0
+  pub records_zero : (file : List ℕ) (n : ℕ) → records_tally file n i ≡ 0
   records_zero file n = elim (ℕ_discrete (run_refusal file n) 0) [
     | yes z ↦ rw (records_on file n z) (sum_zero (ledger file (count_of file)).counts (left_busy (ended file).bench.threads) (ledger_zero file (count_of file)) (left_zero (ended file).bench.threads))
     | no z ↦ rw (records_off file n z)
@@ -87,7 +91,7 @@ refusal_zero k i h = elim (ℕ_discrete k 0) [ yes z ↦ rw z | no z ↦ by (eqb
     by false e = e
 
 -- ---- the places
-past : (i : ℕ) → 48 < suc i → (f : Field) (c : Action) → i ≢ place f (action_number c)
+pub past : (i : ℕ) → 48 < suc i → (f : Field) (c : Action) → i ≢ place f (action_number c)
 past i h f c e = omega (arith, (place_low f (action_number c) (number_small c)).1)
 
 pub unused_rule : UnusedRule

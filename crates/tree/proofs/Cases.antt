@@ -28,7 +28,8 @@ set_route (suc k) t x range e z f g l h p s q = q ∙ rw (p, s, l, h, sub-one (s
 
 -- ---- the way of a station: n is node x as a step reads it
 
-pub way_down : (j k : ℕ) (t : Nodes) (x s : ℕ) {n : Node} {v : Bool} {y r : ℕ} → j ≡ suc k → n ≡ shape (t x) → v ≡ is_route n.kind → v ≡ true → y ≡ child_for s n → depth_under j t x s ≡ r → depth_under k t y s ≡ r
+pub way_down : (j k : ℕ) (t : Nodes) (x s : ℕ) {n : Node} {v : Bool} {y r : ℕ} → j ≡ suc k → n ≡ shape (t x) → v ≡ is_route n.kind → v ≡ true → y ≡ child_for s n
+    → depth_under j t x s ≡ r → depth_under k t y s ≡ r
 unfolding depth_under ite
 way_down j k t x s {n} {v} z e f g c q = let h : is_route (t x).kind ≡ true = sym (ap (λ (m : Node). is_route m.kind) e) ∙ (sym f ∙ g) in rw (c, e) (rw h at (rw z at q))
 

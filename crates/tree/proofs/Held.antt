@@ -56,7 +56,8 @@ in_range_lem (suc k) n x range s e = elim (test (is_route (n x).kind)) [
   | off i ↦ and_right (has (n x).container.set s) (has range s) (sym (has_cut (n x).container.set range s) ∙ (rw i at e))
 ]
   where
-    both : (has (held_below k n (n x).left (below (n x).key range)).set s ≡ true → has (below (n x).key range) s ≡ true) → (has (held_below k n (n x).right (from (n x).key range)).set s ≡ true → has (from (n x).key range) s ≡ true)
+    both : (has (held_below k n (n x).left (below (n x).key range)).set s ≡ true → has (below (n x).key range) s ≡ true)
+        → (has (held_below k n (n x).right (from (n x).key range)).set s ≡ true → has (from (n x).key range) s ≡ true)
         → has (union (held_below k n (n x).left (below (n x).key range)).set (held_below k n (n x).right (from (n x).key range)).set) s ≡ true → has range s ≡ true
     both p q f = elim (test (has (held_below k n (n x).left (below (n x).key range)).set s)) [
       | on a ↦ (let g = p a in elim (dec_lt s (n x).key) [
@@ -72,12 +73,16 @@ in_range_lem (suc k) n x range s e = elim (test (is_route (n x).kind)) [
 pub held_depth : (k : ℕ) (n : Nodes) (x range s : ℕ) → has (held_below k n x range).set s ≡ true → (held_below k n x range).depth s ≡ depth_under k n x s
 unfolding held_below depth_under within merge ite
 held_depth zero n x range s e = refl
-held_depth (suc k) n x range s e = elim (test (is_route (n x).kind)) [ on i ↦ rw i (both (λ a. held_depth k n (n x).left (below (n x).key range) s a) (λ a. held_depth k n (n x).right (from (n x).key range) s a) (rw i at e)) | off i ↦ rw i ]
+held_depth (suc k) n x range s e = elim (test (is_route (n x).kind)) [
+  | on i ↦ rw i (both (λ a. held_depth k n (n x).left (below (n x).key range) s a) (λ a. held_depth k n (n x).right (from (n x).key range) s a) (rw i at e))
+  | off i ↦ rw i
+]
   where
     both : (has (held_below k n (n x).left (below (n x).key range)).set s ≡ true → (held_below k n (n x).left (below (n x).key range)).depth s ≡ depth_under k n (n x).left s)
         → (has (held_below k n (n x).right (from (n x).key range)).set s ≡ true → (held_below k n (n x).right (from (n x).key range)).depth s ≡ depth_under k n (n x).right s)
         → has (union (held_below k n (n x).left (below (n x).key range)).set (held_below k n (n x).right (from (n x).key range)).set) s ≡ true
-        → ite (has (held_below k n (n x).left (below (n x).key range)).set s) ((held_below k n (n x).left (below (n x).key range)).depth s) ((held_below k n (n x).right (from (n x).key range)).depth s)
+        → ite (has (held_below k n (n x).left (below (n x).key range)).set s) ((held_below k n (n x).left (below (n x).key range)).depth s)
+        ((held_below k n (n x).right (from (n x).key range)).depth s)
         ≡ depth_under k n (mathlib.Core.Bool.cond (ltb s (n x).key) (n x).left (n x).right) s
     both p q f = elim (test (has (held_below k n (n x).left (below (n x).key range)).set s)) [
       | on a ↦ (let g = in_range_lem k n (n x).left (below (n x).key range) s a in elim (dec_lt s (n x).key) [

@@ -42,7 +42,10 @@ text0046 =
     ∷ []
 
 computed0046 : quick_printed (file_of file0046) ≡ text_of text0046
-unfolding bytes_of record_at between reaches adding back reached_first reached_next asked put take_out merge within lower upper depth_text row_line decimal stations_to stations_text route_line base_line set_line list_refusal check replaceable action_word first_line last_line taken stepped started record_step run_refusal count_of file_refusal reached onward followed blocked lacks cleared lost probe replaced beside step ite has insert remove union cut below from size least drop_least upper_half lower_half split_key ones_in count_trailing_zeros
+unfolding bytes_of record_at between reaches adding back reached_first reached_next asked put take_out merge within lower upper depth_text row_line
+    decimal stations_to stations_text route_line base_line set_line list_refusal check replaceable action_word first_line last_line taken stepped
+    started record_step run_refusal count_of file_refusal reached onward followed blocked lacks cleared lost probe replaced beside step ite has insert
+    remove union cut below from size least drop_least upper_half lower_half split_key ones_in count_trailing_zeros
 computed0046 = refl
 
 pub printed0046 : printed (file_of file0046) ≡ text_of text0046
@@ -92,7 +95,10 @@ text0047 =
     ∷ []
 
 computed0047 : quick_printed (file_of file0047) ≡ text_of text0047
-unfolding bytes_of record_at between reaches adding back reached_first reached_next asked put take_out merge within lower upper depth_text row_line decimal stations_to stations_text route_line base_line set_line list_refusal check replaceable action_word first_line last_line taken stepped started record_step run_refusal count_of file_refusal reached onward followed blocked lacks cleared lost probe replaced beside step ite has insert remove union cut below from size least drop_least upper_half lower_half split_key ones_in count_trailing_zeros
+unfolding bytes_of record_at between reaches adding back reached_first reached_next asked put take_out merge within lower upper depth_text row_line
+    decimal stations_to stations_text route_line base_line set_line list_refusal check replaceable action_word first_line last_line taken stepped
+    started record_step run_refusal count_of file_refusal reached onward followed blocked lacks cleared lost probe replaced beside step ite has insert
+    remove union cut below from size least drop_least upper_half lower_half split_key ones_in count_trailing_zeros
 computed0047 = refl
 
 pub printed0047 : printed (file_of file0047) ≡ text_of text0047
@@ -120,7 +126,10 @@ text0048 =
     ∷ []
 
 computed0048 : quick_printed (file_of file0048) ≡ text_of text0048
-unfolding bytes_of record_at between reaches adding back reached_first reached_next asked put take_out merge within lower upper depth_text row_line decimal stations_to stations_text route_line base_line set_line list_refusal check replaceable action_word first_line last_line taken stepped started record_step run_refusal count_of file_refusal reached onward followed blocked lacks cleared lost probe replaced beside step ite has insert remove union cut below from size least drop_least upper_half lower_half split_key ones_in count_trailing_zeros
+unfolding bytes_of record_at between reaches adding back reached_first reached_next asked put take_out merge within lower upper depth_text row_line
+    decimal stations_to stations_text route_line base_line set_line list_refusal check replaceable action_word first_line last_line taken stepped
+    started record_step run_refusal count_of file_refusal reached onward followed blocked lacks cleared lost probe replaced beside step ite has insert
+    remove union cut below from size least drop_least upper_half lower_half split_key ones_in count_trailing_zeros
 computed0048 = refl
 
 pub printed0048 : printed (file_of file0048) ≡ text_of text0048
@@ -268,7 +277,10 @@ text0049 =
     ∷ []
 
 computed0049 : quick_printed (file_of file0049) ≡ text_of text0049
-unfolding bytes_of record_at between reaches adding back reached_first reached_next asked put take_out merge within lower upper depth_text row_line decimal stations_to stations_text route_line base_line set_line list_refusal check replaceable action_word first_line last_line taken stepped started record_step run_refusal count_of file_refusal reached onward followed blocked lacks cleared lost probe replaced beside step ite has insert remove union cut below from size least drop_least upper_half lower_half split_key ones_in count_trailing_zeros
+unfolding bytes_of record_at between reaches adding back reached_first reached_next asked put take_out merge within lower upper depth_text row_line
+    decimal stations_to stations_text route_line base_line set_line list_refusal check replaceable action_word first_line last_line taken stepped
+    started record_step run_refusal count_of file_refusal reached onward followed blocked lacks cleared lost probe replaced beside step ite has insert
+    remove union cut below from size least drop_least upper_half lower_half split_key ones_in count_trailing_zeros
 computed0049 = refl
 
 pub printed0049 : printed (file_of file0049) ≡ text_of text0049
@@ -313,7 +325,10 @@ text0050 =
     ∷ []
 
 computed0050 : quick_printed (file_of file0050) ≡ text_of text0050
-unfolding bytes_of record_at between reaches adding back reached_first reached_next asked put take_out merge within lower upper depth_text row_line decimal stations_to stations_text route_line base_line set_line list_refusal check replaceable action_word first_line last_line taken stepped started record_step run_refusal count_of file_refusal reached onward followed blocked lacks cleared lost probe replaced beside step ite has insert remove union cut below from size least drop_least upper_half lower_half split_key ones_in count_trailing_zeros
+unfolding bytes_of record_at between reaches adding back reached_first reached_next asked put take_out merge within lower upper depth_text row_line
+    decimal stations_to stations_text route_line base_line set_line list_refusal check replaceable action_word first_line last_line taken stepped
+    started record_step run_refusal count_of file_refusal reached onward followed blocked lacks cleared lost probe replaced beside step ite has insert
+    remove union cut below from size least drop_least upper_half lower_half split_key ones_in count_trailing_zeros
 computed0050 = refl
 
 pub printed0050 : printed (file_of file0050) ≡ text_of text0050

@@ -58,7 +58,10 @@ text0057 =
     ∷ []
 
 computed0057 : quick_printed (file_of file0057) ≡ text_of text0057
-unfolding bytes_of record_at between reaches adding back reached_first reached_next asked put take_out merge within lower upper depth_text row_line decimal stations_to stations_text route_line base_line set_line list_refusal check replaceable action_word first_line last_line taken stepped started record_step run_refusal count_of file_refusal reached onward followed blocked lacks cleared lost probe replaced beside step ite has insert remove union cut below from size least drop_least upper_half lower_half split_key ones_in count_trailing_zeros
+unfolding bytes_of record_at between reaches adding back reached_first reached_next asked put take_out merge within lower upper depth_text row_line
+    decimal stations_to stations_text route_line base_line set_line list_refusal check replaceable action_word first_line last_line taken stepped
+    started record_step run_refusal count_of file_refusal reached onward followed blocked lacks cleared lost probe replaced beside step ite has insert
+    remove union cut below from size least drop_least upper_half lower_half split_key ones_in count_trailing_zeros
 computed0057 = refl
 
 pub printed0057 : printed (file_of file0057) ≡ text_of text0057
@@ -95,7 +98,10 @@ text0058 =
     ∷ []
 
 computed0058 : quick_printed (file_of file0058) ≡ text_of text0058
-unfolding bytes_of record_at between reaches adding back reached_first reached_next asked put take_out merge within lower upper depth_text row_line decimal stations_to stations_text route_line base_line set_line list_refusal check replaceable action_word first_line last_line taken stepped started record_step run_refusal count_of file_refusal reached onward followed blocked lacks cleared lost probe replaced beside step ite has insert remove union cut below from size least drop_least upper_half lower_half split_key ones_in count_trailing_zeros
+unfolding bytes_of record_at between reaches adding back reached_first reached_next asked put take_out merge within lower upper depth_text row_line
+    decimal stations_to stations_text route_line base_line set_line list_refusal check replaceable action_word first_line last_line taken stepped
+    started record_step run_refusal count_of file_refusal reached onward followed blocked lacks cleared lost probe replaced beside step ite has insert
+    remove union cut below from size least drop_least upper_half lower_half split_key ones_in count_trailing_zeros
 computed0058 = refl
 
 pub printed0058 : printed (file_of file0058) ≡ text_of text0058
@@ -299,7 +305,10 @@ text0059 =
     ∷ []
 
 computed0059 : quick_printed (file_of file0059) ≡ text_of text0059
-unfolding bytes_of record_at between reaches adding back reached_first reached_next asked put take_out merge within lower upper depth_text row_line decimal stations_to stations_text route_line base_line set_line list_refusal check replaceable action_word first_line last_line taken stepped started record_step run_refusal count_of file_refusal reached onward followed blocked lacks cleared lost probe replaced beside step ite has insert remove union cut below from size least drop_least upper_half lower_half split_key ones_in count_trailing_zeros
+unfolding bytes_of record_at between reaches adding back reached_first reached_next asked put take_out merge within lower upper depth_text row_line
+    decimal stations_to stations_text route_line base_line set_line list_refusal check replaceable action_word first_line last_line taken stepped
+    started record_step run_refusal count_of file_refusal reached onward followed blocked lacks cleared lost probe replaced beside step ite has insert
+    remove union cut below from size least drop_least upper_half lower_half split_key ones_in count_trailing_zeros
 computed0059 = refl
 
 pub printed0059 : printed (file_of file0059) ≡ text_of text0059
@@ -318,7 +327,10 @@ text0060 =
     ∷ []
 
 computed0060 : quick_printed (file_of file0060) ≡ text_of text0060
-unfolding bytes_of record_at between reaches adding back reached_first reached_next asked put take_out merge within lower upper depth_text row_line decimal stations_to stations_text route_line base_line set_line list_refusal check replaceable action_word first_line last_line taken stepped started record_step run_refusal count_of file_refusal reached onward followed blocked lacks cleared lost probe replaced beside step ite has insert remove union cut below from size least drop_least upper_half lower_half split_key ones_in count_trailing_zeros
+unfolding bytes_of record_at between reaches adding back reached_first reached_next asked put take_out merge within lower upper depth_text row_line
+    decimal stations_to stations_text route_line base_line set_line list_refusal check replaceable action_word first_line last_line taken stepped
+    started record_step run_refusal count_of file_refusal reached onward followed blocked lacks cleared lost probe replaced beside step ite has insert
+    remove union cut below from size least drop_least upper_half lower_half split_key ones_in count_trailing_zeros
 computed0060 = refl
 
 pub printed0060 : printed (file_of file0060) ≡ text_of text0060

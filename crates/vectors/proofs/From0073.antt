@@ -30,7 +30,10 @@ text0073 =
     ∷ []
 
 computed0073 : quick_printed (file_of file0073) ≡ text_of text0073
-unfolding bytes_of record_at between reaches adding back reached_first reached_next asked put take_out merge within lower upper depth_text row_line decimal stations_to stations_text route_line base_line set_line list_refusal check replaceable action_word first_line last_line taken stepped started record_step run_refusal count_of file_refusal reached onward followed blocked lacks cleared lost probe replaced beside step ite has insert remove union cut below from size least drop_least upper_half lower_half split_key ones_in count_trailing_zeros
+unfolding bytes_of record_at between reaches adding back reached_first reached_next asked put take_out merge within lower upper depth_text row_line
+    decimal stations_to stations_text route_line base_line set_line list_refusal check replaceable action_word first_line last_line taken stepped
+    started record_step run_refusal count_of file_refusal reached onward followed blocked lacks cleared lost probe replaced beside step ite has insert
+    remove union cut below from size least drop_least upper_half lower_half split_key ones_in count_trailing_zeros
 computed0073 = refl
 
 pub printed0073 : printed (file_of file0073) ≡ text_of text0073
@@ -49,7 +52,10 @@ text0074 =
     ∷ []
 
 computed0074 : quick_printed (file_of file0074) ≡ text_of text0074
-unfolding bytes_of record_at between reaches adding back reached_first reached_next asked put take_out merge within lower upper depth_text row_line decimal stations_to stations_text route_line base_line set_line list_refusal check replaceable action_word first_line last_line taken stepped started record_step run_refusal count_of file_refusal reached onward followed blocked lacks cleared lost probe replaced beside step ite has insert remove union cut below from size least drop_least upper_half lower_half split_key ones_in count_trailing_zeros
+unfolding bytes_of record_at between reaches adding back reached_first reached_next asked put take_out merge within lower upper depth_text row_line
+    decimal stations_to stations_text route_line base_line set_line list_refusal check replaceable action_word first_line last_line taken stepped
+    started record_step run_refusal count_of file_refusal reached onward followed blocked lacks cleared lost probe replaced beside step ite has insert
+    remove union cut below from size least drop_least upper_half lower_half split_key ones_in count_trailing_zeros
 computed0074 = refl
 
 pub printed0074 : printed (file_of file0074) ≡ text_of text0074
@@ -68,7 +74,10 @@ text0075 =
     ∷ []
 
 computed0075 : quick_printed (file_of file0075) ≡ text_of text0075
-unfolding bytes_of record_at between reaches adding back reached_first reached_next asked put take_out merge within lower upper depth_text row_line decimal stations_to stations_text route_line base_line set_line list_refusal check replaceable action_word first_line last_line taken stepped started record_step run_refusal count_of file_refusal reached onward followed blocked lacks cleared lost probe replaced beside step ite has insert remove union cut below from size least drop_least upper_half lower_half split_key ones_in count_trailing_zeros
+unfolding bytes_of record_at between reaches adding back reached_first reached_next asked put take_out merge within lower upper depth_text row_line
+    decimal stations_to stations_text route_line base_line set_line list_refusal check replaceable action_word first_line last_line taken stepped
+    started record_step run_refusal count_of file_refusal reached onward followed blocked lacks cleared lost probe replaced beside step ite has insert
+    remove union cut below from size least drop_least upper_half lower_half split_key ones_in count_trailing_zeros
 computed0075 = refl
 
 pub printed0075 : printed (file_of file0075) ≡ text_of text0075
@@ -87,7 +96,10 @@ text0076 =
     ∷ []
 
 computed0076 : quick_printed (file_of file0076) ≡ text_of text0076
-unfolding bytes_of record_at between reaches adding back reached_first reached_next asked put take_out merge within lower upper depth_text row_line decimal stations_to stations_text route_line base_line set_line list_refusal check replaceable action_word first_line last_line taken stepped started record_step run_refusal count_of file_refusal reached onward followed blocked lacks cleared lost probe replaced beside step ite has insert remove union cut below from size least drop_least upper_half lower_half split_key ones_in count_trailing_zeros
+unfolding bytes_of record_at between reaches adding back reached_first reached_next asked put take_out merge within lower upper depth_text row_line
+    decimal stations_to stations_text route_line base_line set_line list_refusal check replaceable action_word first_line last_line taken stepped
+    started record_step run_refusal count_of file_refusal reached onward followed blocked lacks cleared lost probe replaced beside step ite has insert
+    remove union cut below from size least drop_least upper_half lower_half split_key ones_in count_trailing_zeros
 computed0076 = refl
 
 pub printed0076 : printed (file_of file0076) ≡ text_of text0076
@@ -106,7 +118,10 @@ text0077 =
     ∷ []
 
 computed0077 : quick_printed (file_of file0077) ≡ text_of text0077
-unfolding bytes_of record_at between reaches adding back reached_first reached_next asked put take_out merge within lower upper depth_text row_line decimal stations_to stations_text route_line base_line set_line list_refusal check replaceable action_word first_line last_line taken stepped started record_step run_refusal count_of file_refusal reached onward followed blocked lacks cleared lost probe replaced beside step ite has insert remove union cut below from size least drop_least upper_half lower_half split_key ones_in count_trailing_zeros
+unfolding bytes_of record_at between reaches adding back reached_first reached_next asked put take_out merge within lower upper depth_text row_line
+    decimal stations_to stations_text route_line base_line set_line list_refusal check replaceable action_word first_line last_line taken stepped
+    started record_step run_refusal count_of file_refusal reached onward followed blocked lacks cleared lost probe replaced beside step ite has insert
+    remove union cut below from size least drop_least upper_half lower_half split_key ones_in count_trailing_zeros
 computed0077 = refl
 
 pub printed0077 : printed (file_of file0077) ≡ text_of text0077
@@ -125,7 +140,10 @@ text0078 =
     ∷ []
 
 computed0078 : quick_printed (file_of file0078) ≡ text_of text0078
-unfolding bytes_of record_at between reaches adding back reached_first reached_next asked put take_out merge within lower upper depth_text row_line decimal stations_to stations_text route_line base_line set_line list_refusal check replaceable action_word first_line last_line taken stepped started record_step run_refusal count_of file_refusal reached onward followed blocked lacks cleared lost probe replaced beside step ite has insert remove union cut below from size least drop_least upper_half lower_half split_key ones_in count_trailing_zeros
+unfolding bytes_of record_at between reaches adding back reached_first reached_next asked put take_out merge within lower upper depth_text row_line
+    decimal stations_to stations_text route_line base_line set_line list_refusal check replaceable action_word first_line last_line taken stepped
+    started record_step run_refusal count_of file_refusal reached onward followed blocked lacks cleared lost probe replaced beside step ite has insert
+    remove union cut below from size least drop_least upper_half lower_half split_key ones_in count_trailing_zeros
 computed0078 = refl
 
 pub printed0078 : printed (file_of file0078) ≡ text_of text0078

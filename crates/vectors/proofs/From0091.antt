@@ -31,7 +31,10 @@ text0091 =
     ∷ []
 
 computed0091 : quick_printed (file_of file0091) ≡ text_of text0091
-unfolding bytes_of record_at between reaches adding back reached_first reached_next asked put take_out merge within lower upper depth_text row_line decimal stations_to stations_text route_line base_line set_line list_refusal check replaceable action_word first_line last_line taken stepped started record_step run_refusal count_of file_refusal reached onward followed blocked lacks cleared lost probe replaced beside step ite has insert remove union cut below from size least drop_least upper_half lower_half split_key ones_in count_trailing_zeros
+unfolding bytes_of record_at between reaches adding back reached_first reached_next asked put take_out merge within lower upper depth_text row_line
+    decimal stations_to stations_text route_line base_line set_line list_refusal check replaceable action_word first_line last_line taken stepped
+    started record_step run_refusal count_of file_refusal reached onward followed blocked lacks cleared lost probe replaced beside step ite has insert
+    remove union cut below from size least drop_least upper_half lower_half split_key ones_in count_trailing_zeros
 computed0091 = refl
 
 pub printed0091 : printed (file_of file0091) ≡ text_of text0091
@@ -52,7 +55,10 @@ text0092 =
     ∷ []
 
 computed0092 : quick_printed (file_of file0092) ≡ text_of text0092
-unfolding bytes_of record_at between reaches adding back reached_first reached_next asked put take_out merge within lower upper depth_text row_line decimal stations_to stations_text route_line base_line set_line list_refusal check replaceable action_word first_line last_line taken stepped started record_step run_refusal count_of file_refusal reached onward followed blocked lacks cleared lost probe replaced beside step ite has insert remove union cut below from size least drop_least upper_half lower_half split_key ones_in count_trailing_zeros
+unfolding bytes_of record_at between reaches adding back reached_first reached_next asked put take_out merge within lower upper depth_text row_line
+    decimal stations_to stations_text route_line base_line set_line list_refusal check replaceable action_word first_line last_line taken stepped
+    started record_step run_refusal count_of file_refusal reached onward followed blocked lacks cleared lost probe replaced beside step ite has insert
+    remove union cut below from size least drop_least upper_half lower_half split_key ones_in count_trailing_zeros
 computed0092 = refl
 
 pub printed0092 : printed (file_of file0092) ≡ text_of text0092
@@ -75,7 +81,10 @@ text0093 =
     ∷ []
 
 computed0093 : quick_printed (file_of file0093) ≡ text_of text0093
-unfolding bytes_of record_at between reaches adding back reached_first reached_next asked put take_out merge within lower upper depth_text row_line decimal stations_to stations_text route_line base_line set_line list_refusal check replaceable action_word first_line last_line taken stepped started record_step run_refusal count_of file_refusal reached onward followed blocked lacks cleared lost probe replaced beside step ite has insert remove union cut below from size least drop_least upper_half lower_half split_key ones_in count_trailing_zeros
+unfolding bytes_of record_at between reaches adding back reached_first reached_next asked put take_out merge within lower upper depth_text row_line
+    decimal stations_to stations_text route_line base_line set_line list_refusal check replaceable action_word first_line last_line taken stepped
+    started record_step run_refusal count_of file_refusal reached onward followed blocked lacks cleared lost probe replaced beside step ite has insert
+    remove union cut below from size least drop_least upper_half lower_half split_key ones_in count_trailing_zeros
 computed0093 = refl
 
 pub printed0093 : printed (file_of file0093) ≡ text_of text0093
@@ -97,7 +106,10 @@ text0094 =
     ∷ []
 
 computed0094 : quick_printed (file_of file0094) ≡ text_of text0094
-unfolding bytes_of record_at between reaches adding back reached_first reached_next asked put take_out merge within lower upper depth_text row_line decimal stations_to stations_text route_line base_line set_line list_refusal check replaceable action_word first_line last_line taken stepped started record_step run_refusal count_of file_refusal reached onward followed blocked lacks cleared lost probe replaced beside step ite has insert remove union cut below from size least drop_least upper_half lower_half split_key ones_in count_trailing_zeros
+unfolding bytes_of record_at between reaches adding back reached_first reached_next asked put take_out merge within lower upper depth_text row_line
+    decimal stations_to stations_text route_line base_line set_line list_refusal check replaceable action_word first_line last_line taken stepped
+    started record_step run_refusal count_of file_refusal reached onward followed blocked lacks cleared lost probe replaced beside step ite has insert
+    remove union cut below from size least drop_least upper_half lower_half split_key ones_in count_trailing_zeros
 computed0094 = refl
 
 pub printed0094 : printed (file_of file0094) ≡ text_of text0094
@@ -119,7 +131,10 @@ text0095 =
     ∷ []
 
 computed0095 : quick_printed (file_of file0095) ≡ text_of text0095
-unfolding bytes_of record_at between reaches adding back reached_first reached_next asked put take_out merge within lower upper depth_text row_line decimal stations_to stations_text route_line base_line set_line list_refusal check replaceable action_word first_line last_line taken stepped started record_step run_refusal count_of file_refusal reached onward followed blocked lacks cleared lost probe replaced beside step ite has insert remove union cut below from size least drop_least upper_half lower_half split_key ones_in count_trailing_zeros
+unfolding bytes_of record_at between reaches adding back reached_first reached_next asked put take_out merge within lower upper depth_text row_line
+    decimal stations_to stations_text route_line base_line set_line list_refusal check replaceable action_word first_line last_line taken stepped
+    started record_step run_refusal count_of file_refusal reached onward followed blocked lacks cleared lost probe replaced beside step ite has insert
+    remove union cut below from size least drop_least upper_half lower_half split_key ones_in count_trailing_zeros
 computed0095 = refl
 
 pub printed0095 : printed (file_of file0095) ≡ text_of text0095
@@ -141,7 +156,10 @@ text0096 =
     ∷ []
 
 computed0096 : quick_printed (file_of file0096) ≡ text_of text0096
-unfolding bytes_of record_at between reaches adding back reached_first reached_next asked put take_out merge within lower upper depth_text row_line decimal stations_to stations_text route_line base_line set_line list_refusal check replaceable action_word first_line last_line taken stepped started record_step run_refusal count_of file_refusal reached onward followed blocked lacks cleared lost probe replaced beside step ite has insert remove union cut below from size least drop_least upper_half lower_half split_key ones_in count_trailing_zeros
+unfolding bytes_of record_at between reaches adding back reached_first reached_next asked put take_out merge within lower upper depth_text row_line
+    decimal stations_to stations_text route_line base_line set_line list_refusal check replaceable action_word first_line last_line taken stepped
+    started record_step run_refusal count_of file_refusal reached onward followed blocked lacks cleared lost probe replaced beside step ite has insert
+    remove union cut below from size least drop_least upper_half lower_half split_key ones_in count_trailing_zeros
 computed0096 = refl
 
 pub printed0096 : printed (file_of file0096) ≡ text_of text0096

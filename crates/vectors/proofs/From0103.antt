@@ -35,7 +35,10 @@ text0103 =
     ∷ []
 
 computed0103 : quick_printed (file_of file0103) ≡ text_of text0103
-unfolding bytes_of record_at between reaches adding back reached_first reached_next asked put take_out merge within lower upper depth_text row_line decimal stations_to stations_text route_line base_line set_line list_refusal check replaceable action_word first_line last_line taken stepped started record_step run_refusal count_of file_refusal reached onward followed blocked lacks cleared lost probe replaced beside step ite has insert remove union cut below from size least drop_least upper_half lower_half split_key ones_in count_trailing_zeros
+unfolding bytes_of record_at between reaches adding back reached_first reached_next asked put take_out merge within lower upper depth_text row_line
+    decimal stations_to stations_text route_line base_line set_line list_refusal check replaceable action_word first_line last_line taken stepped
+    started record_step run_refusal count_of file_refusal reached onward followed blocked lacks cleared lost probe replaced beside step ite has insert
+    remove union cut below from size least drop_least upper_half lower_half split_key ones_in count_trailing_zeros
 computed0103 = refl
 
 pub printed0103 : printed (file_of file0103) ≡ text_of text0103
@@ -88,7 +91,10 @@ text0104 =
     ∷ []
 
 computed0104 : quick_printed (file_of file0104) ≡ text_of text0104
-unfolding bytes_of record_at between reaches adding back reached_first reached_next asked put take_out merge within lower upper depth_text row_line decimal stations_to stations_text route_line base_line set_line list_refusal check replaceable action_word first_line last_line taken stepped started record_step run_refusal count_of file_refusal reached onward followed blocked lacks cleared lost probe replaced beside step ite has insert remove union cut below from size least drop_least upper_half lower_half split_key ones_in count_trailing_zeros
+unfolding bytes_of record_at between reaches adding back reached_first reached_next asked put take_out merge within lower upper depth_text row_line
+    decimal stations_to stations_text route_line base_line set_line list_refusal check replaceable action_word first_line last_line taken stepped
+    started record_step run_refusal count_of file_refusal reached onward followed blocked lacks cleared lost probe replaced beside step ite has insert
+    remove union cut below from size least drop_least upper_half lower_half split_key ones_in count_trailing_zeros
 computed0104 = refl
 
 pub printed0104 : printed (file_of file0104) ≡ text_of text0104
@@ -124,7 +130,10 @@ text0105 =
     ∷ []
 
 computed0105 : quick_printed (file_of file0105) ≡ text_of text0105
-unfolding bytes_of record_at between reaches adding back reached_first reached_next asked put take_out merge within lower upper depth_text row_line decimal stations_to stations_text route_line base_line set_line list_refusal check replaceable action_word first_line last_line taken stepped started record_step run_refusal count_of file_refusal reached onward followed blocked lacks cleared lost probe replaced beside step ite has insert remove union cut below from size least drop_least upper_half lower_half split_key ones_in count_trailing_zeros
+unfolding bytes_of record_at between reaches adding back reached_first reached_next asked put take_out merge within lower upper depth_text row_line
+    decimal stations_to stations_text route_line base_line set_line list_refusal check replaceable action_word first_line last_line taken stepped
+    started record_step run_refusal count_of file_refusal reached onward followed blocked lacks cleared lost probe replaced beside step ite has insert
+    remove union cut below from size least drop_least upper_half lower_half split_key ones_in count_trailing_zeros
 computed0105 = refl
 
 pub printed0105 : printed (file_of file0105) ≡ text_of text0105
@@ -158,7 +167,10 @@ text0106 =
     ∷ []
 
 computed0106 : quick_printed (file_of file0106) ≡ text_of text0106
-unfolding bytes_of record_at between reaches adding back reached_first reached_next asked put take_out merge within lower upper depth_text row_line decimal stations_to stations_text route_line base_line set_line list_refusal check replaceable action_word first_line last_line taken stepped started record_step run_refusal count_of file_refusal reached onward followed blocked lacks cleared lost probe replaced beside step ite has insert remove union cut below from size least drop_least upper_half lower_half split_key ones_in count_trailing_zeros
+unfolding bytes_of record_at between reaches adding back reached_first reached_next asked put take_out merge within lower upper depth_text row_line
+    decimal stations_to stations_text route_line base_line set_line list_refusal check replaceable action_word first_line last_line taken stepped
+    started record_step run_refusal count_of file_refusal reached onward followed blocked lacks cleared lost probe replaced beside step ite has insert
+    remove union cut below from size least drop_least upper_half lower_half split_key ones_in count_trailing_zeros
 computed0106 = refl
 
 pub printed0106 : printed (file_of file0106) ≡ text_of text0106
@@ -224,7 +236,10 @@ text0107 =
     ∷ []
 
 computed0107 : quick_printed (file_of file0107) ≡ text_of text0107
-unfolding bytes_of record_at between reaches adding back reached_first reached_next asked put take_out merge within lower upper depth_text row_line decimal stations_to stations_text route_line base_line set_line list_refusal check replaceable action_word first_line last_line taken stepped started record_step run_refusal count_of file_refusal reached onward followed blocked lacks cleared lost probe replaced beside step ite has insert remove union cut below from size least drop_least upper_half lower_half split_key ones_in count_trailing_zeros
+unfolding bytes_of record_at between reaches adding back reached_first reached_next asked put take_out merge within lower upper depth_text row_line
+    decimal stations_to stations_text route_line base_line set_line list_refusal check replaceable action_word first_line last_line taken stepped
+    started record_step run_refusal count_of file_refusal reached onward followed blocked lacks cleared lost probe replaced beside step ite has insert
+    remove union cut below from size least drop_least upper_half lower_half split_key ones_in count_trailing_zeros
 computed0107 = refl
 
 pub printed0107 : printed (file_of file0107) ≡ text_of text0107
@@ -260,7 +275,10 @@ text0108 =
     ∷ []
 
 computed0108 : quick_printed (file_of file0108) ≡ text_of text0108
-unfolding bytes_of record_at between reaches adding back reached_first reached_next asked put take_out merge within lower upper depth_text row_line decimal stations_to stations_text route_line base_line set_line list_refusal check replaceable action_word first_line last_line taken stepped started record_step run_refusal count_of file_refusal reached onward followed blocked lacks cleared lost probe replaced beside step ite has insert remove union cut below from size least drop_least upper_half lower_half split_key ones_in count_trailing_zeros
+unfolding bytes_of record_at between reaches adding back reached_first reached_next asked put take_out merge within lower upper depth_text row_line
+    decimal stations_to stations_text route_line base_line set_line list_refusal check replaceable action_word first_line last_line taken stepped
+    started record_step run_refusal count_of file_refusal reached onward followed blocked lacks cleared lost probe replaced beside step ite has insert
+    remove union cut below from size least drop_least upper_half lower_half split_key ones_in count_trailing_zeros
 computed0108 = refl
 
 pub printed0108 : printed (file_of file0108) ≡ text_of text0108

@@ -79,7 +79,8 @@ module _ (file : List ℕ) (o : leb 3 (length file) && stop_of file ≡ false) w
     shown p = by (eqb p.refusal 0)
       where
         by : (b : Bool)
-            → ite b (record { refusal = 24; records = (report_of p).records; rows = (report_of p).rows; set = (report_of p).set; stored = (report_of p).stored; used = (report_of p).used }) (report_of p)
+            → ite b (record { refusal = 24; records = (report_of p).records; rows = (report_of p).rows; set = (report_of p).set; stored = (report_of p).stored; used = (report_of p).used })
+            (report_of p)
             ≡ report_of (ite b (stopped_run p) p)
         by true = refl
         by false = refl

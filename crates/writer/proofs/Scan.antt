@@ -93,6 +93,7 @@ first_of file (Some k) e f = (omega (arith, f.1), record { low = omega (arith, f
 
 -- ---- record k, by the byte that it starts with
 
-pub bars_at : (file : List ℕ) (v k : ℕ) {at : ℕ} {b : Bool} → v ≡ version file → at ≡ 3 + ite (eqb v 1) 2 4 * k → b ≡ (leb (get_or file at 0 / 16) 3 && leb (get_or file at 0 % 16) (ite (eqb v 1) 5 6)) && outside (get_or file at 0 / 16) (get_or file at 0 % 16) → barred (record_at file k) ≡ b
+pub bars_at : (file : List ℕ) (v k : ℕ) {at : ℕ} {b : Bool} → v ≡ version file → at ≡ 3 + ite (eqb v 1) 2 4 * k
+    → b ≡ (leb (get_or file at 0 / 16) 3 && leb (get_or file at 0 % 16) (ite (eqb v 1) 5 6)) && outside (get_or file at 0 / 16) (get_or file at 0 % 16) → barred (record_at file k) ≡ b
 unfolding record_at
 bars_at file v k e f g = sym (g ∙ rw (f, e))

@@ -1,11 +1,12 @@
-//! What the tally's pass by marks meets. It goes over files of more than 384 records in blocks of 64 from the second record on, and stops
-//! at starts and at records of another thread than the one before.
+//! What the tally of a long file meets, whatever way it is counted: files of more than 384 records of every length over whole blocks of 64, from the
+//! second record on, and at either end of a block starts and steps of another thread than the one before. So a count that goes by blocks, or looks
+//! from one record to the next, is compared at each edge.
 
 use crate::compare::version_index;
 use reference::sizes;
 
 const VERSIONS: usize = 3;
-/// Records of a block, and up to how many a file is walked record by record.
+/// Records of a block, and up to how many a file counts as a short one.
 const BLOCK: usize = 64;
 const SHORT: usize = 384;
 const THREADS: usize = 4;
@@ -18,7 +19,7 @@ pub struct Blocks {
     last: [[u64; BLOCK]; VERSIONS],
     /// Edges by version, kind and thread.
     edges: [[[u64; THREADS]; EDGES.len()]; VERSIONS],
-    /// Blocks without a mark, by version.
+    /// Blocks of nothing but steps of the thread before, by version.
     quiet: [u64; VERSIONS],
 }
 
@@ -38,12 +39,12 @@ impl Blocks {
         let (version, width) = (version_index(file), sizes(file[0])[0]);
         let first: Vec<u8> = (0..records).map(|k| file[3 + width * k]).collect();
         self.last[version][(records - 1) % BLOCK] += 1;
-        let marked = |k: usize| first[k] != first[k - 1] & 0x30;
+        let turns = |k: usize| first[k] != first[k - 1] & 0x30;
         for block in (1..records).step_by(BLOCK) {
             let end = records.min(block + BLOCK);
-            self.quiet[version] += u64::from(!(block..end).any(marked));
+            self.quiet[version] += u64::from(!(block..end).any(turns));
             for (edge, k) in [(0, block), (2, end - 1)] {
-                if marked(k) {
+                if turns(k) {
                     let step = usize::from(first[k] % 16 == 0);
                     self.edges[version][edge + step][usize::from(first[k] / 16)] += 1;
                 }
@@ -55,13 +56,13 @@ impl Blocks {
     pub fn report(&self, missing: &mut Vec<String>) {
         for version in 0..VERSIONS {
             let files: u64 = self.last[version].iter().sum();
-            println!("version {}: {files} files by marks, {} blocks without one", version + 1, self.quiet[version]);
+            println!("version {}: {files} long files, {} blocks of one thread's steps alone", version + 1, self.quiet[version]);
             let mut need = |count: u64, what: String| {
                 if count == 0 {
-                    missing.push(format!("version {}, by marks: {what}", version + 1));
+                    missing.push(format!("version {}, long files: {what}", version + 1));
                 }
             };
-            need(self.quiet[version], "a block without a mark".into());
+            need(self.quiet[version], "a block of one thread's steps alone".into());
             for (length, &count) in self.last[version].iter().enumerate() {
                 need(count, format!("a last block of {length} records"));
             }

@@ -22,7 +22,8 @@ slice_bounds-ran-end-2 c =
 pub invariant_of-ran : goal.invariant_of-ran
 invariant_of-ran c =
     record {
-      told = told _ (replicate 8192 0) _ c.in_default.ensures.refusal refl c.in_default.ensures.plain refl c.run-r.ensures.0 c.run-r.ensures.1 c.records.ensures c.as_chunks.ensures.front c.as_chunks.ensures.front_len;
+      told = told _ (replicate 8192 0) _ c.in_default.ensures.refusal refl c.in_default.ensures.plain refl c.run-r.ensures.0 c.run-r.ensures.1
+          c.records.ensures c.as_chunks.ensures.front c.as_chunks.ensures.front_len;
     }
 
 pub returns : goal.returns

@@ -1,6 +1,9 @@
 -- `list::list` meets its contract. Assumes nothing.
 use mathlib.Core.Path.{refl}
 use Rattle.definitions.proofs.Refusals.{refused}
+use native.Mathlib.Omega.{arith}
+use Rattle.run.proofs.Looked.{few_records}
+use Rattle.run.proofs.Ended.{enough_all, enough_few}
 use Rattle.list.proofs.Cases.{has_text_room, refused_report_lem, refused_buffer, listed_report, listed_buffer}
 use Rattle.list.proofs.list.Goals as goal
 
@@ -17,6 +20,15 @@ report-requires-then-may_ask-clause-room c = has_text_room _ _ c.in_default.ensu
 
 pub report-requires-else-may_ask-clause-room : goal.report-requires-else-may_ask-clause-room
 report-requires-else-may_ask-clause-room c = has_text_room _ _ c.in_default.ensures.refusal refl
+
+pub report-requires-then-may_ask-clause-enough : goal.report-requires-then-may_ask-clause-enough
+report-requires-then-may_ask-clause-enough c = enough_all _ c.if-schedule-eq1.false (omega arith) (omega arith) (omega arith)
+
+pub report-requires-else-may_ask-clause-enough : goal.report-requires-else-may_ask-clause-enough
+report-requires-else-may_ask-clause-enough c =
+    let n = c.if-schedule-eq1.false in
+    let o = c.may_ask.ensures c.if-may_ask.false in
+    enough_few _ n (few_records _ c.in_default.ensures.proper n o.1) o.0 (refl, omega arith) (omega arith) (omega arith) (omega arith)
 
 pub returns-then-schedule-eq1 : goal.returns-then-schedule-eq1
 returns-then-schedule-eq1 c =

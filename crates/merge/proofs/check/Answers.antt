@@ -18,16 +18,20 @@ returns-in_err-check_threads c =
 pub returns-in_err-check_threads-2 : goal.returns-in_err-check_threads-2
 returns-in_err-check_threads-2 c =
     handed_on _ _ c.from_residual-in_err-check_threads-2.ensures.1
-    ∙ by_foreign_2 _ _ _ c.in_ok-check_plain.ensures.fault c.in_ok-check_plain-2.ensures.fault c.count_of-a.ensures c.count_of-b.ensures c.in_ok-check_threads.ensures (numbered _) c.in_err-check_threads-2.ensures
+    ∙ by_foreign_2 _ _ _ c.in_ok-check_plain.ensures.fault c.in_ok-check_plain-2.ensures.fault
+    c.count_of-a.ensures c.count_of-b.ensures c.in_ok-check_threads.ensures (numbered _) c.in_err-check_threads-2.ensures
 
 pub returns-then-a-b-gt4096 : goal.returns-then-a-b-gt4096
 returns-then-a-b-gt4096 c =
-    by_total _ _ _ c.in_ok-check_plain.ensures.fault c.in_ok-check_plain-2.ensures.fault c.count_of-a.ensures c.count_of-b.ensures c.in_ok-check_threads.ensures c.in_ok-check_threads-2.ensures c.if-a-b-gt4096.true
+    by_total _ _ _ c.in_ok-check_plain.ensures.fault c.in_ok-check_plain-2.ensures.fault
+    c.count_of-a.ensures c.count_of-b.ensures c.in_ok-check_threads.ensures c.in_ok-check_threads-2.ensures c.if-a-b-gt4096.true
 
 pub returns-then-room-min : goal.returns-then-room-min
 returns-then-room-min c =
-    by_short _ _ _ c.in_ok-check_plain.ensures.fault c.in_ok-check_plain-2.ensures.fault c.count_of-a.ensures c.count_of-b.ensures c.in_ok-check_threads.ensures c.in_ok-check_threads-2.ensures c.if-a-b-gt4096.false c.min.ensures c.if-room-min.true
+    by_short _ _ _ c.in_ok-check_plain.ensures.fault c.in_ok-check_plain-2.ensures.fault
+    c.count_of-a.ensures c.count_of-b.ensures c.in_ok-check_threads.ensures c.in_ok-check_threads-2.ensures c.if-a-b-gt4096.false c.min.ensures c.if-room-min.true
 
 pub returns : goal.returns
 returns c =
-    by_none _ _ _ c.in_ok-check_plain.ensures.fault c.in_ok-check_plain-2.ensures.fault c.count_of-a.ensures c.count_of-b.ensures c.in_ok-check_threads.ensures c.in_ok-check_threads-2.ensures c.if-a-b-gt4096.false c.min.ensures c.if-room-min.false
+    by_none _ _ _ c.in_ok-check_plain.ensures.fault c.in_ok-check_plain-2.ensures.fault
+    c.count_of-a.ensures c.count_of-b.ensures c.in_ok-check_threads.ensures c.in_ok-check_threads-2.ensures c.if-a-b-gt4096.false c.min.ensures c.if-room-min.false

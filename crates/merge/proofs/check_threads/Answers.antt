@@ -9,7 +9,8 @@ pub loop-record-init : goal.loop-record-init
 loop-record-init c = foreign_none _ _
 
 pub loop-record-preserved : goal.loop-record-preserved
-loop-record-preserved c = let i = foreign_more c.args.f c.args.s.now _ _ c.loop-record.invariant in let e = c.records-record-items.ensures.first c.loop-record.record-index c.loop-record-test.true in rw (← e) at i
+loop-record-preserved c = let i = foreign_more c.args.f c.args.s.now _ _ c.loop-record.invariant in
+    let e = c.records-record-items.ensures.first c.loop-record.record-index c.loop-record-test.true in rw (← e) at i
 
 pub returns-then-other : goal.returns-then-other
 unfolding ite

@@ -29,5 +29,6 @@ pub returns : goal.returns
 returns c =
     let road = YieldsList-from_enumerate (YieldsList-from_zip (YieldsList-from_slice c.records.result.now (cc)) (YieldsList-from_slice c.records-2.result.now (cc))) (cc) in
     let e = YieldsList-end road c.loop-k.yielded c.loop-k.k-iterator c.loop-k.yielded_by _ c.next.new.self refl c.in-None.ensures.steps in
-    let n : length c.loop-k.yielded ≡ min (count_of c.args.first.now) (count_of c.args.second.now) = e.1 ∙ length-enumerate_from 0 (zip c.records.result.now c.records-2.result.now) ∙ length-zip c.records.result.now c.records-2.result.now ∙ rw (c.records.ensures.many, c.records-2.ensures.many) in
+    let n : length c.loop-k.yielded ≡ min (count_of c.args.first.now) (count_of c.args.second.now) = e.1 ∙ length-enumerate_from 0 (zip c.records.result.now c.records-2.result.now)
+    ∙ length-zip c.records.result.now c.records-2.result.now ∙ rw (c.records.ensures.many, c.records-2.ensures.many) in
     rw n at c.loop-k.invariant

@@ -48,4 +48,5 @@ loop-row-preserved c =
 pub returns : goal.returns
 returns c =
     let i = c.loop-row.invariant in
-    said _ (ap (λ k. row_lines (headed c.args.version) k c.args.rows.now) (walk_end (headed c.args.version) c.args.rows.now _ c.args.count _ i.few i.rest c.requires (λ l. omega (arith, (c.in-None.ensures.steps l).1.0, i.wide)))) i.wrote
+    said _ (ap (λ k. row_lines (headed c.args.version) k c.args.rows.now)
+    (walk_end (headed c.args.version) c.args.rows.now _ c.args.count _ i.few i.rest c.requires (λ l. omega (arith, (c.in-None.ensures.steps l).1.0, i.wide)))) i.wrote

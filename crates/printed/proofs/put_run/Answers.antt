@@ -25,6 +25,9 @@ returns c =
     let f = c.in_default.ensures in
     let w = c.put_lines.ensures in
     record {
-      lines = (w.0, lines_printed _ f.refusal _ _ refl f.proper.few (search rules) (search rules) c.run-r.ensures.0 c.run-r.ensures.1 c.list-l.ensures.0 c.list-l.ensures.1 _ _ refl c.count_of-count.ensures w.1);
+      lines = (
+        w.0,
+        lines_printed _ f.refusal _ _ refl f.proper.few (search rules) (search rules) c.run-r.ensures.0 c.run-r.ensures.1 c.list-l.ensures.0 c.list-l.ensures.1 _ _ refl c.count_of-count.ensures w.1,
+      );
       few = λ _. f.proper.few;
     }

@@ -4,6 +4,8 @@ use Rattle.frames.specs.View.{held}
 use Rattle.std.proofs.Common.{◌+◌, ◌-◌, ◌*◌, ◌/◌, ◌%◌, ◌<◌, refl, sym, length, ap, ◌∙◌, arith, get_or, set, ◌≡◌, ℕ}
 use Rattle.std.specs.Slice.Iter.{chunks_exact_rest, chunks_exact_size}
 use Rattle.std.specs.Iterator.Adapters.{enumerate_source, enumerate_count}
+use mathlib.Core.Bool.{not}
+use lib.Dec.{eqb}
 use lib.ListN.{take, drop, length-set, length-drop}
 use native.Mathlib.Nat.{mul-zero}
 use lib.Seq.{get_or-set_same, take-length}
@@ -12,13 +14,16 @@ use Rattle.steps.specs.Decision.{thread}
 use Rattle.definitions.specs.Places.{to_base}
 use Rattle.definitions.specs.Versions.{width}
 use Rattle.definitions.specs.Run.{after}
+use Rattle.passing.proofs.Tallied.{own_most}
 use Rattle.run.proofs.Rows.{finished_few}
 use Rattle.run.proofs.Reading.{wide_plain, wide_more, at_end}
 use Rattle.run.proofs.Threads.{all_kept, kept_deep, kept_on}
 use Rattle.run.proofs.Noting.{placed}
 use Rattle.run.proofs.Turn.{seen, count_few, count_some_lem}
+use Rattle.run.proofs.Lending.{lent_to}
 use Rattle.run.proofs.Staged.{going, finding_set}
 use Rattle.run.proofs.Ended.{none_yet, all_done, stopped}
+use Rattle.run.proofs.Counting.{none_counting, most, one_more, row_needs, row_action, row_steps, answering, column_so, column_found, going_on, ending_on, all_counted}
 use Rattle.run.proofs.carry_out.Goals as goal
 use Rattle.run.proofs.carry_out.Goals.{Joined-v-eq1-2, then-v-eq1, else-v-eq1}
 use Rattle.run.proofs.carry_out.Answers.Ways.{number, numbered, next_number, next_wide, next_rest, few, asking, sizes, past, staged}
@@ -44,7 +49,38 @@ loop-k-init c =
       four = refl;
       each = refl;
       stands = rw none (none_yet _ _ (held c.args.lent.now) c.requires.1.0 c.requires.1.1.0 (λ _. c.requires.1.1.1.0.blank) c.idle_notes-idle.ensures);
+      counting = rw none (none_counting s c.args.tally.now);
     }
+
+pub count_asked-requires : goal.count_asked-requires
+count_asked-requires c =
+    let j = (goal.at.count_asked-requires c).Joined-v-eq1-2 in
+    let i = c.loop-k.invariant.counting in
+    let t = get_or c.in-Some.bytes.now 0 0 / 16 % 4 in (
+      omega arith,
+      (
+        λ w. one_more (most i (omega (arith, few j, c.requires.0.few)) w c.requires.1.1.1.1.1),
+        omega (arith, i.own t (omega arith), own_most c.args.schedule.now (number j) t, few j, c.requires.0.few),
+      ),
+    )
+
+pub count_row-requires : goal.count_row-requires
+count_row-requires c =
+    let h = goal.at.count_row-requires c in
+    let j = h.Joined-v-eq1-2 in
+    let r = rw c.in-Row.is at (staged h.Joined-asked (asking j)).stage in
+    row_needs (asking j) c.loop-k.invariant.counting _ _ c.count_asked.ensures c.count_asked.auto.tally r.said
+    (omega (arith, few j, c.requires.0.few)) c.requires.1.1.1.1.1 r.acts
+
+pub count_row-requires-in-Ok-Found : goal.count_row-requires-in-Ok-Found
+count_row-requires-in-Ok-Found c =
+    let h = goal.at.count_row-requires-in-Ok-Found c in
+    let j = h.Joined-v-eq1-2 in
+    let r = rw c.in-Task.is at (staged h.Joined-asked (asking j)).stage in
+    let finds = finding_set _ _ _ _ _ _ _ _ _ _ _ _ _ _ _ _ _ _ _ _ _ _ {c = c.in-Ok-Found.counts} {d = c.in-Ok-Found.set} c.in-Ok-Found.is
+    (rw c.in-Ok-Found.is at c.in-Ok-Found.field-0-is) (r.on _ _ _ _ _ c.round-left.auto.depths c.round-left.ensures) in
+    row_needs (asking j) c.loop-k.invariant.counting _ _ c.count_asked.ensures c.count_asked.auto.tally finds.said
+    (omega (arith, few j, c.requires.0.few)) c.requires.1.1.1.1.1 finds.acts
 
 pub recount-count-requires : goal.recount-count-requires
 recount-count-requires c =
@@ -73,7 +109,9 @@ returns-in-Err-left c =
     let h = goal.at.returns-in-Err-left c in
     let j = h.Joined-v-eq1-2 in
     let r = rw c.in-Task.is at (staged h.Joined-asked (asking j)).stage in
-    rw (numbered j) (stopped _ _ _ (few j) (rw c.in-Err-left.is at (r.on _ _ _ _ _ c.round-left.auto.depths c.round-left.ensures)))
+    let e = rw c.in-Err-left.is at (r.on _ _ _ _ _ c.round-left.auto.depths c.round-left.ensures) in
+    let counts = ending_on (asking j) c.loop-k.invariant.counting _ _ c.count_asked.ensures c.count_asked.auto.tally e (few j) in
+    rw (numbered j) (let o = stopped _ _ _ (few j) e in (o.0, (o.1, counts)))
 
 pub loop-k-preserved-in-Nothing : goal.loop-k-preserved-in-Nothing
 loop-k-preserved-in-Nothing c =
@@ -88,6 +126,7 @@ loop-k-preserved-in-Nothing c =
       four = g.four;
       each = g.each;
       stands = rw (next_number j) (rw c.in-Nothing.is at g.stage);
+      counting = rw (next_number j) (going_on (asking j) c.loop-k.invariant.counting _ _ c.count_asked.ensures c.count_asked.auto.tally (rw c.in-Nothing.is at g.stage));
     }
 
 pub loop-k-preserved-in-Row : goal.loop-k-preserved-in-Row
@@ -103,7 +142,12 @@ loop-k-preserved-in-Row c =
       kept = kept_deep c.loop-k.invariant.kept g.same;
       four = length-set c.match-asked.threads _ _ ∙ g.four;
       each = length-set c.match-asked.frames _ _ ∙ g.each;
-      stands = rw (next_number j) (r.on _ c.idle_notes-idle.ensures (omega arith) c.version_of-v.ensures (λ z. g.same ∙ (c.loop-k.invariant.kept.depths ∙ c.requires.1.1.1.0.whole z)) c.put_row-at.ensures);
+      stands = rw (next_number j) (r.on _ c.idle_notes-idle.ensures (omega arith) c.version_of-v.ensures
+          (λ z. lent_to _ (number j) (few j) (g.same ∙ c.loop-k.invariant.kept.depths) (c.requires.1.1.1.0.whole z)) c.put_row-at.ensures);
+      counting = rw (next_number j) (answering (asking j) c.loop-k.invariant.counting _ _ c.count_asked.ensures c.count_asked.auto.tally r.said _ _ _
+          (row_action (asking j) c.loop-k.invariant.counting _ _ c.count_asked.ensures c.count_asked.auto.tally r.said r.acts)
+          (row_steps (asking j) c.loop-k.invariant.counting _ _ c.count_asked.ensures c.count_asked.auto.tally r.said)
+          (rw c.from-in-Row.ensures (column_so c.in-Row.answer)) c.count_row.auto.tally c.count_row.ensures);
     }
 
 pub loop-k-preserved-in-Ok-Goes : goal.loop-k-preserved-in-Ok-Goes
@@ -112,7 +156,8 @@ loop-k-preserved-in-Ok-Goes c =
     let j = h.Joined-v-eq1-2 in
     let g = staged h.Joined-asked (asking j) in
     let r = rw c.in-Task.is at g.stage in
-    let goes = going _ _ _ _ _ _ _ _ _ _ _ _ _ _ _ _ _ _ _ _ _ _ {c = c.in-Ok-Goes.counts} {p = c.in-Ok-Goes.to} {b = c.in-Ok-Goes.base} {m = c.in-Ok-Goes.depth} c.in-Ok-Goes.is (rw c.in-Ok-Goes.is at c.in-Ok-Goes.field-0-is) (r.on _ _ _ _ _ c.round-left.auto.depths c.round-left.ensures) in
+    let goes = going _ _ _ _ _ _ _ _ _ _ _ _ _ _ _ _ _ _ _ _ _ _ {c = c.in-Ok-Goes.counts} {p = c.in-Ok-Goes.to} {b = c.in-Ok-Goes.base}
+    {m = c.in-Ok-Goes.depth} c.in-Ok-Goes.is (rw c.in-Ok-Goes.is at c.in-Ok-Goes.field-0-is) (r.on _ _ _ _ _ c.round-left.auto.depths c.round-left.ensures) in
     let o = c.round-left.auto in
     let threads = c.match-asked.threads in
     let x = get_or c.in-Some.bytes.now 0 0 in
@@ -126,6 +171,8 @@ loop-k-preserved-in-Ok-Goes c =
       four = length-set (set threads (x / 16 % 4) first) _ _ ∙ (length-set threads (x / 16 % 4) first ∙ g.four);
       each = length-set c.match-asked.frames _ _ ∙ g.each;
       stands = rw (next_number j) (goes.on first (λ fs. ap (λ (v : Notes). to_base v.place c.in-Ok-Goes.base (thread v fs)) kept));
+      counting = rw (next_number j) (going_on (asking j) c.loop-k.invariant.counting _ _ c.count_asked.ensures c.count_asked.auto.tally
+          (goes.on first (λ fs. ap (λ (v : Notes). to_base v.place c.in-Ok-Goes.base (thread v fs)) kept)));
     }
 
 pub loop-k-preserved : goal.loop-k-preserved
@@ -134,7 +181,8 @@ loop-k-preserved c =
     let j = h.Joined-v-eq1-2 in
     let g = staged h.Joined-asked (asking j) in
     let r = rw c.in-Task.is at g.stage in
-    let finds = finding_set _ _ _ _ _ _ _ _ _ _ _ _ _ _ _ _ _ _ _ _ _ _ {c = c.in-Ok-Found.counts} {d = c.in-Ok-Found.set} c.in-Ok-Found.is (rw c.in-Ok-Found.is at c.in-Ok-Found.field-0-is) (r.on _ _ _ _ _ c.round-left.auto.depths c.round-left.ensures) in
+    let finds = finding_set _ _ _ _ _ _ _ _ _ _ _ _ _ _ _ _ _ _ _ _ _ _ {c = c.in-Ok-Found.counts} {d = c.in-Ok-Found.set} c.in-Ok-Found.is
+    (rw c.in-Ok-Found.is at c.in-Ok-Found.field-0-is) (r.on _ _ _ _ _ c.round-left.auto.depths c.round-left.ensures) in
     let o = c.round-left.auto in
     record {
       few = omega (arith, next_number j, few j);
@@ -144,6 +192,10 @@ loop-k-preserved c =
       four = length-set c.match-asked.threads _ _ ∙ g.four;
       each = length-set c.match-asked.frames _ _ ∙ g.each;
       stands = rw (next_number j) (finds.on _ c.idle_notes-idle.ensures (omega arith) c.version_of-v.ensures c.put_found-at.ensures);
+      counting = rw (next_number j) (answering (asking j) c.loop-k.invariant.counting _ _ c.count_asked.ensures c.count_asked.auto.tally finds.said _ _ _
+          (row_action (asking j) c.loop-k.invariant.counting _ _ c.count_asked.ensures c.count_asked.auto.tally finds.said finds.acts)
+          (row_steps (asking j) c.loop-k.invariant.counting _ _ c.count_asked.ensures c.count_asked.auto.tally finds.said)
+          (column_found (not (eqb c.in-Ok-Found.set 0))) c.count_row-in-Ok-Found.auto.tally c.count_row-in-Ok-Found.ensures);
     }
 
 pub returns : goal.returns
@@ -151,4 +203,5 @@ returns c =
     let s = c.args.schedule.now in
     let i = c.loop-k.invariant in
     let all : enumerate_count c.loop-k.k-iterator ≡ c.count_of.result = at_end s c.requires.0 _ i.rest i.few (omega (arith, c.in-None.ensures.steps.0.1.0, i.wide)) ∙ sym c.count_of.ensures in
-    all_done _ _ _ (ap (after _) c.count_of.ensures) (rw all at i.stands)
+    let o = all_done _ _ _ (ap (after _) c.count_of.ensures) (rw all at i.stands) in
+    (o.0, (o.1, all_counted s (all ∙ c.count_of.ensures) i.counting))

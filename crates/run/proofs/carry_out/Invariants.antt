@@ -15,6 +15,7 @@ use Rattle.run.specs.Threads.{threads_of}
 use Rattle.run.specs.Standing.{Stands}
 use Rattle.run.proofs.Threads.{Keeps}
 use Rattle.run.proofs.Turn.{stand}
+use Rattle.run.proofs.Counting.{Counting}
 use Rattle.run.proofs.carry_out.Given as goal
 
 abbrev pub invariant-loop-k : goal.invariant-loop-k
@@ -30,4 +31,5 @@ invariant-loop-k l =
       each : length l.frames ≡ 4;
       stands : Stands (table l.nodes) l.depths (stores l.results) (stop (stop_of l.schedule) l.count)
           (threads_of l.threads l.frames (held l.lent)) (stand l.root l.used l.shown (Ok tt) k l.finished l.at) l.initial.rows l.rows (after l.schedule k);
+      counting : Counting l.schedule k l.initial.tally l.tally l.own;
     }

@@ -15,4 +15,5 @@ find-requires-clause-callable c = serves_from_Range (λ x q k. search rules) (λ
 pub returns : goal.returns
 returns c =
     first_of c.args.s.now c.find.result c.count_of.ensures
-    (first_from_Range _ _ _ _ (λ k. barred (record_at c.args.s.now k) ≡ true) (λ k. barred (record_at c.args.s.now k) ≡ false) c.find.ensures.ran (λ x q k. search (rules, tests)) (λ x q k. search (rules, tests)))
+    (first_from_Range _ _ _ _ (λ k. barred (record_at c.args.s.now k) ≡ true) (λ k. barred (record_at c.args.s.now k) ≡ false) c.find.ensures.ran
+    (λ x q k. search (rules, tests)) (λ x q k. search (rules, tests)))

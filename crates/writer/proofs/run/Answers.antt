@@ -38,6 +38,8 @@ returns c =
           let k = w.in_default.ensures in
           (c.run.ensures.0 ∙ whole_report file off k (length rows) (omega arith), c.run.ensures.1 ∙ whole_buffer file off k rows (omega arith))
       | else-is_ok w ↦
-          let bad = failed_code _ (sym c.is_ok.ensures.value ∙ w.if-is_ok.false) in
-          (c.run.ensures.0 ∙ refused_report_lem file off (length rows) (λ z. bad (c.check.ensures.refusal ∙ z)), c.run.ensures.1 ∙ refused_buffer file off rows (λ z. bad (c.check.ensures.refusal ∙ z)))
+          let bad = failed_code _ (sym c.is_ok.ensures.value ∙ w.if-is_ok.false) in (
+            c.run.ensures.0 ∙ refused_report_lem file off (length rows) (λ z. bad (c.check.ensures.refusal ∙ z)),
+            c.run.ensures.1 ∙ refused_buffer file off rows (λ z. bad (c.check.ensures.refusal ∙ z)),
+          )
     ]

@@ -15,12 +15,15 @@ pub sum-requires : goal.sum-requires
 sum-requires c = record {
   can = search of_calls;
   finite = search of_calls;
-  fits = fits_by_from_yields_list start_of c.args.self.now.records.now c.map.result _ (YieldsList-from_map _ start_of (YieldsList-from_slice c.args.self.now.records.now (cc)) c.map.ensures.closure (λ x r q k. search (rules, tests))) (omega (arith, starts_are c.args.self.now.told, starts_few c.args.self.now.schedule.now (length c.args.self.now.records.now), told_room _ _ _ c.args.self.now.told));
+  fits = fits_by_from_yields_list start_of c.args.self.now.records.now c.map.result _
+      (YieldsList-from_map _ start_of (YieldsList-from_slice c.args.self.now.records.now (cc)) c.map.ensures.closure (λ x r q k. search (rules, tests)))
+      (omega (arith, starts_are c.args.self.now.told, starts_few c.args.self.now.schedule.now (length c.args.self.now.records.now), told_room _ _ _ c.args.self.now.told));
 }
 
 pub returns : goal.returns
 returns c =
     let e : c.sum.result ≡ starts_to c.args.self.now.schedule.now (length c.args.self.now.records.now) =
-    sum_by_from_yields_List start_of c.args.self.now.records.now c.map.result c.sum.result c.sum.ensures.ran (YieldsList-from_map _ start_of (YieldsList-from_slice c.args.self.now.records.now (cc)) c.map.ensures.closure (λ x r q k. search (rules, tests)))
+    sum_by_from_yields_List start_of c.args.self.now.records.now c.map.result c.sum.result c.sum.ensures.ran
+    (YieldsList-from_map _ start_of (YieldsList-from_slice c.args.self.now.records.now (cc)) c.map.ensures.closure (λ x r q k. search (rules, tests)))
     ∙ starts_are c.args.self.now.told in
     (e, omega (arith, e, starts_few c.args.self.now.schedule.now (length c.args.self.now.records.now)))

@@ -4,7 +4,9 @@ use native.Mathlib.Omega.{arith}
 use borrow.Author.Rules.{rules}
 use Rattle.history.proofs.Loop.{holds_none, at_start, at_past, at_other, at_ahead, at_low, at_end, page_all}
 use Rattle.history.proofs.Ran.put_events.Goals as goal
-use Rattle.history.proofs.Ran.put_events.Goals.{then-action-ne0, else-action-ne0+then-m-self+then-self-m+then-not-step_ahead, else-action-ne0+else-m-self, else-m-self-via-else-m-self, else-m-self-via-then-m-self+else-self-m, else-m-self-via-then-m-self+then-self-m+else-not-step_ahead}
+use Rattle.history.proofs.Ran.put_events.Goals.{then-action-ne0, else-action-ne0+then-m-self+then-self-m+then-not-step_ahead}
+use Rattle.history.proofs.Ran.put_events.Goals.{else-action-ne0+else-m-self, else-m-self-via-else-m-self, else-m-self-via-then-m-self+else-self-m}
+use Rattle.history.proofs.Ran.put_events.Goals.{else-m-self-via-then-m-self+then-self-m+else-not-step_ahead}
 
 pub loop-k-init : goal.loop-k-init
 loop-k-init c = (search rules, holds_none _ _)
@@ -25,7 +27,8 @@ loop-k-preserved c =
       | else-action-ne0+else-m-self w ↦ rw (w.out-is, w.m-is) (
         i.0,
         elim w.else-m-self.branch [
-          | else-m-self-via-then-m-self+then-self-m+else-not-step_ahead v ↦ at_ahead _ _ _ c.args.self.now.told _ c.loop-k-test.true i.1 w.if-action-ne0.false v.step_ahead.ensures v.if-not-step_ahead.false
+          | else-m-self-via-then-m-self+then-self-m+else-not-step_ahead v ↦
+              at_ahead _ _ _ c.args.self.now.told _ c.loop-k-test.true i.1 w.if-action-ne0.false v.step_ahead.ensures v.if-not-step_ahead.false
           | else-m-self-via-then-m-self+else-self-m v ↦ at_other _ _ _ c.args.self.now.told _ c.loop-k-test.true i.1 w.if-action-ne0.false v.if-m-self.true v.if-self-m.false
           | else-m-self-via-else-m-self v ↦ at_past _ _ _ c.args.self.now.told _ c.loop-k-test.true i.1 w.if-action-ne0.false v.if-m-self.false
         ],

@@ -11,5 +11,6 @@ use Rattle.history.proofs.Ran.step_ahead.Goals as goal
 pub returns : goal.returns
 returns c =
     let rs = take (length c.args.self.now.records.now - c.args.first) (drop c.args.first c.args.self.now.records.now) in
-    let h = first_from_find _ _ c.find.result (λ x. get_or x 0 0 / 16 ≡ c.args.t) (λ x. get_or x 0 0 / 16 ≡ c.args.t → ⊥) c.find.ensures.ran (YieldsList-from_slice rs (cc)) (λ x q k. search (rules, tests)) (λ x q k. search (rules, tests)) in
+    let h = first_from_find _ _ c.find.result (λ x. get_or x 0 0 / 16 ≡ c.args.t) (λ x. get_or x 0 0 / 16 ≡ c.args.t → ⊥) c.find.ensures.ran
+    (YieldsList-from_slice rs (cc)) (λ x q k. search (rules, tests)) (λ x q k. search (rules, tests)) in
     ahead_found c.args.self.now.told c.args.t c.requires c.find.result h (search (rules, tests))

@@ -19,7 +19,8 @@ loop-m-preserved-then-is_down c =
     record {
       work = c.loop-m.invariant.work;
       long = length-set c.loop-m.self.next _ _ ∙ c.loop-m.invariant.long;
-      filled = fill_step (held c.loop-m.self.work) c.loop-m.self.next (c.loop-m.m - 1) c.choose.result (omega (arith, c.loop-m.invariant.long)) (λ M h. c.loop-m.invariant.filled M (omega arith)) c.choose.ensures;
+      filled = fill_step (held c.loop-m.self.work) c.loop-m.self.next (c.loop-m.m - 1) c.choose.result (omega (arith, c.loop-m.invariant.long))
+          (λ M h. c.loop-m.invariant.filled M (omega arith)) c.choose.ensures;
     }
 
 pub loop-m-preserved : goal.loop-m-preserved

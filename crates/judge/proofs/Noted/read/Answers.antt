@@ -9,10 +9,15 @@ use Rattle.judge.proofs.Whole.{all_start, all_step, all_stop, out_of_range, read
 use Rattle.judge.proofs.Noted.read.Goals as goal
 
 pub returns-in_err-events-clause-err : goal.returns-in_err-events-clause-err
-returns-in_err-events-clause-err c = passed c.from_residual.result c.in_err-events.field-0.0 c.from_residual.ensures.1 (refusal_form c.args.history.now c.in_err-events.field-0.0 c.in_err-events.ensures.err)
+returns-in_err-events-clause-err c =
+    passed c.from_residual.result c.in_err-events.field-0.0 c.from_residual.ensures.1 (refusal_form c.args.history.now c.in_err-events.field-0.0 c.in_err-events.ensures.err)
 
 pub loop-thread-init : goal.loop-thread-init
-loop-thread-init c = record { few = omega (arith, c.new-noted.ensures.count); places = all_start (events_of c.args.history.now); stands = read_start (events_of c.args.history.now) c.new-noted.result c.new-noted.ensures.stands }
+loop-thread-init c = record {
+  few = omega (arith, c.new-noted.ensures.count);
+  places = all_start (events_of c.args.history.now);
+  stands = read_start (events_of c.args.history.now) c.new-noted.result c.new-noted.ensures.stands;
+}
 
 pub returns-in_err-try_from-clause-err : goal.returns-in_err-try_from-clause-err
 returns-in_err-try_from-clause-err c =
@@ -21,7 +26,8 @@ returns-in_err-try_from-clause-err c =
     let form = c.in_ok-events.ensures.ok in
     let out = subst (λ e. in_range e ≡ false) (event_at h _ _ _ k form.3 (omega (arith, c.loop-thread-test.true, form.2))) c.in_err-try_from.ensures.0 in
     passed c.from_residual-in_err-try_from.result c.in_err-try_from.field-0.0 c.from_residual-in_err-try_from.ensures.1
-    (refusal_place h form.0 (all_stop (events_of h) k _ _ c.loop-thread-test.true form.2 (out_of_range (events_of h k) (reading (events_of h) k) out)) ∙ sym (ap refusal_number c.in_err-try_from.ensures.1))
+    (refusal_place h form.0 (all_stop (events_of h) k _ _ c.loop-thread-test.true form.2 (out_of_range (events_of h k) (reading (events_of h) k) out))
+    ∙ sym (ap refusal_number c.in_err-try_from.ensures.1))
 
 pub returns-in_err-note-clause-err : goal.returns-in_err-note-clause-err
 returns-in_err-note-clause-err c =

@@ -10,7 +10,8 @@ use Rattle.judge.proofs.Whole.{decide_no, decide_yes}
 use Rattle.judge.proofs.Work.order.Goals as goal
 
 pub returns-in-Dead-clause-none : goal.returns-in-Dead-clause-none
-returns-in-Dead-clause-none c = λ _. subst (λ w. (l : List ℕ) → Order (held w) l → ⊥) c.fill.ensures.work (decide_no (held c.fill.new.self.work) c.fill.new.self.next c.fill.ensures.filled c.in-Dead.is)
+returns-in-Dead-clause-none c =
+    λ _. subst (λ w. (l : List ℕ) → Order (held w) l → ⊥) c.fill.ensures.work (decide_no (held c.fill.new.self.work) c.fill.new.self.next c.fill.ensures.filled c.in-Dead.is)
 
 pub trace-requires : goal.trace-requires
 trace-requires c = record { filled = c.fill.ensures.filled; some = decide_yes (held c.fill.new.self.work) c.fill.new.self.next c.fill.ensures.filled c.in_default.not-Dead }

@@ -12,6 +12,7 @@ loop-i-preserved c =
     let w = c.args.self.now in
     let i = c.loop-i.i in
     elim c.if-contains.branch [
-      | then-contains b ↦ rw b.set-is (state_step (held w) c.args.mask i c.loop-i.set c.loop-i.invariant c.contains.ensures b.applied-set.result b.if-contains.true (rw (held_is w.count w.ops i c.loop-i-test.true) b.applied-set.ensures))
+      | then-contains b ↦ rw b.set-is (state_step (held w) c.args.mask i c.loop-i.set c.loop-i.invariant c.contains.ensures b.applied-set.result b.if-contains.true
+          (rw (held_is w.count w.ops i c.loop-i-test.true) b.applied-set.ensures))
       | else-contains b ↦ rw b.set-is (state_skip (held w) c.args.mask i c.loop-i.set c.loop-i.invariant c.contains.ensures b.if-contains.false)
     ]

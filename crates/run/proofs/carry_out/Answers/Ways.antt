@@ -30,7 +30,11 @@ use Rattle.run.proofs.Chosen.{finding_one, finding_two, chosen_find, chosen_thre
 use Rattle.run.proofs.Turn.{Asking, seen, awake, start_on, refused_on}
 use Rattle.run.proofs.Staged.{Staged, restaged, round_refused, round_step, round_start}
 use Rattle.run.proofs.Settled.{settled}
-use Rattle.run.proofs.carry_out.Goals.{Joined-v-eq1-2, Joined-asked, then-v-eq1-2, else-v-eq1-2, then-on, else-on, then-on-2, else-on-2, in-Ok+in-Step+in-1, in-Ok+in-Step+in-2, in-Ok+in-Step+in-3, in-Ok+in-Step+in-4-to-9, in-Ok+in-Step+in-10-to-13, in-Ok+in-Step+in-14-to-18, in-Ok+in-Step+in-19-to-25, in-Ok+in-Step+in-26-to-29, in-Ok+in-Step+in-30-to-39, in-Ok+in-Step+in-40, in-Ok+in-Step+in-41-to-44, in-Ok+in-Step+in-45-to-59, in-Ok+in-Step+in_default, in-Ok+in-Step+in_default-2, in-Ok+in-Start+in-Query, in-Ok+in-Start+in_default-action, in-Err}
+use Rattle.run.proofs.carry_out.Goals.{Joined-v-eq1-2, Joined-asked, then-v-eq1-2, else-v-eq1-2, then-on, else-on, then-on-2, else-on-2}
+use Rattle.run.proofs.carry_out.Goals.{in-Ok+in-Step+in-1, in-Ok+in-Step+in-2, in-Ok+in-Step+in-3, in-Ok+in-Step+in-4-to-9, in-Ok+in-Step+in-10-to-13}
+use Rattle.run.proofs.carry_out.Goals.{in-Ok+in-Step+in-14-to-18, in-Ok+in-Step+in-19-to-25, in-Ok+in-Step+in-26-to-29, in-Ok+in-Step+in-30-to-39}
+use Rattle.run.proofs.carry_out.Goals.{in-Ok+in-Step+in-40, in-Ok+in-Step+in-41-to-44, in-Ok+in-Step+in-45-to-59, in-Ok+in-Step+in_default}
+use Rattle.run.proofs.carry_out.Goals.{in-Ok+in-Step+in_default-2, in-Ok+in-Start+in-Query, in-Ok+in-Start+in_default-action, in-Err}
 
 -- what the code would read past the thread table's end
 abbrev pub past : Notes
@@ -81,13 +85,15 @@ pub few : (c : Joined-v-eq1-2) → number c < count_of c.args.schedule.now
 few c = before_end c.args.schedule.now c.requires.0 (number c) c.loop-k.invariant.rest _ _ (cut c) (wide c)
 
 -- what it has, and what it asks
-pub read : (c : Joined-v-eq1-2) → Read c.args.schedule.now (number c) (get_or c.in-Some.bytes.now 0 0) (get_or c.in-Some.bytes.now 1 0) c.if-v-eq1-2.extra c.if-v-eq1-2.asked (seen c.loop-k.threads (get_or c.in-Some.bytes.now 0 0) past).place
+pub read : (c : Joined-v-eq1-2) → Read c.args.schedule.now (number c) (get_or c.in-Some.bytes.now 0 0) (get_or c.in-Some.bytes.now 1 0) c.if-v-eq1-2.extra c.if-v-eq1-2.asked
+    (seen c.loop-k.threads (get_or c.in-Some.bytes.now 0 0) past).place
 read c =
     let s = c.args.schedule.now in
     let i = c.loop-k.invariant in
     elim c.if-v-eq1-2.branch [
       | then-v-eq1-2 w ↦ read_plain s c.requires.0 (number c) i.rest _ _ (cut c) (wide c) _ c.version_of-v.ensures _ w.if-v-eq1-2.true w.extra-is (w.asked-is ∙ w.ask-asked.ensures)
-      | else-v-eq1-2 w ↦ read_wide s c.requires.0 (number c) i.rest _ _ (cut c) (wide c) _ c.version_of-v.ensures _ w.if-v-eq1-2.false w.extra-is w.extra_of-extra.ensures (w.asked-is ∙ w.ask-asked-else-v-eq1-2.ensures)
+      | else-v-eq1-2 w ↦ read_wide s c.requires.0 (number c) i.rest _ _ (cut c)
+          (wide c) _ c.version_of-v.ensures _ w.if-v-eq1-2.false w.extra-is w.extra_of-extra.ensures (w.asked-is ∙ w.ask-asked-else-v-eq1-2.ensures)
     ]
 
 -- what it asks of the run that stands so
@@ -104,7 +110,7 @@ asking c =
 -- the memory for queries, where it is lent
 pub sizes : (c : Joined-v-eq1-2) → (Unasked c.args.schedule.now → ⊥)
     → Sizes 256 16 c.loop-k.results c.loop-k.lent
-sizes c v = kept_sizes c.loop-k.invariant.kept c.args.schedule.now c.requires.1.1.1.1 v
+sizes c v = kept_sizes c.loop-k.invariant.kept c.args.schedule.now c.requires.1.1.1.1.0 v
 
 -- a step is asked, or a start
 pub is_asked : {a : Result Asked Refusal} {v w : Asked} → a ≡ Ok v → v ≡ w → a ≡ Ok w
@@ -149,10 +155,12 @@ staged c q =
             | then-on v ↦ place_on (x / 16 % 4) past l.threads _ (omega (arith, q.four)) v.threads-is ∙ p
             | else-on v ↦ rw v.threads-is p
           ] in
-          let i : Decides (seen w.if-on.threads x past) w.reach-d.result (finding (seen w.if-on.threads x past).place (eqb c.version_of-v.result 3) (table l.nodes) l.root) = finding_one _ _ _ r w.reach-d.ensures in
+          let i : Decides (seen w.if-on.threads x past) w.reach-d.result (finding (seen w.if-on.threads x past).place (eqb c.version_of-v.result 3) (table l.nodes) l.root) =
+          finding_one _ _ _ r w.reach-d.ensures in
           let b : Begins c w.if-on.threads w.reach-d.result =
           elim w.if-on.branch [
-            | then-on v ↦ rw (← c.version_of-v.ensures) (begun_on _ _ _ _ _ _ _ _ _ _ (awake q z) (omega (arith, p)) i (eq-eqb _ _ v.if-on.true) (omega (arith, q.four)) v.read_after.ensures v.threads-is)
+            | then-on v ↦ rw (← c.version_of-v.ensures)
+                (begun_on _ _ _ _ _ _ _ _ _ _ (awake q z) (omega (arith, p)) i (eq-eqb _ _ v.if-on.true) (omega (arith, q.four)) v.read_after.ensures v.threads-is)
             | else-on v ↦ rw (← c.version_of-v.ensures) (begun_off _ _ _ _ _ _ _ _ _ _ (awake q z) (omega (arith, p)) i (ne_eqb _ _ v.if-on.false) v.threads-is)
           ] in
           restaged (ap table w.nodes-is) w.depths-is w.threads-is w.frames-is w.count-is w.root-is w.used-is w.job-is
@@ -165,10 +173,12 @@ staged c q =
             | then-on-2 v ↦ place_on (x / 16 % 4) past l.threads _ (omega (arith, q.four)) v.threads-is ∙ p
             | else-on-2 v ↦ rw v.threads-is p
           ] in
-          let i : Decides (seen w.if-on-2.threads x past) w.descend-d.result (finding (seen w.if-on-2.threads x past).place (eqb c.version_of-v.result 3) (table l.nodes) l.root) = finding_two _ _ _ r w.descend-d.ensures in
+          let i : Decides (seen w.if-on-2.threads x past) w.descend-d.result (finding (seen w.if-on-2.threads x past).place (eqb c.version_of-v.result 3) (table l.nodes) l.root) =
+          finding_two _ _ _ r w.descend-d.ensures in
           let b : Begins c w.if-on-2.threads w.descend-d.result =
           elim w.if-on-2.branch [
-            | then-on-2 v ↦ rw (← c.version_of-v.ensures) (begun_on _ _ _ _ _ _ _ _ _ _ (awake q z) (omega (arith, p)) i (eq-eqb _ _ v.if-on-2.true) (omega (arith, q.four)) v.read_after-then-on-2.ensures v.threads-is)
+            | then-on-2 v ↦ rw (← c.version_of-v.ensures)
+                (begun_on _ _ _ _ _ _ _ _ _ _ (awake q z) (omega (arith, p)) i (eq-eqb _ _ v.if-on-2.true) (omega (arith, q.four)) v.read_after-then-on-2.ensures v.threads-is)
             | else-on-2 v ↦ rw (← c.version_of-v.ensures) (begun_off _ _ _ _ _ _ _ _ _ _ (awake q z) (omega (arith, p)) i (ne_eqb _ _ v.if-on-2.false) v.threads-is)
           ] in
           restaged (ap table w.nodes-is) w.depths-is w.threads-is w.frames-is w.count-is w.root-is w.used-is w.job-is
@@ -180,11 +190,13 @@ staged c q =
       | in-Ok+in-Step+in-4-to-9 w ↦
           let z = is_asked w.in-Ok.is w.in-Step.is in
           restaged (ap table w.nodes-is) w.depths-is w.threads-is w.frames-is w.count-is w.root-is w.used-is w.job-is
-          (settled q z (omega (arith, w.in-4-to-9)) _ (chosen_count q z (omega (arith, w.in-4-to-9)) (omega (arith, w.in-4-to-9)) w.recount-count.ensures w.count-d.ensures) _ _ _ _ _ w.settle-in-4-to-9.auto.depths w.settle-in-4-to-9.ensures)
+          (settled q z (omega (arith, w.in-4-to-9)) _ (chosen_count q z (omega (arith, w.in-4-to-9)) (omega (arith, w.in-4-to-9)) w.recount-count.ensures w.count-d.ensures) _ _ _ _ _
+          w.settle-in-4-to-9.auto.depths w.settle-in-4-to-9.ensures)
       | in-Ok+in-Step+in-10-to-13 w ↦
           let z = is_asked w.in-Ok.is w.in-Step.is in
           restaged (ap table w.nodes-is) w.depths-is w.threads-is w.frames-is w.count-is w.root-is w.used-is w.job-is
-          (settled q z (omega (arith, w.in-10-to-13)) _ (chosen_ten q (omega (arith, w.in-10-to-13)) on (at_swap own _ _ (omega (arith, w.in-10-to-13)) (omega (arith, w.in-10-to-13)) w.from.ensures w.own-d.ensures)) _ _ _ _ _ w.settle-in-10-to-13.auto.depths w.settle-in-10-to-13.ensures)
+          (settled q z (omega (arith, w.in-10-to-13)) _ (chosen_ten q (omega (arith, w.in-10-to-13)) on
+          (at_swap own _ _ (omega (arith, w.in-10-to-13)) (omega (arith, w.in-10-to-13)) w.from.ensures w.own-d.ensures)) _ _ _ _ _ w.settle-in-10-to-13.auto.depths w.settle-in-10-to-13.ensures)
       | in-Ok+in-Step+in-14-to-18 w ↦
           let z = is_asked w.in-Ok.is w.in-Step.is in
           restaged (ap table w.nodes-is) w.depths-is w.threads-is w.frames-is w.count-is w.root-is w.used-is w.job-is
@@ -196,7 +208,9 @@ staged c q =
       | in-Ok+in-Step+in-26-to-29 w ↦
           let z = is_asked w.in-Ok.is w.in-Step.is in
           restaged (ap table w.nodes-is) w.depths-is w.threads-is w.frames-is w.count-is w.root-is w.used-is w.job-is
-          (settled q z (omega (arith, w.in-26-to-29)) _ (chosen_ten q (omega (arith, w.in-26-to-29)) on (at_swap found _ _ (omega (arith, w.in-26-to-29)) (omega (arith, w.in-26-to-29)) w.from-in-26-to-29.ensures w.found-d.ensures)) _ _ _ _ _ w.settle-in-26-to-29.auto.depths w.settle-in-26-to-29.ensures)
+          (settled q z (omega (arith, w.in-26-to-29)) _
+          (chosen_ten q (omega (arith, w.in-26-to-29)) on (at_swap found _ _ (omega (arith, w.in-26-to-29)) (omega (arith, w.in-26-to-29)) w.from-in-26-to-29.ensures w.found-d.ensures)) _ _ _ _ _
+          w.settle-in-26-to-29.auto.depths w.settle-in-26-to-29.ensures)
       | in-Ok+in-Step+in-30-to-39 w ↦
           let z = is_asked w.in-Ok.is w.in-Step.is in
           restaged (ap table w.nodes-is) w.depths-is w.threads-is w.frames-is w.count-is w.root-is w.used-is w.job-is
@@ -208,7 +222,8 @@ staged c q =
       | in-Ok+in-Step+in-41-to-44 w ↦
           let z = is_asked w.in-Ok.is w.in-Step.is in
           restaged (ap table w.nodes-is) w.depths-is w.threads-is w.frames-is w.count-is w.root-is w.used-is w.job-is
-          (settled q z (omega (arith, w.in-41-to-44)) _ (chosen_ten q (omega (arith, w.in-41-to-44)) on (at_swap united _ _ (omega (arith, w.in-41-to-44)) (omega (arith, w.in-41-to-44)) w.from-in-41-to-44.ensures w.united-d.ensures)) _ _ _ _ _ w.settle-in-41-to-44.auto.depths w.settle-in-41-to-44.ensures)
+          (settled q z (omega (arith, w.in-41-to-44)) _ (chosen_ten q (omega (arith, w.in-41-to-44)) on (at_swap united _ _ (omega (arith, w.in-41-to-44))
+          (omega (arith, w.in-41-to-44)) w.from-in-41-to-44.ensures w.united-d.ensures)) _ _ _ _ _ w.settle-in-41-to-44.auto.depths w.settle-in-41-to-44.ensures)
       | in-Ok+in-Step+in-45-to-59 w ↦
           let z = is_asked w.in-Ok.is w.in-Step.is in
           restaged (ap table w.nodes-is) w.depths-is w.threads-is w.frames-is w.count-is w.root-is w.used-is w.job-is

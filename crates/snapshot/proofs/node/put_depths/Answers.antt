@@ -22,7 +22,8 @@ loop-s-preserved-then-low-lt64 c = (
   omega (arith, c.if-low-lt64.true),
   (
     search rules,
-    depths_there _ _ _ _ _ c.if-version-eq1.false refl (next_there _ _ c.loop-s-test.true c.upper-rest.ensures c.lowest-low.ensures c.if-low-lt64.true) (c.from-then-low-lt64.ensures ∙ c.depth_at-d.ensures)
+    depths_there _ _ _ _ _ c.if-version-eq1.false refl (next_there _ _ c.loop-s-test.true c.upper-rest.ensures c.lowest-low.ensures c.if-low-lt64.true)
+        (c.from-then-low-lt64.ensures ∙ c.depth_at-d.ensures)
         (depths_next _ _ _ _ _ c.if-version-eq1.false c.loop-s-test.true c.upper-rest.ensures c.lowest-low.ensures c.from.ensures c.loop-s.invariant.1.1 c.put_zeros-in-loop-s.ensures.1)
         c.put_number.ensures.1,
   ),

@@ -8,4 +8,5 @@ use Rattle.state.proofs.bench.Bench.put_nodes.Goals as goal
 pub loop-x-preserved : goal.loop-x-preserved
 loop-x-preserved c =
     let g = c.args in
-    said _ (each_more _ _ (node_at g.self.now.version (table g.self.now.nodes.now) (rows g.self.now.depths.now) c.loop-x.x c.result_at-range.ensures)) (next _ _ _ c.loop-x.invariant c.put_node.ensures)
+    said _ (each_more _ _ (node_at g.self.now.version (table g.self.now.nodes.now) (rows g.self.now.depths.now) c.loop-x.x c.result_at-range.ensures))
+    (next _ _ _ c.loop-x.invariant c.put_node.ensures)

@@ -25,5 +25,6 @@ returns-else-self-eq1 c =
     let s = b.standing in
     let h = held b.lent.now in
     let t = c.args.t in
-    said _ (thread_deep _ (get_or s.threads t past) h t (get_or s.frames t 0) c.if-self-eq1.false c.new.ensures.thread c.new.ensures.depth ∙ thread_at b.version s.threads s.frames h t (omega arith) c.requires)
+    said _ (thread_deep _ (get_or s.threads t past) h t (get_or s.frames t 0) c.if-self-eq1.false c.new.ensures.thread c.new.ensures.depth
+    ∙ thread_at b.version s.threads s.frames h t (omega arith) c.requires)
     (next _ _ _ c.put_head-else-self-eq1.ensures c.put_frames.ensures)
