@@ -124,6 +124,8 @@ def install(checks):
     package = (packaged / "opt/some/lib/pkgconfig/nuxalder.pc").read_text()
     checks.that("the package file names the prefix alone", "prefix=/opt/some\n" in package, package)
     checks.equal("the proved archive", (prefix / "lib" / archive).read_bytes(), library.own().read_bytes())
+    begins = re.findall(r"\] \.text\.\S+ .* (\d+)$", run("readelf", "-SW", library.OWN)[1], re.M)
+    checks.equal("each function of it begins at 64 bytes", set(begins), {"64"})
     status, _, err = run(ROOT / "tools" / "install", "--prefix", "/dev/null/here")
     checks.that("a prefix that cannot be", status == 1 and "/dev/null/here" in err and "Traceback" not in err, err)
 

@@ -53,7 +53,7 @@ def plan(root, crate):
 def newer_source(root, crate, library):
     """The newest source of the library where it is newer than the library itself, else None."""
     built = library.stat().st_mtime_ns
-    sources = [root / "crates.txt"]
+    sources = [root / "crates.txt", root / "tools" / "archive"]
     for name in plan(root, crate):
         for part in ("src", "specs", "proofs"):
             folder = root / "crates" / name / part

@@ -7,7 +7,7 @@ ghost use Rattle.depths.specs.Rows.{rows};
 ghost use Rattle.definitions.specs.Threads.{begun, idle};
 ghost use Rattle.effects.specs.Writes.{effect_of};
 ghost use Rattle.steps.specs.Decision.{thread};
-ghost use Rattle.machine.specs.Asked.{asked, action_of, action_started, first_place, starting, extra_of};
+ghost use Rattle.machine.specs.Asked.{asked, action_started, first_place, extra_of};
 ghost use Rattle.machine.specs.Noted.{Noted};
 ghost use Rattle.machine.specs.Enacted.{depth_by, Followed, Enacts};
 
@@ -35,34 +35,25 @@ fn check_extra(action: Action, y: u8, d: u16) -> Result<(), Refusal>
     }
 }
 
-// The action of a start that is no query's, by its number; what no start has is a join. A match, since a number has no variant of itself. No TryFrom,
-// since it never fails.
-pub fn action_of(a: u8) -> Action
-    ensures { result ≡ action_of a }
+// The action of a start, by its number; what no start has is a query. A match, since a number has no variant of itself; the compiler counts
+// variants from 0, so that with the query last its number is the action's less one, and no table is needed. No TryFrom, since it never fails.
+#[tactic(auto, unfolding(crate::specs::Asked::action_started))]
+fn action_started(a: u8) -> Action
+    ensures { result ≡ action_started a }
 {
     match a {
         1 => Action::Lookup,
         2 => Action::Insert,
         3 => Action::Remove,
         4 => Action::Split,
-        _ => Action::Join,
-    }
-}
-
-// The action of any start, likewise.
-#[tactic(auto, using(std::proofs::lemmas::Bool::Decides::nat_tests), unfolding(container::specs::Choice::ite, crate::specs::Asked::action_started))]
-fn action_started(a: u8) -> Action
-    ensures { result ≡ action_started a }
-{
-    match a {
-        6 => Action::Query,
-        _ => action_of(a),
+        5 => Action::Join,
+        _ => Action::Query,
     }
 }
 
 // What a record asks of its thread, which is at the given place; it is refused in 01's order. `last` is the last action of its version, which has
 // the last two bytes d, or 0 where it has none. It is a number, since the record's number, which is held against it, need not be an action's.
-#[tactic(auto, using(std::proofs::lemmas::Bool::Decides::nat_tests, crate::proofs::Asks::extra_so), unfolding(container::specs::Choice::ite, crate::specs::Asked::asked, crate::specs::Asked::asked_by))]
+#[tactic(auto, using(std::proofs::lemmas::Bool::Decides::nat_tests), unfolding(container::specs::Choice::ite, crate::specs::Asked::asked, crate::specs::Asked::asked_by))]
 pub fn ask(last: u8, x: u8, y: u8, d: u16, place: Place) -> Result<Asked, Refusal>
     ensures { result ≡ asked last x y d place }
 {
@@ -123,15 +114,6 @@ pub fn start(action: Action, station: u8, extra: u16) -> Notes
         Action::Query => notes_at(action, station, extra, 60),
         _ => notes_at(action, station, extra, 1),
     }
-}
-
-// The same by the action's number, for one who has a record's bytes: of a start at the station y with the last two bytes d. Any number is taken,
-// so it is not an `Action`.
-#[tactic(auto, using(crate::proofs::Asks::starting_so))]
-pub fn begin(a: u8, y: u8, d: u16) -> Notes
-    ensures { thread result [] ≡ starting a y d }
-{
-    start(action_started(a), y, d)
 }
 
 // The notes come to the new place, and have what is noted. A new frame lies apart. In place: a run whose notes are copied here takes 1.05 times as

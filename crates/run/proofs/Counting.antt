@@ -1,6 +1,7 @@
 -- A tally that is lent and the own steps of the four threads while a run goes on (`Counting`): what one record more makes of them, by what it asks of its
 -- thread, and what they come to where the records end; what a file adds, by whether it is refused before its first record. Rests on Turn.antt, by what
--- is known of the record that the loop is at, and on crate passing, by the laws of one record more of `tallied`.
+-- is known of the record that the loop is at, on crate machine, by what its first byte says of what it asks, and on crate passing, by the laws of one
+-- record more of `tallied`.
 use Rattle.std.specs.Prelude.{Result as Outcome, Ok, Err}
 use mathlib.Core.Path.{◌≡◌, refl, sym, ap, ◌∙◌}
 use mathlib.Core.Logic.{◌≢◌}
@@ -10,8 +11,8 @@ use Prim.Native.Nat.{ℕ, zero, suc, ◌+◌, ◌/◌, ◌%◌, ◌≤◌, ◌<�
 use native.Mathlib.Numerals.{add-one}
 use native.Mathlib.Omega.{arith}
 use native.Mathlib.Decide.{ℕ_discrete}
-use borrow.Author.Tests.{eq-eqb, ne_eqb, ltb-false, eqb-true, eqb-false}
-use lib.Dec.{eqb, ltb}
+use borrow.Author.Tests.{eq-eqb, ne_eqb}
+use lib.Dec.{eqb}
 use lib.ListN.{length, get_or, set, length-set}
 use lib.Seq.{get_or-set_same, get_or-set_other}
 use Rattle.container.specs.Choice.{ite, upd}
@@ -30,7 +31,7 @@ use Rattle.definitions.specs.declared.Refusal.{Refusal}
 use Rattle.definitions.specs.declared.Stop.{Stop}
 use Rattle.machine.specs.declared.Asked.{Asked}
 use Rattle.machine.specs.declared.Asked.TheVariants.{Step, Start}
-use Rattle.machine.specs.Asked.{action_started, extra_refusal, unrefused, asked_by, asked}
+use Rattle.machine.proofs.Asks.{asks_step, asks_start}
 use Rattle.passing.proofs.RunRows.{advance_on}
 use Rattle.passing.proofs.Tallied.{tallied, byte_at, thread_at, action_at, steps_at, Opened, Kept, Answered, opened, moved}
 use Rattle.passing.proofs.Tallied.{answered, kept_on, none_counted, none_own, own_most, tallied_most, number_some}
@@ -41,79 +42,20 @@ use Rattle.run.specs.Standing.{Stands}
 use Rattle.run.specs.Tallying.{Room, opened as begins, Told, Closed, Added}
 use Rattle.run.proofs.Turn.{Asking, Said, stand, last_few, started_on, refused_on}
 
--- ---- what a record asks, by its first byte
-abbrev wanted : Bool → Bool → Outcome (Unit {0}) Refusal → Bool → Action → Outcome Asked Refusal
-wanted o s r i c = ite o (Err Refusal.Action) (ite s (Err Refusal.Station) (unrefused r (ite i (Ok (Start c)) (Err Refusal.Busy))))
-
-abbrev stepped : Bool → Bool → Bool → Outcome Asked Refusal
-stepped y d p = ite y (ite d (ite p (Err Refusal.Idle) (Ok Step)) (Err Refusal.UnusedBytes)) (Err Refusal.UnusedBytes)
-
-never_step : (o s : Bool) (r : Outcome (Unit {0}) Refusal) (i : Bool) (c : Action) → wanted o s r i c ≡ Ok Step → ⊥
-unfolding ite
-never_step true s r i c h = cc
-never_step false true r i c h = cc
-never_step false false (Err r) i c h = cc
-never_step false false (Ok _) true c h = cc
-never_step false false (Ok _) false c h = cc
-
-never_start : (y d p : Bool) (c : Action) → stepped y d p ≡ Ok (Start c) → ⊥
-unfolding ite
-never_start true true true c h = cc
-never_start true true false c h = cc
-never_start true false p c h = cc
-never_start false d p c h = cc
-
-start_of : (o s : Bool) (r : Outcome (Unit {0}) Refusal) (i : Bool) (c b : Action) → wanted o s r i c ≡ Ok (Start b) → (o ≡ false) × (b ≡ c)
-unfolding ite
-start_of true s r i c b h = absurd cc
-start_of false true r i c b h = absurd cc
-start_of false false (Err r) i c b h = absurd cc
-start_of false false (Ok _) true c b h = (refl, cc)
-start_of false false (Ok _) false c b h = absurd cc
-
-number_started : (a : ℕ) → a ≢ 0 → a ≤ 6 → action_number (action_started a) ≡ a
-unfolding action_started ite
-number_started zero z h = absurd (z refl)
-number_started (suc zero) z h = refl
-number_started (suc (suc zero)) z h = refl
-number_started (suc (suc (suc zero))) z h = refl
-number_started (suc (suc (suc (suc zero)))) z h = refl
-number_started (suc (suc (suc (suc (suc zero))))) z h = refl
-number_started (suc (suc (suc (suc (suc (suc zero)))))) z h = refl
-number_started (suc (suc (suc (suc (suc (suc (suc a))))))) z h = absurd (omega arith)
-
-wants_step : (l x y d p : ℕ) → asked l x y d p ≡ Ok Step → x % 16 ≡ 0
-unfolding asked asked_by ite
-wants_step l x y d p = by (ltb 3 (x / 16)) (eqb (x % 16) 0) refl
-  where
-    by : (c f : Bool) → eqb (x % 16) 0 ≡ f
-        → ite c (Err Refusal.Thread) (ite f (stepped (eqb y 0) (eqb d 0) (eqb p 0)) (wanted (ltb l (x % 16)) (ltb 63 y) (extra_refusal (x % 16) y d) (eqb p 0) (action_started (x % 16)))) ≡ Ok Step
-        → x % 16 ≡ 0
-    by true f g h = absurd cc
-    by false true g h = eqb-true _ _ g
-    by false false g h = absurd (never_step (ltb l (x % 16)) (ltb 63 y) (extra_refusal (x % 16) y d) (eqb p 0) (action_started (x % 16)) h)
-
-wants_start : (l x y d p : ℕ) (b : Action) → l ≤ 6 → asked l x y d p ≡ Ok (Start b) → x % 16 ≡ action_number b
-unfolding asked asked_by ite
-wants_start l x y d p b few = by (ltb 3 (x / 16)) (eqb (x % 16) 0) refl
-  where
-    by : (c f : Bool) → eqb (x % 16) 0 ≡ f
-        → ite c (Err Refusal.Thread) (ite f (stepped (eqb y 0) (eqb d 0) (eqb p 0)) (wanted (ltb l (x % 16)) (ltb 63 y) (extra_refusal (x % 16) y d) (eqb p 0) (action_started (x % 16))))
-        ≡ Ok (Start b)
-        → x % 16 ≡ action_number b
-    by true f g h = absurd cc
-    by false true g h = absurd (never_start (eqb y 0) (eqb d 0) (eqb p 0) b h)
-    by false false g h =
-        let (o, i) = start_of (ltb l (x % 16)) (ltb 63 y) (extra_refusal (x % 16) y d) (eqb p 0) (action_started (x % 16)) b h in
-        sym (ap action_number i ∙ number_started (x % 16) (eqb-false _ _ g) (omega (arith, few, ltb-false _ _ o)))
-
 -- ---- own steps
-own_set : (own : List ℕ) (f : ℕ → ℕ) (t v : ℕ) → length own ≡ 4 → ((u : ℕ) → u < 4 → get_or own u 0 ≡ f u) → (u : ℕ) → u < 4 → get_or (set own t v) u 0 ≡ upd f t v u
+own_set : (own : List ℕ) (f : ℕ → ℕ) (t v : ℕ) → length own ≡ 4 → ((u : ℕ) → u < 4 → u ≢ t → get_or own u 0 ≡ f u) → (u : ℕ) → u < 4 → get_or (set own t v) u 0 ≡ upd f t v u
 unfolding ite
 own_set own f t v n g u l = elim (ℕ_discrete u t) [
   | yes q ↦ rw (q, eq-eqb t t refl) (get_or-set_same own t v 0 (omega arith))
-  | no q ↦ rw (ne_eqb u t q) (get_or-set_other own t u v 0 q ∙ g u l)
+  | no q ↦ rw (ne_eqb u t q) (get_or-set_other own t u v 0 q ∙ g u l q)
 ]
+
+-- one more of thread t: its record counts
+abbrev own_more : List ℕ → ℕ → List ℕ
+own_more own t = set own t (get_or own t 0 + 1)
+
+four_more : (own : List ℕ) (t : ℕ) → length own ≡ 4 → length (own_more own t) ≡ 4
+four_more own t n = length-set own t (get_or own t 0 + 1) ∙ n
 
 -- ---- a tally that was `first` before the first record, and own steps, after k records
 pub record Counting (file : List ℕ) (k : ℕ) (first tally steps : List ℕ) : Type 0 where
@@ -199,32 +141,34 @@ module _ {file : List ℕ} {k x y e : ℕ} {n : Shapes} {l : List ℕ} {s : Stor
     row_of {m} w = answered file k w.0 m w.1 w.2 now w.3
 
     -- own steps after a step
-    step_own : {first tally own : List ℕ} (c : Counting file k first tally own) (own' : List ℕ) → own' ≡ set own (x / 16 % 4) (get_or own (x / 16 % 4) 0 + 1) → thread_at file k < 4
+    step_own : {first tally own : List ℕ} (c : Counting file k first tally own) (own' : List ℕ) → own' ≡ own_more own (x / 16 % 4) → thread_at file k < 4
         → (ledger file (suc k)).own ≡ upd (ledger file k).own (thread_at file k) (steps_at file k) → (t : ℕ) → t < 4 → get_or own' t 0 ≡ (ledger file (suc k)).own t
     step_own {own = own} c own' d low w t h =
         let next : get_or own (x / 16 % 4) 0 + 1 ≡ steps_at file k = omega (arith, c.own (x / 16 % 4) (omega arith), ap (ledger file k).own (mine low)) in
-        rw (d, w, next, mine low) (own_set own (ledger file k).own (thread_at file k) (steps_at file k) c.four c.own t h)
+        rw (d, w, next, mine low) (own_set own (ledger file k).own (thread_at file k) (steps_at file k) c.four (λ u l _. c.own u l) t h)
 
-    module _ {first tally own : List ℕ} (c : Counting file k first tally own) (tally' own' : List ℕ) (told : Told a (x / 16 % 4) tally own tally' own') (long : length tally' ≡ length tally) where
+    module _ {first tally own : List ℕ} (c : Counting file k first tally own) (tally' own' : List ℕ)
+        (told : Told a (x / 16 % 4) tally (own_more own (x / 16 % 4)) tally' own') (long : length tally' ≡ length tally) where
       pub going : (after file (suc k)).refusal ≡ 0 → (after file (suc k)).finished ≡ (after file k).finished → Counting file (suc k) first tally' own'
       going z f = by a refl told
         where
-          by : (m : Outcome Asked Refusal) → a ≡ m → Told m (x / 16 % 4) tally own tally' own' → Counting file (suc k) first tally' own'
+          by : (m : Outcome Asked Refusal) → a ≡ m → Told m (x / 16 % 4) tally (own_more own (x / 16 % 4)) tally' own' → Counting file (suc k) first tally' own'
           by (Ok Step) i d =
-              let o : Kept file k = moved file k now z f (rw byte (wants_step _ x y e _ (sym q.asks ∙ i))) in
+              let o : Kept file k = moved file k now z f (rw byte (asks_step _ x y e _ (sym q.asks ∙ i))) in
               record {
-                four = rw d.0 (length-set own (x / 16 % 4) _ ∙ c.four);
+                four = rw d.0 (four_more own (x / 16 % 4) c.four);
                 long = long ∙ c.long;
                 own = step_own c own' d.0 o.low o.own;
                 counts = λ w. rw (d.1, o.counts) (c.counts w);
               }
           by (Ok (Start b)) i d =
-              let g : byte_at file k % 16 ≡ action_number b = rw byte (wants_start (last_action file) x y e _ b (last_few file) (sym q.asks ∙ i)) in
+              let g : byte_at file k % 16 ≡ action_number b = rw byte (asks_start (last_action file) x y e _ b (last_few file) (sym q.asks ∙ i)) in
               let o : Opened file k = opened file k now z (λ u. number_some b (sym g ∙ u)) in
               record {
-                four = rw d.0 (length-set own (x / 16 % 4) _ ∙ c.four);
+                four = rw d.0 (length-set (own_more own (x / 16 % 4)) (x / 16 % 4) 0 ∙ four_more own (x / 16 % 4) c.four);
                 long = long ∙ c.long;
-                own = λ t w. rw (d.0, o.own, mine o.low) (own_set own (ledger file k).own (thread_at file k) 0 c.four c.own t w);
+                own = λ t w. rw (d.0, o.own, mine o.low) (own_set (own_more own (thread_at file k)) (ledger file k).own (thread_at file k) 0 (four_more own (thread_at file k) c.four)
+                    (λ u l q. get_or-set_other own (thread_at file k) u _ 0 q ∙ c.own u l) t w);
                 counts = λ w. d.1 (c.long ∙ w) ∙ (ap (λ (u : Tally). sum u (begins (action_number b))) (c.counts w) ∙ (sum_assoc (numbers first) (tallied file k) (begins (action_number b))
                     ∙ ap (sum (numbers first)) (ap (λ (u : ℕ). sum (tallied file k) (begins u)) (sym g) ∙ sym o.counts)));
               }
@@ -236,13 +180,13 @@ module _ {file : List ℕ} {k x y e : ℕ} {n : Shapes} {l : List ℕ} {s : Stor
 
       -- an answer comes of a step
       module _ {m : Answer} (w : Said file k m) where
-        row_asked : (o : Outcome Asked Refusal) → a ≡ o → Told o (x / 16 % 4) tally own tally' own' → (own' ≡ set own (x / 16 % 4) (get_or own (x / 16 % 4) 0 + 1)) × (tally' ≡ tally)
+        row_asked : (o : Outcome Asked Refusal) → a ≡ o → Told o (x / 16 % 4) tally (own_more own (x / 16 % 4)) tally' own' → (own' ≡ own_more own (x / 16 % 4)) × (tally' ≡ tally)
         row_asked (Ok Step) i d = d
         row_asked (Ok (Start b)) i d =
-            absurd (number_some b (sym (wants_start (last_action file) x y e _ b (last_few file) (sym q.asks ∙ i)) ∙ (ap (λ (u : ℕ). u % 16) (sym byte) ∙ (row_of w).step)))
+            absurd (number_some b (sym (asks_start (last_action file) x y e _ b (last_few file) (sym q.asks ∙ i)) ∙ (ap (λ (u : ℕ). u % 16) (sym byte) ∙ (row_of w).step)))
         row_asked (Err v) i d = absurd (refused_so v i (answered_on file k now w))
 
-        row_told : (own' ≡ set own (x / 16 % 4) (get_or own (x / 16 % 4) 0 + 1)) × (tally' ≡ tally)
+        row_told : (own' ≡ own_more own (x / 16 % 4)) × (tally' ≡ tally)
         row_told = row_asked a refl told
 
         row_own : (t : ℕ) → t < 4 → get_or own' t 0 ≡ (ledger file (suc k)).own t
@@ -281,7 +225,7 @@ module _ {file : List ℕ} {k x y e : ℕ} {n : Shapes} {l : List ℕ} {s : Stor
             → Closed b y v tally' tally''
             → Counting file (k + 1) first tally'' own'
         answering b v y ba vs col same closed = rw add-one (record {
-          four = rw row_told.0 (length-set own (x / 16 % 4) _ ∙ c.four);
+          four = rw row_told.0 (four_more own (x / 16 % 4) c.four);
           long = same ∙ (long ∙ c.long);
           own = row_own;
           counts = λ z.
@@ -301,7 +245,7 @@ module _ {file : List ℕ} {k x y e : ℕ} {n : Shapes} {l : List ℕ} {s : Stor
           same : (tally' ≡ tally) → Added file first tally'
           same d w = rw d (c.counts w ∙ ap (sum (numbers first)) (sym (kept_on file k now z (count_of file) (omega arith))))
 
-          by : (m : Outcome Asked Refusal) → a ≡ m → Told m (x / 16 % 4) tally own tally' own' → Added file first tally'
+          by : (m : Outcome Asked Refusal) → a ≡ m → Told m (x / 16 % 4) tally (own_more own (x / 16 % 4)) tally' own' → Added file first tally'
           by (Ok Step) i d = same d.1
           by (Ok (Start b)) i d = absurd (z (rw add-one at (started_on q i)))
           by (Err v) i d = same d.1

@@ -18,9 +18,9 @@ pub record Room (l : List ℕ) (n : ℕ) : Type 0 where
 abbrev pub opened : ℕ → Tally
 opened a = sum (just (place starts a) 1) (just (place unfinished a) 1)
 
--- what a record of thread t asks takes the tally l and the own steps o to l' and o'; one that is refused takes them nowhere
+-- what a record of thread t asks takes the tally l and the own steps o, where it counts already, to l' and o': a start sets its own to 0
 abbrev pub Told : Result Asked Refusal → ℕ → List ℕ → List ℕ → List ℕ → List ℕ → Type 0
-Told (Ok Step) t l o l' o' = (o' ≡ set o t (get_or o t 0 + 1)) × (l' ≡ l)
+Told (Ok Step) t l o l' o' = (o' ≡ o) × (l' ≡ l)
 Told (Ok (Start c)) t l o l' o' = (o' ≡ set o t 0) × (length l ≡ 65 → numbers l' ≡ sum (numbers l) (opened (action_number c)))
 Told (Err r) t l o l' o' = (o' ≡ o) × (l' ≡ l)
 

@@ -181,17 +181,15 @@ fn settle(
     }
 }
 
-// What a record that is not refused leaves of the own steps of its thread's operation, and of a tally that is lent: a start is counted, and is
-// unfinished until its row comes. A tally is lent as the depths are, by a slice that may be empty; its 65 numbers are C's. How much room they have
-// is told here, in `count_row` and to those who carry out a file: each leaves another.
+// What a record leaves of a tally that is lent, and of its thread's own steps, where it counts already. A start sets those to 0; it is counted in
+// the tally, and is unfinished until its row comes. A tally is lent as the depths are, by a slice that may be empty; its 65 numbers are C's. How
+// much room they have is told here, in `count_row` and to those who carry out a file: each leaves another.
 fn count_asked(tally: &mut [u32], own: &mut [u16; 4], t: usize, asked: Result<Asked, Refusal>)
-    requires { (t < 4) × ((length tally.old ≡ 65 → Room tally.old 1) × (get_or own.old t 0 < 4096)) }
+    requires { (t < 4) × (length tally.old ≡ 65 → Room tally.old 1) }
     ensures { Told asked t tally.old own.old tally.new own.new }
 {
     match asked {
-        Ok(Asked::Step) => {
-            own[t] = own[t] + 1;
-        }
+        Ok(Asked::Step) => {}
         Ok(Asked::Start(action)) => {
             own[t] = 0;
             if let Some(cells) = tally.as_mut_array::<65>() {
@@ -224,9 +222,10 @@ fn count_row(tally: &mut [u32], action: Action, yes: bool, n: u16)
 // that it pays nothing for what the others have more (a long run takes no more than at the start: docs/DESIGN-PASS.md, "Speed"). `frames` has how
 // many frames each thread has; the arrays that hold them may hold anything at first. A file that asks for no query has no frame and no result of a
 // store, and may be lent no memory for them. A tally that is lent gets what the records add, counted as they come: `own` has the own steps of each
-// thread's operation, of 16 bits, since an array of wider numbers takes a run of version 1 two to eight hundredths longer. That the file is proper
-// is told to the few that carry it out: a struct around C's slice would say the same, and each would open it. Which part decides a step below 60 is
-// a match on ranges of places, 01's and 02's 4, 5 and 19: twelve parts with a function each, so that a function handed in for each would be no
+// thread's operation, of 16 bits, since an array of wider numbers takes a run of version 1 two to eight hundredths longer; every record counts in
+// one place, before it is asked. An idle thread's notes are asked for where they are put: they are constants there. That the file is proper is
+// told to the few that carry it out: a struct around C's slice would say the same, and each would open it. Which part decides a step below 60 is a
+// match on ranges of places, 01's and 02's 4, 5 and 19: twelve parts with a function each, so that a function handed in for each would be no
 // plainer. What each decides is settled at once: with one `settle` after the match a decision lies in memory, and 4,096 records of version 1 take
 // 1.04 times as long, 256 records 1.15 times (docs/DESIGN-PASS.md, "Speed").
 pub fn carry_out(
@@ -245,8 +244,7 @@ pub fn carry_out(
         × (Handed schedule.now (ended schedule.now).bench result lent.new × Added schedule.now tally.old tally.new) }
 {
     let v = schedule::version_of(schedule);
-    let idle = machine::idle_notes();
-    let mut threads = [idle; 4];
+    let mut threads = [machine::idle_notes(); 4];
     let mut frames = [0usize; 4];
     let mut own = [0u16; 4];
     let mut count = 0usize;
@@ -262,6 +260,7 @@ pub fn carry_out(
         let y = bytes[1];
         let t = (x / 16 % 4) as usize;
         let place = threads[t].place;
+        own[t] = own[t] + 1;
         let mut extra = 0u16;
         let asked = if v == 1 {
             machine::ask(5, x, y, 0, place)
@@ -358,7 +357,7 @@ pub fn carry_out(
                 count_row(tally, threads[t].action, u8::from(answer) == 1, own[t]);
                 at = put_row(rows, at, v, t as u8, threads[t], answer, depths);
                 finished += 1;
-                threads[t] = idle;
+                threads[t] = machine::idle_notes();
                 frames[t] = 0;
             }
             Job::Task(task) => {
@@ -396,7 +395,7 @@ pub fn carry_out(
                         count_row(tally, threads[t].action, set != 0, own[t]);
                         at = query::put_found(rows, at, v, t as u8, threads[t], set);
                         finished += 1;
-                        threads[t] = idle;
+                        threads[t] = machine::idle_notes();
                         frames[t] = 0;
                     }
                     Err(refusal) => {

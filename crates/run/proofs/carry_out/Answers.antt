@@ -48,21 +48,20 @@ loop-k-init c =
       kept = all_kept;
       four = refl;
       each = refl;
-      stands = rw none (none_yet _ _ (held c.args.lent.now) c.requires.1.0 c.requires.1.1.0 (λ _. c.requires.1.1.1.0.blank) c.idle_notes-idle.ensures);
+      stands = rw none (none_yet _ _ (held c.args.lent.now) c.requires.1.0 c.requires.1.1.0 (λ _. c.requires.1.1.1.0.blank) c.idle_notes-threads.ensures);
       counting = rw none (none_counting s c.args.tally.now);
     }
+
+pub overflow_add-own : goal.overflow_add-own
+overflow_add-own c =
+    let i = c.loop-k.invariant in
+    let t = get_or c.in-Some.bytes.now 0 0 / 16 % 4 in
+    omega (arith, i.counting.own t (omega arith), own_most c.args.schedule.now (enumerate_count c.loop-k.k-iterator) t, i.few, c.requires.0.few)
 
 pub count_asked-requires : goal.count_asked-requires
 count_asked-requires c =
     let j = (goal.at.count_asked-requires c).Joined-v-eq1-2 in
-    let i = c.loop-k.invariant.counting in
-    let t = get_or c.in-Some.bytes.now 0 0 / 16 % 4 in (
-      omega arith,
-      (
-        λ w. one_more (most i (omega (arith, few j, c.requires.0.few)) w c.requires.1.1.1.1.1),
-        omega (arith, i.own t (omega arith), own_most c.args.schedule.now (number j) t, few j, c.requires.0.few),
-      ),
-    )
+    (omega arith, λ w. one_more (most c.loop-k.invariant.counting (omega (arith, few j, c.requires.0.few)) w c.requires.1.1.1.1.1))
 
 pub count_row-requires : goal.count_row-requires
 count_row-requires c =
@@ -142,7 +141,7 @@ loop-k-preserved-in-Row c =
       kept = kept_deep c.loop-k.invariant.kept g.same;
       four = length-set c.match-asked.threads _ _ ∙ g.four;
       each = length-set c.match-asked.frames _ _ ∙ g.each;
-      stands = rw (next_number j) (r.on _ c.idle_notes-idle.ensures (omega arith) c.version_of-v.ensures
+      stands = rw (next_number j) (r.on _ c.idle_notes.ensures (omega arith) c.version_of-v.ensures
           (λ z. lent_to _ (number j) (few j) (g.same ∙ c.loop-k.invariant.kept.depths) (c.requires.1.1.1.0.whole z)) c.put_row-at.ensures);
       counting = rw (next_number j) (answering (asking j) c.loop-k.invariant.counting _ _ c.count_asked.ensures c.count_asked.auto.tally r.said _ _ _
           (row_action (asking j) c.loop-k.invariant.counting _ _ c.count_asked.ensures c.count_asked.auto.tally r.said r.acts)
@@ -191,7 +190,7 @@ loop-k-preserved c =
       kept = kept_on c.loop-k.invariant.kept (record { depths = o.depths ∙ g.same; results = o.results; frames = o.lent });
       four = length-set c.match-asked.threads _ _ ∙ g.four;
       each = length-set c.match-asked.frames _ _ ∙ g.each;
-      stands = rw (next_number j) (finds.on _ c.idle_notes-idle.ensures (omega arith) c.version_of-v.ensures c.put_found-at.ensures);
+      stands = rw (next_number j) (finds.on _ c.idle_notes-in-Ok-Found.ensures (omega arith) c.version_of-v.ensures c.put_found-at.ensures);
       counting = rw (next_number j) (answering (asking j) c.loop-k.invariant.counting _ _ c.count_asked.ensures c.count_asked.auto.tally finds.said _ _ _
           (row_action (asking j) c.loop-k.invariant.counting _ _ c.count_asked.ensures c.count_asked.auto.tally finds.said finds.acts)
           (row_steps (asking j) c.loop-k.invariant.counting _ _ c.count_asked.ensures c.count_asked.auto.tally finds.said)

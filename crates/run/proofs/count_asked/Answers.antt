@@ -10,7 +10,7 @@ pub overflow_add-cells-in-Some-2 : goal.overflow_add-cells-in-Some-2
 overflow_add-cells-in-Some-2 c =
     let low : c.from-a.result < 8 = omega (arith, c.from-a.ensures, c.from.ensures, number_small c.in-Ok-Start.action) in
     let long = c.in-Some.ensures.cases.long in
-    rw c.in-Some.ensures.cases.same (omega (arith, start_room c.args.tally.now c.from-a.result low long (c.requires.1.0 long)))
+    rw c.in-Some.ensures.cases.same (omega (arith, start_room c.args.tally.now c.from-a.result low long (c.requires.1 long)))
 
 pub returns-in-Some : goal.returns-in-Some
 returns-in-Some c =
