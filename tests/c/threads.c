@@ -10,6 +10,7 @@
 
 enum { THREADS = 8, FILES_MOST = 256, STACK = 1 << 18, PAINT = 0xC7, NEAR = 512, FUNCTIONS = 8 };
 enum { EVENT = 4, EVENTS = 2 * NUXALDER_JUDGE_ORDER };
+enum { DEEP = 2 }; /* files made here: a deep tree in version 1, and in version 2, which is lent depths */
 
 struct answer {
     uint64_t run[NUXALDER_RUN_FIELDS], one_writer[NUXALDER_RUN_FIELDS], list[NUXALDER_LIST_FIELDS], merge[NUXALDER_MERGE_FIELDS];
@@ -128,15 +129,22 @@ static void *work(void *given)
     return NULL;
 }
 
+static size_t record_size(const struct file *file)
+{
+    return file->bytes[0] == NUXALDER_FILE_VERSION ? NUXALDER_RECORD_SIZE : NUXALDER_DEEP_RECORD_SIZE;
+}
+
 static void append(struct file *file, int action, int station)
 {
-    size_t records = (file->length - NUXALDER_HEADER_SIZE) / NUXALDER_RECORD_SIZE + 1;
+    size_t records = (file->length - NUXALDER_HEADER_SIZE) / record_size(file) + 1;
 
     if (records > NUXALDER_RECORDS_MOST) return;
     file->bytes[1] = (uint8_t)(records >> 8);
     file->bytes[2] = (uint8_t)records;
-    file->bytes[file->length++] = NUXALDER_FIRST_BYTE(0, action);
-    file->bytes[file->length++] = (uint8_t)station;
+    memset(file->bytes + file->length, 0, record_size(file));
+    file->bytes[file->length] = NUXALDER_FIRST_BYTE(0, action);
+    file->bytes[file->length + 1] = (uint8_t)station;
+    file->length += record_size(file);
 }
 
 /* An operation of thread 0 with the steps that it takes. */
@@ -151,15 +159,15 @@ static void operation(struct file *file, int action, int station)
         append(file, NUXALDER_STEP, 0);
         call_run(file, &file->alone);
     } while (file->alone.run[NUXALDER_RUN_ROWS] == rows &&
-             file->length < NUXALDER_HEADER_SIZE + NUXALDER_RECORD_SIZE * NUXALDER_RECORDS_MOST);
+             file->length < NUXALDER_HEADER_SIZE + record_size(file) * NUXALDER_RECORDS_MOST);
 }
 
 /* The tree as deep as a schedule's records allow: stations from above, each split off the lowest leaf. */
-static void make_deep(struct file *file)
+static void make_deep(struct file *file, int version)
 {
     int station;
 
-    file->bytes[0] = NUXALDER_FILE_VERSION;
+    file->bytes[0] = (uint8_t)version;
     file->bytes[1] = file->bytes[2] = 0;
     file->length = NUXALDER_HEADER_SIZE;
     operation(file, NUXALDER_INSERT, NUXALDER_STATIONS - 1);
@@ -224,16 +232,25 @@ static void make_history(struct file *file, int changed)
     }
 }
 
+/* The most routes on the way to a base, of a listing. */
+static int depth_of(const uint8_t *line)
+{
+    int deepest = 0;
+
+    for (; *line != 's'; line = (const uint8_t *)strchr((const char *)line, '\n') + 1)
+        if (atoi((const char *)line) > deepest) deepest = atoi((const char *)line);
+    return deepest;
+}
+
 int main(int argc, char **argv)
 {
     static struct thread threads[THREADS];
     pthread_t ids[THREADS];
     size_t i, k, merged = 0, written = 0, accepted = 0, barred = 0, averaged = 0, halfway = 0, most[FUNCTIONS] = {0};
     unsigned long wrong = 0;
-    const uint8_t *line;
-    int deepest = 0;
+    int deepest = NUXALDER_STATIONS;
 
-    make_deep(&files[count++]);
+    for (; count < DEEP; count++) make_deep(&files[count], (int)count + NUXALDER_FILE_VERSION);
     for (i = 1; i < (size_t)argc && count < FILES_MOST; i++, count++) {
         FILE *stream = fopen(argv[i], "rb");
         if (stream == NULL) return 2;
@@ -251,8 +268,8 @@ int main(int argc, char **argv)
         averaged += files[i].alone.average[NUXALDER_AVERAGE_STEPS] > 0;
         halfway += files[i].alone.stated[0][NUXALDER_STATE_RECORDS] < files[i].alone.stated[1][NUXALDER_STATE_RECORDS];
     }
-    for (line = files[0].alone.text; *line != 's'; line = (const uint8_t *)strchr((const char *)line, '\n') + 1)
-        if (atoi((const char *)line) > deepest) deepest = atoi((const char *)line);
+    for (i = 0; i < DEEP; i++)
+        if (depth_of(files[i].alone.text) < deepest) deepest = depth_of(files[i].alone.text);
     for (i = 0; i < THREADS; i++) {
         pthread_attr_t attributes;
         threads[i].stack = aligned_alloc(4096, STACK);

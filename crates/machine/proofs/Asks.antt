@@ -232,38 +232,38 @@ opens l y d p false false false true i e f g j h = cc
 opens l y d p false false false false false e f g j h = cc
 opens l y d p false false false false true e f g j h = record { action = refl; last = ltb-false _ _ e; lower = ltb-false _ _ g; upper = ltb-false _ _ f; free = eqb-true p 0 j }
 
-query_by : (l a y d p : ℕ) → l ≤ 6 → asked_by l a y d p ≡ Ok (Start Query) → Asking l a y d p
+query_by : (l a y d p : ℕ) → asked_by l a y d p ≡ Ok (Start Query) → Asking l a y d p
 unfolding asked_by action_started ite
-query_by l zero y d p few h = absurd (no_start (eqb y 0) (eqb d 0) (eqb p 0) Query h)
-query_by l (suc zero) y d p few h = let e : Start Query ≡ Start Lookup = only_start (ltb l 1) (ltb 63 y) (unused (eqb d 0)) (eqb p 0) Lookup h in cc
-query_by l (suc (suc zero)) y d p few h = let e : Start Query ≡ Start Insert = only_start (ltb l 2) (ltb 63 y) (deep (ltb 9999 d)) (eqb p 0) Insert h in cc
-query_by l (suc (suc (suc zero))) y d p few h = let e : Start Query ≡ Start Remove = only_start (ltb l 3) (ltb 63 y) (unused (eqb d 0)) (eqb p 0) Remove h in cc
-query_by l (suc (suc (suc (suc zero)))) y d p few h = let e : Start Query ≡ Start Split = only_start (ltb l 4) (ltb 63 y) (unused (eqb d 0)) (eqb p 0) Split h in cc
-query_by l (suc (suc (suc (suc (suc zero))))) y d p few h = let e : Start Query ≡ Start Join = only_start (ltb l 5) (ltb 63 y) (unused (eqb d 0)) (eqb p 0) Join h in cc
-query_by l (suc (suc (suc (suc (suc (suc zero)))))) y d p few h = opens l y d p (ltb l 6) (ltb 63 y) (ltb 63 d) (ltb d y) (eqb p 0) refl refl refl refl h
-query_by l (suc (suc (suc (suc (suc (suc (suc a))))))) y d p few h =
+query_by l zero y d p h = absurd (no_start (eqb y 0) (eqb d 0) (eqb p 0) Query h)
+query_by l (suc zero) y d p h = let e : Start Query ≡ Start Lookup = only_start (ltb l 1) (ltb 63 y) (unused (eqb d 0)) (eqb p 0) Lookup h in cc
+query_by l (suc (suc zero)) y d p h = let e : Start Query ≡ Start Insert = only_start (ltb l 2) (ltb 63 y) (deep (ltb 9999 d)) (eqb p 0) Insert h in cc
+query_by l (suc (suc (suc zero))) y d p h = let e : Start Query ≡ Start Remove = only_start (ltb l 3) (ltb 63 y) (unused (eqb d 0)) (eqb p 0) Remove h in cc
+query_by l (suc (suc (suc (suc zero)))) y d p h = let e : Start Query ≡ Start Split = only_start (ltb l 4) (ltb 63 y) (unused (eqb d 0)) (eqb p 0) Split h in cc
+query_by l (suc (suc (suc (suc (suc zero))))) y d p h = let e : Start Query ≡ Start Join = only_start (ltb l 5) (ltb 63 y) (unused (eqb d 0)) (eqb p 0) Join h in cc
+query_by l (suc (suc (suc (suc (suc (suc zero)))))) y d p h = opens l y d p (ltb l 6) (ltb 63 y) (ltb 63 d) (ltb d y) (eqb p 0) refl refl refl refl h
+query_by l (suc (suc (suc (suc (suc (suc (suc a))))))) y d p h =
     let n : ℕ = suc (suc (suc (suc (suc (suc (suc a)))))) in
-    let e = rw (ne_eqb n 0 (λ i. omega arith), lt-ltb l n (omega (arith, few))) at h in cc
+    let e : Start Query ≡ Start Join = only_start (ltb l n) (ltb 63 y) (unused (eqb d 0)) (eqb p 0) Join (rw (ne_eqb n 0 (λ i. omega arith)) at h) in cc
 
-query_of : (l x y d p : ℕ) → l ≤ 6 → asked l x y d p ≡ Ok (Start Query) → (x / 16 ≤ 3) × Asking l (x % 16) y d p
+query_of : (l x y d p : ℕ) → asked l x y d p ≡ Ok (Start Query) → (x / 16 ≤ 3) × Asking l (x % 16) y d p
 unfolding asked ite
-query_of l x y d p few = by (ltb 3 (x / 16)) refl
+query_of l x y d p = by (ltb 3 (x / 16)) refl
   where
     by : (c : Bool) → ltb 3 (x / 16) ≡ c → ite c (Err Refusal.Thread) (asked_by l (x % 16) y d p) ≡ Ok (Start Query) → (x / 16 ≤ 3) × Asking l (x % 16) y d p
     by true e h = cc
-    by false e h = (ltb-false _ _ e, query_by l (x % 16) y d p few h)
+    by false e h = (ltb-false _ _ e, query_by l (x % 16) y d p h)
 
-pub query_ends : (l x y d p : ℕ) → l ≤ 6 → asked l x y d p ≡ Ok (Start Query) → (y ≤ d) × (d ≤ 63)
-query_ends l x y d p few h = let q : Asking l (x % 16) y d p = (query_of l x y d p few h).1 in (q.lower, q.upper)
+pub query_ends : (l x y d p : ℕ) → asked l x y d p ≡ Ok (Start Query) → (y ≤ d) × (d ≤ 63)
+query_ends l x y d p h = let q : Asking l (x % 16) y d p = (query_of l x y d p h).1 in (q.lower, q.upper)
 
-pub query_action : (l x y d p : ℕ) → l ≤ 6 → asked l x y d p ≡ Ok (Start Query) → x % 16 ≡ 6
-query_action l x y d p few h = (query_of l x y d p few h).1.action
+pub query_action : (l x y d p : ℕ) → asked l x y d p ≡ Ok (Start Query) → x % 16 ≡ 6
+query_action l x y d p h = (query_of l x y d p h).1.action
 
 -- a lookup's start at the same thread and station is asked of version 1: five less in the first byte
 pub asked_query : (x y e p : ℕ) → asked 6 x y e p ≡ Ok (Start Query) → asked 5 (x - 5) y 0 p ≡ Ok (Start Lookup)
 unfolding asked asked_by action_started ite
 asked_query x y e p h =
-    let q : (x / 16 ≤ 3) × Asking 6 (x % 16) y e p = query_of 6 x y e p (omega arith) h in
+    let q : (x / 16 ≤ 3) × Asking 6 (x % 16) y e p = query_of 6 x y e p h in
     let a : x % 16 ≡ 6 = q.1.action in
     let t : (x - 5) / 16 ≡ x / 16 = omega arith in
     let b : (x - 5) % 16 ≡ 1 = omega arith in

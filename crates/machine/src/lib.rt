@@ -35,8 +35,8 @@ fn check_extra(action: Action, y: u8, d: u16) -> Result<(), Refusal>
     }
 }
 
-// The action of a start, by its number; what no start has is a query. A match, since a number has no variant of itself; the compiler counts
-// variants from 0, so that with the query last its number is the action's less one, and no table is needed. No TryFrom, since it never fails.
+// The action of a start, by its number; what no start has is a join. A match, since a number has no variant of itself. No TryFrom, since it
+// never fails.
 #[tactic(auto, unfolding(crate::specs::Asked::action_started))]
 fn action_started(a: u8) -> Action
     ensures { result ≡ action_started a }
@@ -46,8 +46,8 @@ fn action_started(a: u8) -> Action
         2 => Action::Insert,
         3 => Action::Remove,
         4 => Action::Split,
-        5 => Action::Join,
-        _ => Action::Query,
+        6 => Action::Query,
+        _ => Action::Join,
     }
 }
 

@@ -75,13 +75,13 @@ pub fn query(view: &View, frames: &mut Frames, owner: Owner, th: Notes) -> Resul
     place::act(view, &mut frames[top], th.place)
 }
 
-// How many frames the thread has after it, of `depth`.
-pub fn frames_after(r: Outcome, depth: usize) -> usize
+// How many frames the thread has after it, of `depth`; a refused step leaves them.
+pub fn frames_after(r: Result<Outcome, Shortage>, depth: usize) -> usize
     ensures { result ≡ depth_after r depth }
 {
     match r {
-        Outcome::Onward { .. } | Outcome::Blocked(_) => depth,
-        Outcome::Back(_) => depth.saturating_sub(1),
-        Outcome::Found(_) => 0,
+        Ok(Outcome::Onward { .. }) | Ok(Outcome::Blocked(_)) | Err(_) => depth,
+        Ok(Outcome::Back(_)) => depth.saturating_sub(1),
+        Ok(Outcome::Found(_)) => 0,
     }
 }

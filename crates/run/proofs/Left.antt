@@ -102,12 +102,12 @@ module _ (t : Shapes) (k : Results) (o u j : ℕ) (h h' : ℕ → Frame) (i n : 
 
     -- it leaves v: it goes on, and w is what it wrote
     module _ {v : Outcome} (own : r ≡ Ok v) where
-      pub turn_on : {p c : ℕ} {e : Effect} {t' : Shapes} {l' : List ℕ} {k' : Results} {w : Counts} → v ≡ Onward p e → c ≡ depth_after v n → Wrote t l k o u j e t' l' k' w
+      pub turn_on : {p c : ℕ} {e : Effect} {t' : Shapes} {l' : List ℕ} {k' : Results} {w : Counts} → v ≡ Onward p e → c ≡ depth_after r n → Wrote t l k o u j e t' l' k' w
           → Leaves t l k o u j h i n th t' l' k' h' (Ok (Goes w p th.base c))
       unfolding taken
       turn_on {p} {c} {e} {t'} {l'} {k'} {w} a f g =
           let each_inside = step_inside (store (full t (λ _ _. 0)) o u k j (stop false 0)) (place_of th.place) (thread th (frames_of h i n)) in
-          let same : n ≡ c = sym (f ∙ ap (λ (v : Outcome). depth_after v n) a) in
+          let same : n ≡ c = sym (f ∙ ap (λ (v : Ending). depth_after v n) (own ∙ ap Ok a)) in
           let stored : (d : Rows) (z : Stop) → perform e (store (full t d) o u k j z) ≡ store (full t' (deepened e t d)) w.root w.used k' w.shown z =
           λ d z. sym (rw (g.used, g.shown) (g.enacted.nodes.stored d z)) in
           record {
@@ -138,14 +138,14 @@ module _ (t : Shapes) (k : Results) (o u j : ℕ) (h h' : ℕ → Frame) (i n : 
         same = λ z. absurd z;
       }
 
-      module _ {c : ℕ} (f : c ≡ depth_after v n) where
+      module _ {c : ℕ} (f : c ≡ depth_after r n) where
         pub turn_blocked : {x : ℕ} → v ≡ Blocked x → Leaves t l k o u j h i n th t l k h' (Ok (Goes (counts o u j) 15 x c))
         unfolding taken
-        turn_blocked {x} a = moves 15 x n a (f ∙ ap (λ (v : Outcome). depth_after v n) a) (λ b. refl)
+        turn_blocked {x} a = moves 15 x n a (f ∙ ap (λ (v : Ending). depth_after v n) (own ∙ ap Ok a)) (λ b. refl)
 
         pub turn_back : {p : ℕ} → v ≡ Back p → Leaves t l k o u j h i n th t l k h' (Ok (Goes (counts o u j) p th.base c))
         unfolding taken
-        turn_back {p} a = moves p th.base (n - 1) a (f ∙ ap (λ (v : Outcome). depth_after v n) a) (λ b. refl)
+        turn_back {p} a = moves p th.base (n - 1) a (f ∙ ap (λ (v : Ending). depth_after v n) (own ∙ ap Ok a)) (λ b. refl)
 
       pub turn_found : {m : ℕ} → v ≡ Found m → Leaves t l k o u j h i n th t l k h' (Ok (Left.Found (counts o u j) m))
       unfolding taken

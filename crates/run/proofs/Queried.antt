@@ -38,7 +38,7 @@ use Rattle.run.specs.declared.query.Left.{Left}
 use Rattle.run.specs.declared.query.Left.TheVariants.{Goes, Found}
 use Rattle.run.proofs.Cases.{found_as}
 use Rattle.run.proofs.Framed.{no_query}
-use Rattle.run.proofs.Turn.{seen, stand, last_few, Asking, Said, said_so, here, own_frames, own, wants, asked_on, wants_so, carried_on, refused_at, awake, table_with}
+use Rattle.run.proofs.Turn.{seen, stand, Asking, Said, said_so, here, own_frames, own, wants, asked_on, wants_so, carried_on, refused_at, awake, table_with}
 
 module _ {file : List ℕ} {k x y e : ℕ} {n : Shapes} {l : List ℕ} {s : Stores} {threads : List Notes} {counts : List ℕ} {h : ℕ → Frame} {count root used shown finished at : ℕ}
     {first buffer : List ℕ} {a : Outcome Asked Refusal} {end : Notes} (q : Asking file k x y e n l s threads counts h count root used shown finished at first buffer a end) where
@@ -49,7 +49,7 @@ module _ {file : List ℕ} {k x y e : ℕ} {n : Shapes} {l : List ℕ} {s : Stor
   unfolding put_all
   asking_on {v} {h'} z f o =
       let w : wants q ≡ Ok (Start Query) = wants_so q z in
-      let low : e % 256 ≡ e = omega (arith, query_ends (last_action file) x y e (seen threads x end).place (last_few file) w) in
+      let low : e % 256 ≡ e = omega (arith, query_ends (last_action file) x y e (seen threads x end).place w) in
       let one : frames_of h' (x / 16 % 4) 1 ≡ new_frame y e None ∷ [] = rw low at o.frames in
       carried_on q (thread v (frames_of h' (x / 16 % 4) 1)) no_row (table_with q h' v 1 o.others)
       (asked_on q w ∙ rw (one, query_begun y e f)) q.stands.depths (omega arith) refl

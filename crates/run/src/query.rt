@@ -166,8 +166,9 @@ pub fn turn(
             count: 0,
         },
     };
-    let r = queries::query(&view, frames, owner, th)?;
-    let left = queries::frames_after(r, owner.depth);
+    let outcome = queries::query(&view, frames, owner, th);
+    let left = queries::frames_after(outcome, owner.depth);
+    let r = outcome?;
     match r {
         Outcome::Onward { place, effect } => {
             let counts = write(nodes, depths, results, counts, effect);

@@ -24,14 +24,22 @@ pub fn set_below(nodes: &Nodes, x: u8, range: u64, levels: u8) -> u64
     container::united(a, b)
 }
 
-// How many stations are below node x, whose range is given: in each base's container, inside the base's range. It is the size of the set
-// below x, for no station is found on both sides of a route.
-#[tactic(auto, using(crate::proofs::Held::set_size))]
+// How many stations are below node x, whose range is given: in each base's container, inside the base's range. It is counted at the bases, and not
+// read off the set, as 01 and 02 (c) define it; so it walks as `set_below` does.
+#[tactic(auto, using(crate::proofs::Cases::stored_cases))]
 pub fn stored_below(nodes: &Nodes, x: u8, range: u64, levels: u8) -> u64
     ensures { result ≡ count_below levels (table nodes.now) x range }
 {
-    let set = set_below(nodes, x, range, levels);
-    u64::from(container::count(set))
+    let n = nodes::node_at(nodes, x);
+    let inside = container::common(n.container, range);
+    if levels == 0 || !nodes::is_route(n.kind) {
+        return u64::from(container::count(inside));
+    }
+    let low = container::lower(range, n.key);
+    let high = container::upper(range, n.key);
+    let a = stored_below(nodes, n.left, low, levels - 1);
+    let b = stored_below(nodes, n.right, high, levels - 1);
+    a + b
 }
 
 // The depth of station s where it leads to from node x, with at most so many steps down.
