@@ -84,6 +84,7 @@ module _ (t : Shapes) (k : Results) (o u j : ℕ) (h h' : ℕ → Frame) (i n : 
       turn = λ b d z s y. told_in_lem a b d z s y;
       depths = λ _. refl;
       inside = λ m. (tt, m);
+      whole = λ _. refl;
       others = q.others;
       same = λ _. (refl, (refl, (refl, q.same (rw a tt))));
     }
@@ -92,6 +93,7 @@ module _ (t : Shapes) (k : Results) (o u j : ℕ) (h h' : ℕ → Frame) (i n : 
       turn = λ b d z s y. told_in_lem a b d z s y;
       depths = λ _. refl;
       inside = λ m. (tt, m);
+      whole = λ _. refl;
       others = q.others;
       same = λ _. (refl, (refl, (refl, q.same (rw a tt))));
     }
@@ -118,6 +120,7 @@ module _ (t : Shapes) (k : Results) (o u j : ℕ) (h h' : ℕ → Frame) (i n : 
                 ∙ ap (λ (m : ℕ). carried (bench (store (full t' (deepened e t d)) w.root w.used k' w.shown z) (upd b.threads i (to_base p th.base (thread th (frames_of h' i m))))) no_row) same));
             depths = g.enacted.depths.rows;
             inside = λ m. subst (Each (Inside u)) (sym (told (own ∙ ap Ok a))) each_inside (length l) (rw g.used at m);
+            whole = g.whole;
             others = q.others;
             same = λ z. absurd z;
           }
@@ -134,6 +137,7 @@ module _ (t : Shapes) (k : Results) (o u j : ℕ) (h h' : ℕ → Frame) (i n : 
             ∙ ap (λ (v : ℕ). carried (bench (store (full t d) o u k j z) (upd b.threads i (to_base p x (thread th (frames_of h' i v))))) no_row) (sym f)));
         depths = λ _. refl;
         inside = λ m. (tt, m);
+        whole = λ _. refl;
         others = q.others;
         same = λ z. absurd z;
       }
@@ -154,6 +158,7 @@ module _ (t : Shapes) (k : Results) (o u j : ℕ) (h h' : ℕ → Frame) (i n : 
         turn = λ b d z s y. told_in_lem (own ∙ ap Ok a) b d z s y ∙ ap (λ (v : Store). carried (bench v (upd b.threads i idle)) (row (said (not (eqb m 0))) 0 m)) s;
         depths = λ _. refl;
         inside = λ m. (tt, m);
+        whole = λ _. refl;
         others = q.others;
         same = λ z. absurd z;
       }

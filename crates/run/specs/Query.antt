@@ -50,6 +50,7 @@ Ranged (Fill k c) = Unit {0}
 
 -- the depths l become l': those of node y are those of x, where those of y are lent
 pub record Laid (l : List ℕ) (x y : ℕ) (l' : List ℕ) : Type 0 where
+  pub whole : length l ≡ 16384 → rows l' ≡ upd (rows l) y (rows l x)
   pub rows : Holds (length l) (y + 1) → rows l' ≡ upd (rows l) y (rows l x)
 
 -- the effect e takes the nodes t, the depths l and the stores k, with root o, u numbers used and j stores shown, to t', l', k' and r
@@ -57,6 +58,7 @@ pub record Wrote (t : Shapes) (l : List ℕ) (k : Stores) (o u j : ℕ) (e : Eff
   pub enacted : Enacted t l o u k j e t' l' r.root k'
   pub used : r.used ≡ used_after u e
   pub shown : r.shown ≡ shown_after j e
+  pub whole : length l ≡ 16384 → rows l' ≡ deepened e t (rows l)
 
 -- ---- a new frame
 
@@ -91,6 +93,7 @@ pub record Leaves (t : Shapes) (l : List ℕ) (k : Stores) (o u j : ℕ) (h : �
       → taken b i (step (place_of (b.threads i).place) (sight_of b.store) (b.threads i)) ≡ left_of t' (deepened effect t d) k' z h' b i th r
   pub depths : within effect (length l) → rows l' ≡ deepened effect t (rows l)
   pub inside : Holds (length l) (used_in u r) → within effect (length l) × Holds (length l) u
+  pub whole : length l ≡ 16384 → rows l' ≡ deepened effect t (rows l)
   pub others : (v m : ℕ) → m ≤ 4 → (v ≡ i → ⊥) → frames_of h' v m ≡ frames_of h v m
   pub same : IsRefused r → (t' ≡ t) × ((l' ≡ l) × ((k' ≡ k) × (h' ≡ h)))
 
